@@ -1,0 +1,3 @@
+pub mod Coincide
+pub mod Pieces
+pub mod Search

@@ -1,0 +1,3 @@
+pub mod First
+pub mod Settle
+pub mod Coincide
