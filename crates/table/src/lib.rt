@@ -1,0 +1,118 @@
+// The table of groups in memory: its check.
+ghost use mathlib.Core.Path.{_≡_};
+ghost use Prim.Native.Nat.{_*_, _≤_, _<_};
+ghost use lib.ListN.{length};
+ghost use Rattle.table.specs.Row.{sliceCheck};
+ghost use Rattle.table.specs.Table.{count, slice, unclean, siteCheck, sitesCheck, check};
+ghost use Rattle.refusals.specs.First.{first};
+use refusals::Check;
+use refusals::Refusal;
+
+// Slice k of site v, from the site's 63 numbers: 5, then 6.
+fn check_slice(m: &[u64], n: u64, v: u64, k: usize) -> Check
+    requires { ⌜ (length (now m) ≡ 63) × (k < 62) × (v < 64) × (n ≤ 64) ⌝ }
+    ensures { λ r. ⌜ r ≡ sliceCheck n v (slice (now (m .entry))) k ⌝ }
+{
+    let q = m[1 + k];
+    if !masks::has(q, v) {
+        return Check::Refused(Refusal::Slice(v));
+    }
+    if !masks::within(q, masks::all_below(n)) {
+        return Check::Refused(Refusal::Slice(v));
+    }
+    if k == 0 {
+        return Check::Sound;
+    }
+    if m[k] < q {
+        return Check::Sound;
+    }
+    Check::Refused(Refusal::Order(v))
+}
+
+// The first many slices of site v, in order.
+fn check_slices(m: &[u64], n: u64, v: u64, many: usize) -> Check
+    requires { ⌜ (length (now m) ≡ 63) × (many ≤ 62) × (v < 64) × (n ≤ 64) ⌝ }
+    ensures { λ r. ⌜ r ≡ first (sliceCheck n v (slice (now (m .entry)))) many ⌝ }
+{
+    let mut k: usize = 0;
+    while k < many {
+        let q = check_slice(m, n, v, k);
+        let Check::Sound = q else {
+            return q;
+        };
+        k += 1;
+    }
+    Check::Sound
+}
+
+// An unused place is not zero.
+fn is_unclean(m: &[u64]) -> bool
+    requires { ⌜ (length (now m) ≡ 63) × (count (now m) ≤ 62) ⌝ }
+    ensures { λ r. ⌜ r ≡ unclean (now (m .entry)) ⌝ }
+{
+    let many = m[0] as usize;
+    let left = 62 - many;
+    let mut j: usize = 0;
+    while j < left {
+        if m[1 + (many + j)] != 0 {
+            return true;
+        }
+        j += 1;
+    }
+    false
+}
+
+// The 63 numbers of site v in a table of n sites: 4, each slice 5 then 6, then 8.
+pub fn check_site(m: &[u64], n: u64, v: u64) -> Check
+    requires { ⌜ (length (now m) ≡ 63) × (v < 64) × (n ≤ 64) ⌝ }
+    ensures { λ r. ⌜ r ≡ siteCheck n v (now (m .entry)) ⌝ }
+{
+    let many = m[0];
+    if many == 0 {
+        return Check::Refused(Refusal::Count(v));
+    }
+    if 62 < many {
+        return Check::Refused(Refusal::Count(v));
+    }
+    let q = check_slices(m, n, v, many as usize);
+    let Check::Sound = q else {
+        return q;
+    };
+    if is_unclean(m) {
+        return Check::Refused(Refusal::Filler(v));
+    }
+    Check::Sound
+}
+
+// The n sites of a table, in order.
+pub fn check_sites(table: &[u64], n: usize) -> Check
+    requires { ⌜ (length (now table) ≡ 63 * n) × (n ≤ 64) ⌝ }
+    ensures { λ r. ⌜ r ≡ sitesCheck n (now (table .entry)) ⌝ }
+{
+    let mut v: usize = 0;
+    while v < n {
+        let q = check_site(&table[63 * v..63 * v + 63], n as u64, v as u64);
+        let Check::Sound = q else {
+            return q;
+        };
+        v += 1;
+    }
+    Check::Sound
+}
+
+// The check of a table in memory: 1, then site by site.
+pub fn check(table: &[u64]) -> Check
+    ensures { λ r. ⌜ r ≡ check (now (table .entry)) ⌝ }
+{
+    let n = table.len() / 63;
+    if table.len() % 63 != 0 {
+        return Check::Refused(Refusal::Length);
+    }
+    if n == 0 {
+        return Check::Refused(Refusal::Length);
+    }
+    if 64 < n {
+        return Check::Refused(Refusal::Length);
+    }
+    check_sites(table, n)
+}
