@@ -88,13 +88,13 @@ fn round_from(table: &[u64], n: usize, b: u64, w: u64, places: &mut [u8; 64]) ->
 }
 
 // The set left and the number of rounds that dropped somebody.
-pub struct Largest {
+pub struct SetLeft {
     pub set: u64,
     pub rounds: u64,
 }
 
 // The largest quorum inside w, of the table with b deleted.
-fn largest_in(table: &[u64], n: usize, b: u64, w: u64) -> Largest
+fn largest_in(table: &[u64], n: usize, b: u64, w: u64) -> SetLeft
     requires { ⌜ Table (now table) n ⌝ }
     ensures { λ r. ⌜ (r .set ≡ largest (slicesOf (now (table .entry)) .deleted b) n w) × (r .rounds ≡ rounds (slicesOf (now (table .entry)) .deleted b) n w) ⌝ }
 {
@@ -104,7 +104,7 @@ fn largest_in(table: &[u64], n: usize, b: u64, w: u64) -> Largest
     loop {
         let next = round_from(table, n, b, set, &mut places);
         if next == set {
-            return Largest { set, rounds: count };
+            return SetLeft { set, rounds: count };
         }
         set = next;
         count += 1;
@@ -112,7 +112,7 @@ fn largest_in(table: &[u64], n: usize, b: u64, w: u64) -> Largest
 }
 
 // The largest quorum inside w.
-pub fn largest(table: &[u64], n: usize, w: u64) -> Largest
+pub fn largest(table: &[u64], n: usize, w: u64) -> SetLeft
     requires { ⌜ Table (now table) n ⌝ }
     ensures { λ r. ⌜ (r .set ≡ largest (slicesOf (now (table .entry)) .inside) n w) × (r .rounds ≡ rounds (slicesOf (now (table .entry)) .inside) n w) ⌝ }
 {
