@@ -39,8 +39,8 @@ pub fn check(b: &[u8]) -> u8
     if le::get32(b, 504) != s {
         return 2;
     }
-    if le::get32(b, 508) != t {
-        return 2;
+    if le::get32(b, 508) == t {
+        return 0;
     }
-    0
+    2
 }

@@ -12,8 +12,8 @@ pub fn mark(site: u64, drill: u64, live: u64) -> u8
     if !masks::has(drill, site) {
         return 0;
     }
-    if masks::has(live, site) {
-        return 0;
+    if !masks::has(live, site) {
+        return 1;
     }
-    1
+    0
 }

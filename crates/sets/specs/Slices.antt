@@ -27,7 +27,7 @@ pub record Slices : Type 0 where
 unfoldable pub slicesOf : List ℕ → Slices
 unfolding some every
 slicesOf t = record {
-      inside = λ v u. some (countOf t v) (λ i. within (sliceOf t v i) u);
-      deleted = λ b v u. not (has b v) && some (countOf t v) (λ i. within (minus (sliceOf t v i) b) u);
-      blocked = λ v w. every (countOf t v) (λ i. not (eqb (bitAnd (sliceOf t v i) w) 0));
-    }
+  inside = λ v u. some (countOf t v) (λ i. within (sliceOf t v i) u);
+  deleted = λ b v u. not (has b v) && some (countOf t v) (λ i. within (minus (sliceOf t v i) b) u);
+  blocked = λ v w. every (countOf t v) (λ i. not (eqb (bitAnd (sliceOf t v i) w) 0));
+}

@@ -16,14 +16,14 @@ returns-2 c =
 returns-3 : tie.Need-returns-3
 returns-3 c =
     let p = c .before .before .before .before in
-    sym (says-t _ (p .before .if1 .left) (sym (c .before .before .before .get32 .ensures) ∙ c .before .before .if2 .left ∙ p .sum-words .ensures .0)
-    (λ e. c .if3 .taken (c .before .get322 .ensures ∙ e ∙ sym (p .sum-words .ensures .1))))
+    sym (says-0 _ (p .before .if1 .left) (sym (c .before .before .before .get32 .ensures) ∙ c .before .before .if2 .left ∙ p .sum-words .ensures .0)
+    (sym (c .before .get322 .ensures) ∙ c .if3 .taken ∙ p .sum-words .ensures .1))
 
 returns-4 : tie.Need-returns-4
 returns-4 c =
     let p = c .before .before .before .before in
-    sym (says-0 _ (p .before .if1 .left) (sym (c .before .before .before .get32 .ensures) ∙ c .before .before .if2 .left ∙ p .sum-words .ensures .0)
-    (sym (c .before .get322 .ensures) ∙ c .if3 .left ∙ p .sum-words .ensures .1))
+    sym (says-t _ (p .before .if1 .left) (sym (c .before .before .before .get32 .ensures) ∙ c .before .before .if2 .left ∙ p .sum-words .ensures .0)
+    (λ e. c .if3 .left (c .before .get322 .ensures ∙ e ∙ sym (p .sum-words .ensures .1))))
 
 pub check-spec : {M : Type 1} → statement M
 check-spec =

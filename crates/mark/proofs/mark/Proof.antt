@@ -24,7 +24,7 @@ unfolding mark
 returns-3 c =
     let a = c .before .before .before .before .before .args in
     let e : has (a .drill) (a .site) ≡ true = sym (c .before .before .before .has .ensures) ∙ not-false _ (c .before .before .if2 .left) in
-    let f : has (a .live) (a .site) ≡ true = sym (c .before .has2 .ensures) ∙ c .if3 .taken in
+    let f : has (a .live) (a .site) ≡ false = sym (c .before .has2 .ensures) ∙ not-true _ (c .if3 .taken) in
     rw (le-ltb 63 (a .site) (c .before .before .before .before .if1 .left), e, f) refl
 
 returns-4 : tie.Need-returns-4
@@ -32,7 +32,7 @@ unfolding mark
 returns-4 c =
     let a = c .before .before .before .before .before .args in
     let e : has (a .drill) (a .site) ≡ true = sym (c .before .before .before .has .ensures) ∙ not-false _ (c .before .before .if2 .left) in
-    let f : has (a .live) (a .site) ≡ false = sym (c .before .has2 .ensures) ∙ c .if3 .left in
+    let f : has (a .live) (a .site) ≡ true = sym (c .before .has2 .ensures) ∙ not-false _ (c .if3 .left) in
     rw (le-ltb 63 (a .site) (c .before .before .before .before .if1 .left), e, f) refl
 
 pub mark-spec : {M : Type 1} → statement M

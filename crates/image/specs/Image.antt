@@ -1,0 +1,74 @@
+-- The table on file: "Blocks of 512 bytes, one a site, in site order; numbers little-endian."
+use Prim.Native.Nat.{ℕ, _+_, _-_, _*_, _/_, _%_}
+use mathlib.Core.Bool.{Bool, _||_, not}
+use mathlib.Core.List.{List, [], _∷_, _++_}
+use lib.Dec.{eqb, ltb}
+use lib.ListN.{getD}
+use Rattle.block.specs.Block.{checkS, checkT, sealed}
+use Rattle.ground.specs.Pieces.{cat, part}
+use Rattle.ground.specs.Search.{some}
+use Rattle.le.specs.Le.{digits, field}
+use Rattle.refusals.specs.First.{orElse, refuse, first}
+use Rattle.refusals.specs.declared.Check.{Check}
+use Rattle.refusals.specs.declared.Refusal.the-variants.{Sums, Header}
+use Rattle.table.specs.Row.{rowCheck}
+use Rattle.table.specs.Table.{count, slice, siteOf}
+
+-- "Bytes 0 to 1 site, 2 to 3 n, 4 to 5 slice count, 6 to 7 zero, then the slices of 8 bytes, zeros up to byte 503."
+abbrev pub siteField : List ℕ → ℕ
+siteField b = field 2 b 0
+
+abbrev pub sitesField : List ℕ → ℕ
+sitesField b = field 2 b 2
+
+abbrev pub countField : List ℕ → ℕ
+countField b = field 2 b 4
+
+abbrev pub zeroField : List ℕ → ℕ
+zeroField b = field 2 b 6
+
+abbrev pub sliceField : List ℕ → ℕ → ℕ
+sliceField b k = field 8 b (8 + 8 * k)
+
+-- 1: "image length zero, not a multiple of 512, or over 32,768"
+unfoldable pub misshapen : ℕ → Bool
+misshapen length = eqb length 0 || (not (eqb (length % 512) 0) || ltb 32768 length)
+
+-- 3: "site is not the block's place, n is not the number of blocks, or bytes 6 to 7 not zero"
+unfoldable pub misheaded : ℕ → ℕ → List ℕ → Bool
+misheaded n i b = not (eqb (siteField b) i) || (not (eqb (sitesField b) n) || not (eqb (zeroField b) 0))
+
+-- 8: "filler not zero": a byte behind the last slice, 8 + 8 * count to 503
+unfoldable pub unfilled : List ℕ → Bool
+unfolding some
+unfilled b = let from = 8 + 8 * countField b in some (504 - from) (λ j. not (eqb (getD b (from + j) 0) 0))
+
+-- "block by block 2, 3, 4, each slice 5 then 6, then 8": the block b at place i of an image of n blocks
+unfoldable pub blockCheck : ℕ → ℕ → List ℕ → Check
+unfolding misheaded unfilled rowCheck
+blockCheck n i b =
+    orElse (refuse (not (sealed b)) (Sums i))
+    (orElse (refuse (misheaded n i b) (Header i))
+    (rowCheck n i (countField b) (sliceField b) (unfilled b)))
+
+-- "Each block is checked as a part of the image, where it begins."
+unfoldable pub blocksCheck : ℕ → List ℕ → Check
+unfolding blockCheck first
+blocksCheck n image = first (λ i. blockCheck n i (part 512 i image)) n
+
+-- "Read into memory, a site takes 63 64-bit numbers: the count, then 62 places"
+unfoldable pub load : List ℕ → List ℕ
+load b = countField b ∷ cat (λ k. sliceField b k ∷ []) 62
+
+unfoldable pub loads : ℕ → List ℕ → List ℕ
+loads n image = cat (λ i. load (part 512 i image)) n
+
+-- the block of site i, whose 63 numbers are m, in a table of n sites: its first 504 bytes, and the block with its check
+unfoldable pub body : ℕ → ℕ → List ℕ → List ℕ
+body n i m = digits 2 i ++ (digits 2 n ++ (digits 2 (count m) ++ (digits 2 0 ++ cat (λ k. digits 8 (slice m k)) 62)))
+
+unfoldable pub store : ℕ → ℕ → List ℕ → List ℕ
+store n i m = let b = body n i m in b ++ (digits 4 (checkS b) ++ digits 4 (checkT b))
+
+unfoldable pub stores : ℕ → List ℕ → List ℕ
+stores n t = cat (λ i. store n i (siteOf t i)) n

@@ -1,0 +1,4 @@
+pub mod Image
+pub mod Read
+pub mod Write
+pub mod RoundTrip
