@@ -1,3 +1,4 @@
 pub mod Coincide
 pub mod Pieces
 pub mod Search
+pub mod Alike

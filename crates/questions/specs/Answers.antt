@@ -1,0 +1,90 @@
+-- The public set questions: "Set questions: table, 10, 11, 16." Each asks for its refusals in that order, and answers by the definitions of sets.
+use Prim.Native.Nat.{ℕ}
+use mathlib.Core.Bool.{Bool, true, false, not}
+use mathlib.Core.List.{List}
+use lib.Dec.{ltb}
+use lib.ListN.{length}
+use Rattle.masks.specs.Mask.{within, allBelow}
+use Rattle.questions.specs.declared.Greatest.{Greatest}
+use Rattle.questions.specs.declared.Holds.{Holds}
+use Rattle.questions.specs.declared.Holds.the-variants.{Yes, No}
+use Rattle.questions.specs.declared.Sharing.{Sharing}
+use Rattle.questions.specs.declared.Sharing.the-variants.{Meet, Apart}
+use Rattle.questions.specs.declared.Standing.{Standing}
+use Rattle.questions.specs.declared.Standing.the-variants.{Intact}
+use Rattle.refusals.specs.First.{orElse, refuse}
+use Rattle.refusals.specs.declared.Check.{Check}
+use Rattle.refusals.specs.declared.Check.the-variants.{Sound}
+use Rattle.refusals.specs.declared.Refusal.the-variants.{Set, Range, Large}
+use Rattle.sets.specs.Quorum as Quorum
+use Rattle.sets.specs.Slices.{slicesOf}
+use Rattle.sets.specs.Verdicts as Verdicts
+use Rattle.table.specs.Table.{sites, check}
+
+-- the number of sites of a table
+abbrev pub sitesOf : List ℕ → ℕ
+sitesOf t = sites (length t)
+
+-- the table, then 10: "a set names a site at or above n"
+unfoldable pub setCheck : List ℕ → ℕ → Check
+unfolding check
+setCheck t set = orElse (check t) (refuse (not (within set (allBelow (sitesOf t)))) Set)
+
+-- then 11: "site at or above n"
+unfoldable pub siteCheck : List ℕ → ℕ → ℕ → Check
+unfolding setCheck
+siteCheck t set site = orElse (setCheck t set) (refuse (not (ltb site (sitesOf t))) Range)
+
+-- 16: "n over 12 where a verdict needs at most 12"
+abbrev pub verdictCheck : List ℕ → Check → Check
+verdictCheck t before = orElse before (refuse (ltb 12 (sitesOf t)) Large)
+
+abbrev pub holds : Bool → Holds
+holds true = Yes
+holds false = No
+
+-- is the set a quorum
+abbrev pub toHolds : Check → Bool → Holds
+toHolds Sound b = holds b
+toHolds (Check.Refused r) b = Holds.Refused r
+
+unfoldable pub quorum : List ℕ → ℕ → Holds
+unfolding setCheck
+quorum t set = toHolds (setCheck t set) (Quorum.quorum (slicesOf t .inside) (sitesOf t) set)
+
+-- the largest quorum inside the set, and its rounds
+abbrev pub toGreatest : Check → ℕ → ℕ → Greatest
+toGreatest Sound set rounds = Greatest.Set set rounds
+toGreatest (Check.Refused r) set rounds = Greatest.Refused r
+
+unfoldable pub largest : List ℕ → ℕ → Greatest
+unfolding setCheck
+largest t set = toGreatest (setCheck t set) (Quorum.largest (slicesOf t .inside) (sitesOf t) set) (Quorum.rounds (slicesOf t .inside) (sitesOf t) set)
+
+-- does the set block the site
+unfoldable pub blocks : List ℕ → ℕ → ℕ → Holds
+unfolding siteCheck
+blocks t set site = toHolds (siteCheck t set site) (slicesOf t .blocked site set)
+
+-- do every two quorums have a common site; if not, the quorum of the smallest mask that has one in its complement, and the largest there
+abbrev pub toSharing : Check → Bool → ℕ → ℕ → Sharing
+toSharing Sound true p q = Meet
+toSharing Sound false p q = Apart p q
+toSharing (Check.Refused r) b p q = Sharing.Refused r
+
+unfoldable pub shared : List ℕ → Sharing
+unfolding check
+shared t =
+    let s = slicesOf t .inside in
+    let n = sitesOf t in
+    let p = Verdicts.firstApart s n in
+    toSharing (verdictCheck t (check t)) (Verdicts.meets s n) p (Verdicts.beside s n p)
+
+-- the sites that are intact when those of the set are faulty
+abbrev pub toStanding : Check → ℕ → Standing
+toStanding Sound set = Intact set
+toStanding (Check.Refused r) set = Standing.Refused r
+
+unfoldable pub intact : List ℕ → ℕ → Standing
+unfolding setCheck
+intact t faulty = toStanding (verdictCheck t (setCheck t faulty)) (Verdicts.intact (slicesOf t) (sitesOf t) faulty)

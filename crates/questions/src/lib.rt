@@ -1,0 +1,132 @@
+// The set questions as public calls: each checks table, set and site itself, in the order table, 10, 11, 16.
+ghost use mathlib.Core.Path.{_≡_};
+ghost use Rattle.questions.specs.Answers.{setCheck, quorum, largest, blocks, shared, intact};
+use refusals::Check;
+use refusals::Refusal;
+
+// Whether it holds, or the refusal.
+pub enum Holds {
+    Yes,
+    No,
+    Refused(Refusal),
+}
+
+// The largest quorum inside a set (0 if there is none) and the number of rounds that dropped somebody, or the refusal.
+pub enum Greatest {
+    Set { set: u64, rounds: u64 },
+    Refused(Refusal),
+}
+
+// Every two quorums meet; or two that do not, the first of the smallest mask and the second the largest beside it; or the refusal.
+pub enum Sharing {
+    Meet,
+    Apart { first: u64, second: u64 },
+    Refused(Refusal),
+}
+
+// The intact sites, or the refusal.
+pub enum Standing {
+    Intact(u64),
+    Refused(Refusal),
+}
+
+// The table, then 10: the set names no site at or above n.
+fn check_set(table: &[u64], set: u64) -> Check
+    ensures { λ r. ⌜ r ≡ setCheck (now (table .entry)) set ⌝ }
+{
+    let q = table::check(table);
+    let Check::Sound = q else {
+        return q;
+    };
+    let n = table.len() / 63;
+    if masks::within(set, masks::all_below(n as u64)) {
+        return Check::Sound;
+    }
+    Check::Refused(Refusal::Set)
+}
+
+// Is the set a quorum?
+pub fn quorum(table: &[u64], set: u64) -> Holds
+    ensures { λ r. ⌜ r ≡ quorum (now (table .entry)) set ⌝ }
+{
+    let q = check_set(table, set);
+    if let Check::Refused(r) = q {
+        return Holds::Refused(r);
+    }
+    let n = table.len() / 63;
+    if sets::is_quorum(table, n, set) {
+        return Holds::Yes;
+    }
+    Holds::No
+}
+
+// The largest quorum inside the set.
+pub fn largest(table: &[u64], set: u64) -> Greatest
+    ensures { λ r. ⌜ r ≡ largest (now (table .entry)) set ⌝ }
+{
+    let q = check_set(table, set);
+    if let Check::Refused(r) = q {
+        return Greatest::Refused(r);
+    }
+    let n = table.len() / 63;
+    let l = sets::largest(table, n, set);
+    Greatest::Set {
+        set: l.set,
+        rounds: l.rounds,
+    }
+}
+
+// Does the set block the site?
+pub fn blocks(table: &[u64], set: u64, site: u64) -> Holds
+    ensures { λ r. ⌜ r ≡ blocks (now (table .entry)) set site ⌝ }
+{
+    let q = check_set(table, set);
+    if let Check::Refused(r) = q {
+        return Holds::Refused(r);
+    }
+    let n = table.len() / 63;
+    if n as u64 <= site {
+        return Holds::Refused(Refusal::Range);
+    }
+    if sets::blocks(table, n, set, site as usize) {
+        return Holds::Yes;
+    }
+    Holds::No
+}
+
+// Do every two quorums have a common site?
+pub fn shared(table: &[u64]) -> Sharing
+    ensures { λ r. ⌜ r ≡ shared (now (table .entry)) ⌝ }
+{
+    let q = table::check(table);
+    if let Check::Refused(r) = q {
+        return Sharing::Refused(r);
+    }
+    let n = table.len() / 63;
+    if 12 < n {
+        return Sharing::Refused(Refusal::Large);
+    }
+    let first = sets::first_apart(table, n);
+    if first == masks::single(n as u64) {
+        return Sharing::Meet;
+    }
+    Sharing::Apart {
+        first,
+        second: sets::beside(table, n, first),
+    }
+}
+
+// Which sites are intact when those of the set are faulty?
+pub fn intact(table: &[u64], faulty: u64) -> Standing
+    ensures { λ r. ⌜ r ≡ intact (now (table .entry)) faulty ⌝ }
+{
+    let q = check_set(table, faulty);
+    if let Check::Refused(r) = q {
+        return Standing::Refused(r);
+    }
+    let n = table.len() / 63;
+    if 12 < n {
+        return Standing::Refused(Refusal::Large);
+    }
+    Standing::Intact(sets::intact(table, n, faulty))
+}

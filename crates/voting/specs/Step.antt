@@ -1,0 +1,44 @@
+-- The public calls: "Step, its call handed over as four byte values: table, 10 (faulty set), 18, 11, 13, 12, 14, 15."
+use Prim.Native.Nat.{ℕ}
+use mathlib.Core.Bool.{not}
+use mathlib.Core.List.{List}
+use lib.ListN.{length}
+use Rattle.masks.specs.Mask.{within, allBelow}
+use Rattle.refusals.specs.First.{orElse, refuse}
+use Rattle.refusals.specs.declared.Check.{Check}
+use Rattle.refusals.specs.declared.Check.the-variants.{Sound}
+use Rattle.refusals.specs.declared.Refusal.the-variants.{Set, Unsound}
+use Rattle.sets.specs.Promises.{Questions, questionsOf}
+use Rattle.sets.specs.Slices.{slicesOf}
+use Rattle.table.specs.Table.{sites, check}
+use Rattle.voting.specs.Rules.{Call, answer, step, ifTaken}
+use Rattle.voting.specs.Sound.{unsound}
+use Rattle.voting.specs.declared.Stepped.{Stepped}
+use Rattle.voting.specs.declared.Stepped.the-variants.{Taken}
+
+-- the set questions of a table in memory
+abbrev pub questions : List ℕ → Questions
+questions t = questionsOf (slicesOf t) (sites (length t))
+
+-- table, 10 ("a set names a site at or above n"), 18
+unfoldable pub soundCheck : List ℕ → ℕ → List ℕ → Check
+unfolding check questionsOf unsound
+soundCheck t F s =
+    orElse (check t)
+    (orElse (refuse (not (within F (allBelow (sites (length t))))) Set)
+    (refuse (unsound (questions t) (sites (length t)) F s) Unsound))
+
+-- then the call
+unfoldable pub stepCheck : List ℕ → ℕ → Call → List ℕ → Check
+unfolding soundCheck answer
+stepCheck t F c s = orElse (soundCheck t F s) (answer (sites (length t)) F c s)
+
+-- "A taken call answers 0."
+abbrev pub toStepped : Check → Stepped
+toStepped Sound = Taken
+toStepped (Check.Refused r) = Stepped.Refused r
+
+-- what the state is then: a taken call changes what the rules say, a refused one nothing
+unfoldable pub stepInto : List ℕ → ℕ → Call → List ℕ → List ℕ
+unfolding soundCheck step
+stepInto t F c s = ifTaken (soundCheck t F s) (step (questions t) (sites (length t)) F c s) s

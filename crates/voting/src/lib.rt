@@ -1,0 +1,121 @@
+// The rules of a vote: the step and the soundness of a state, as public calls, and the inner step that a run shares.
+ghost use mathlib.Core.Path.{_≡_};
+ghost use Prim.Native.Nat.{_*_, _<_};
+ghost use Rattle.table.specs.Table.{Table};
+ghost use Rattle.sets.specs.Slices.{slicesOf};
+ghost use Rattle.sets.specs.Promises.{questionsOf};
+ghost use Rattle.voting.specs.Sound.{Sound};
+ghost use Rattle.voting.specs.Step.{soundCheck, stepCheck, toStepped, stepInto};
+ghost use Rattle.voting.specs.Inner.{call, Works};
+use refusals::Check;
+use refusals::Refusal;
+
+mod answers;
+mod rules;
+mod soundness;
+
+// A call was taken, or refused.
+pub enum Stepped {
+    Taken,
+    Refused(Refusal),
+}
+
+// The answer of a call, and whether it changed the state.
+pub struct Worked {
+    pub answer: Check,
+    pub changed: bool,
+}
+
+// One call on a sound state. A call whose bit is heard already changes nothing and is not worked out again.
+pub fn work(
+    table: &[u64],
+    n: usize,
+    faulty: u64,
+    state: &mut [u64],
+    kind: usize,
+    from: usize,
+    to: usize,
+    side: usize,
+) -> Worked
+    requires { ⌜ Table (now table) n × Sound (questionsOf (slicesOf (now table)) n) n faulty (now state) ⌝ }
+    ensures { λ r. ⌜ Works (questionsOf (slicesOf (now (table .entry))) n) n faulty (call kind from to side) (now (state .entry)) (r .answer) (r .changed) (now (state .exit)) ⌝ }
+{
+    let a = answers::answer(n, faulty, state, kind, from, to, side);
+    let Check::Sound = a else {
+        return Worked {
+            answer: a,
+            changed: false,
+        };
+    };
+    if answers::is_heard(n, state, kind, from, to, side) {
+        return Worked {
+            answer: a,
+            changed: false,
+        };
+    }
+    rules::take(table, n, state, kind, from, to, side);
+    Worked {
+        answer: a,
+        changed: true,
+    }
+}
+
+// The soundness of a state: table, 10, 18.
+pub fn sound(table: &[u64], faulty: u64, state: &[u64]) -> Check
+    ensures { λ r. ⌜ r ≡ soundCheck (now (table .entry)) faulty (now (state .entry)) ⌝ }
+{
+    let q = table::check(table);
+    let Check::Sound = q else {
+        return q;
+    };
+    let n = table.len() / 63;
+    if !masks::within(faulty, masks::all_below(n as u64)) {
+        return Check::Refused(Refusal::Set);
+    }
+    if soundness::is_unsound(table, n, faulty, state) {
+        return Check::Refused(Refusal::Unsound);
+    }
+    Check::Sound
+}
+
+// A byte as a number that can be an index.
+fn wide(x: u8) -> usize
+    ensures { λ r. ⌜ r ≡ x ⌝ }
+{
+    x as usize
+}
+
+// One call on a state: table, 10, 18, 11, 13, 12, 14, 15.
+pub fn step(
+    table: &[u64],
+    faulty: u64,
+    state: &mut [u64],
+    kind: u8,
+    from: u8,
+    to: u8,
+    side: u8,
+) -> Stepped
+    ensures answer { λ r. ⌜ r ≡ toStepped (stepCheck (now (table .entry)) faulty (call kind from to side) (now (state .entry))) ⌝ }
+    ensures memory { λ r. ⌜ now (state .exit) ≡ stepInto (now (table .entry)) faulty (call kind from to side) (now (state .entry)) ⌝ }
+{
+    let q = sound(table, faulty, state);
+    if let Check::Refused(r) = q {
+        return Stepped::Refused(r);
+    }
+    let n = table.len() / 63;
+    let w = work(
+        table,
+        n,
+        faulty,
+        state,
+        wide(kind),
+        wide(from),
+        wide(to),
+        wide(side),
+    );
+    let a = w.answer;
+    if let Check::Refused(r) = a {
+        return Stepped::Refused(r);
+    }
+    Stepped::Taken
+}
