@@ -1,5 +1,5 @@
 -- A refusal is settled by its number and its place.
-use Prim.Native.Nat.{ℕ}
+use Prim.Native.Nat.{ℕ, _≤_}
 use mathlib.Core.Bool.{false, cond}
 use mathlib.Core.Path.{_≡_, refl, sym, ap, _∙_}
 use native.Mathlib.Omega.{arith}
@@ -61,3 +61,24 @@ unfolding refusalOf
 some-number r =
     ne-eqb (number r) 0
     (λ e. let u : refusalOf 0 (place r) ≡ r = rw e at (back r) in let v : 18 ≡ number r = ap number u in omega (arith, e, v))
+
+-- and it fits a byte
+pub small-number : (r : Refusal) → number r ≤ 18
+small-number Length = omega arith
+small-number (Sums i) = omega arith
+small-number (Header i) = omega arith
+small-number (Count i) = omega arith
+small-number (Slice i) = omega arith
+small-number (Order i) = omega arith
+small-number NoQuorum = omega arith
+small-number (Filler i) = omega arith
+small-number Room = omega arith
+small-number Set = omega arith
+small-number Range = omega arith
+small-number Receiver = omega arith
+small-number Proposal = omega arith
+small-number Voted = omega arith
+small-number Unsent = omega arith
+small-number Large = omega arith
+small-number List = omega arith
+small-number Unsound = omega arith

@@ -2,6 +2,8 @@
 -- and nothing else."
 use Prim.Native.Nat.{ℕ}
 use mathlib.Core.Path.{_≡_}
+use Rattle.refusals.specs.declared.Check.{Check}
+use Rattle.refusals.specs.declared.Check.the-variants.{Sound, Refused}
 use Rattle.refusals.specs.declared.Refusal.{Refusal}
 use Rattle.refusals.specs.declared.Refusal.the-variants.{Length, Sums, Header, Count, Slice, Order, NoQuorum, Filler, Room, Set, Range, Receiver, Proposal, Voted, Unsent, Large, List, Unsound}
 
@@ -48,3 +50,8 @@ place Unsound = 0
 -- a refusal is settled by its number and its place
 abbrev pub Settled : Type 0
 Settled = (r s : Refusal) → number r ≡ number s → place r ≡ place s → r ≡ s
+
+-- "A taken call answers 0": the byte of a check's answer, 0 or the refusal's number
+abbrev pub code : Check → ℕ
+code Sound = 0
+code (Refused r) = number r

@@ -1,6 +1,6 @@
 // The one list of refusals: a case for each number of the rules, holding the block or site for the numbers that carry one.
 ghost use mathlib.Core.Path.{_≡_};
-ghost use Rattle.refusals.specs.Refusal.{number, place};
+ghost use Rattle.refusals.specs.Refusal.{number, place, code};
 
 pub enum Refusal {
     // An image, a table in memory or a lone block of a wrong length.
@@ -96,5 +96,15 @@ pub fn place(r: Refusal) -> u64
         Refusal::Large => 0,
         Refusal::List => 0,
         Refusal::Unsound => 0,
+    }
+}
+
+// The byte of a check's answer: 0, or the refusal's number.
+pub fn code(c: Check) -> u8
+    ensures { λ k. ⌜ k ≡ code c ⌝ }
+{
+    match c {
+        Check::Sound => 0,
+        Check::Refused(r) => number(r) as u8,
     }
 }

@@ -1,0 +1,3 @@
+pub mod Passes
+pub mod Run
+pub mod Theorems
