@@ -1,0 +1,5 @@
+pub mod Examples
+pub mod Row
+pub mod Table
+pub mod Exact
+pub mod Coincide
