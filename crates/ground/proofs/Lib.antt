@@ -1,3 +1,4 @@
 pub mod Logic
 pub mod Pieces
 pub mod Search
+pub mod Every
