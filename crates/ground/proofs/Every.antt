@@ -1,12 +1,12 @@
 -- Laws of `every`.
 use Prim.Native.Nat.{ℕ, zero, suc, _+_, _<_}
-use mathlib.Core.Bool.{Bool, true, false, _&&_}
+use mathlib.Core.Bool.{Bool, true, false, _&&_, true≢false}
 use mathlib.Core.Logic.{⊎-elim}
-use mathlib.Core.Path.{_≡_, refl, ap, _∙_}
+use mathlib.Core.Path.{_≡_, refl, sym, ap, _∙_}
 use native.Mathlib.Nat.{not-suc-le-zero, le-of-suc-le-suc, eq-or-lt-of-le, le-refl, le-suc, le-trans}
 use native.Mathlib.Numerals.{add-one}
 use Rattle.ground.specs.Search.{every}
-use Rattle.ground.proofs.Logic.{and-l, and-r, and-i, is-false, clash}
+use Rattle.ground.proofs.Logic.{and-l, and-r, and-i, is-false, clash, cases}
 
 pub every-of : (k : ℕ) (p : ℕ → Bool) → ((j : ℕ) → j < k → p j ≡ true) → every k p ≡ true
 unfolding every
@@ -40,3 +40,12 @@ pub every-ext : (k : ℕ) (p q : ℕ → Bool) → ((j : ℕ) → p j ≡ q j) �
 unfolding every
 every-ext zero p q f = refl
 every-ext (suc k) p q f = rw (every-ext k p q f, f k) refl
+
+-- not all pass: one fails
+pub every-fails : (k : ℕ) (p : ℕ → Bool) → every k p ≡ false → (j : ℕ) × (j < k) × (p j ≡ false)
+unfolding every
+every-fails zero p e = absurd (true≢false e)
+every-fails (suc k) p e =
+    let ih = every-fails k p in
+    ⊎-elim (λ h. (k, le-refl (suc k), sym (ap (λ (b : Bool). b && p k) h) ∙ e)) (λ h. let r = ih h in (r .0, le-trans (r .1) (le-suc k), r .2))
+    (cases (every k p))

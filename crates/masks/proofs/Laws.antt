@@ -2,10 +2,14 @@
 pub mod Members
 pub mod Subsets
 pub mod Gather
+pub mod Apart
 pub mod AllBelow
 pub mod Size
+pub mod Step
 pub use Members.*
 pub use Subsets.*
 pub use Gather.*
+pub use Apart.*
 pub use AllBelow.*
 pub use Size.*
+pub use Step.*

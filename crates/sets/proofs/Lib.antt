@@ -1,1 +1,2 @@
 pub mod Quorum
+pub mod Slices
