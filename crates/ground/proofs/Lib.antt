@@ -2,3 +2,4 @@ pub mod Logic
 pub mod Pieces
 pub mod Search
 pub mod Every
+pub mod Least

@@ -1,2 +1,3 @@
 pub mod Quorum
 pub mod Slices
+pub mod Verdicts

@@ -10,13 +10,13 @@ use lib.Dec.{eqb, ltb}
 use lib.ListN.{getD, take, drop-of-length-le}
 use borrow.Author.Tests.{not-false, ltb-true, ltb-false, eqb-true, eqb-false}
 use Rattle.ground.proofs.Every.{every-at, every-fails}
-use Rattle.ground.proofs.Logic.{cases, iff, is-false, clash, not-t}
+use Rattle.ground.proofs.Logic.{and-l, cases, iff, is-false, clash, not-t}
 use Rattle.ground.proofs.Search.{some-of, some-ex}
 use Rattle.ground.specs.Search.{some}
 use Rattle.masks.proofs.Laws.Apart.{⊆-minus, ⊆-minus-apart}
 use Rattle.masks.proofs.Laws.Members.{has-zero}
 use Rattle.masks.proofs.Laws.Subsets.{⊆-trans, within-⊆, ⊆-within, minus-within}
-use Rattle.masks.specs.Mask.{has, within, minus, allBelow, _⊆_}
+use Rattle.masks.specs.Mask.{has, within, minus, allBelow, _∈_, _⊆_}
 use Rattle.sets.specs.Slices.{slicesOf}
 use Rattle.sets.proofs.Quorum.{Rule}
 use Rattle.table.specs.Table.{countOf, sliceOf, Table}
@@ -43,6 +43,11 @@ module _ (t : List ℕ) where
   unfolding slicesOf
   deleted-inside b v u =
       ap (λ (p : ℕ → Bool). not (has b v) && some (countOf t v) p) (fun-ext (λ i. minus-within (sliceOf t v i) b u))
+
+  -- who is deleted has no slice
+  pub deleted-gone : (b v u : ℕ) → slicesOf t .deleted b v u ≡ true → v ∈ b → ⊥
+  deleted-gone b v u e h =
+      clash (h .holds) (not-t (has b v) (and-l (not (has b v)) (slicesOf t .inside v (bitOr u b)) (sym (deleted-inside b v u) ∙ e)))
 
   -- with nobody deleted
   pub deleted-none : slicesOf t .deleted 0 ≡ slicesOf t .inside
