@@ -4,9 +4,9 @@ use mathlib.Core.Bool.{Bool, true, false}
 use mathlib.Core.Logic.{⊎-elim}
 use mathlib.Core.Path.{_≡_}
 use native.Mathlib.Nat.{eq-or-lt-of-le}
+use Rattle.ground.specs.Search.{least}
 use Rattle.ground.proofs.Logic.{clash}
 use Rattle.ground.proofs.Search.{least-hit, least-le, least-passes}
-use Rattle.ground.specs.Search.{least}
 
 -- none passes
 pub least-fails : (k : ℕ) (p : ℕ → Bool) → ((j : ℕ) → j < k → p j ≡ false) → least k p ≡ k

@@ -1,9 +1,9 @@
--- Two sets with no common site.
+-- Sets with no common site, and sets without the members of another.
 use Prim.Native.Nat.{ℕ}
-use mathlib.Core.Path.{_≡_, subst}
-use lib.Bits.{bitAnd}
+use mathlib.Core.Path.{_≡_, sym, _∙_, subst}
+use lib.Bits.{bitAnd, bitOr}
 use Rattle.masks.specs.Mask.{minus, _∈_, _⊆_}
-use Rattle.masks.proofs.Laws.Subsets.{not-in-zero, ∈-and, and-⊆-l, and-⊆-r, ∈-minus, minus-not-in, empty, member-of}
+use Rattle.masks.proofs.Laws.Subsets.{within-⊆, ⊆-within, minus-within, not-in-zero, ∈-and, and-⊆-l, and-⊆-r, ∈-minus, minus-not-in, empty, member-of}
 
 pub apart-of : (a b : ℕ) → ((v : ℕ) → v ∈ a → v ∈ b → ⊥) → bitAnd a b ≡ 0
 apart-of a b f = empty (bitAnd a b) (λ v h. f v (and-⊆-l a b .each v h) (and-⊆-r a b .each v h))
@@ -27,3 +27,10 @@ pub ⊆-minus : {a c : ℕ} (b : ℕ) → a ⊆ c → bitAnd a b ≡ 0 → a ⊆
 
 pub ⊆-minus-apart : {a : ℕ} (c b : ℕ) → a ⊆ minus c b → bitAnd a b ≡ 0
 ⊆-minus-apart {a} c b p = apart-of a b (λ v h k. minus-not-in c (p .each v h) k)
+
+-- a part, less b, is inside u exactly if the part is inside u together with b
+pub minus-⊆-or : (q b u : ℕ) → minus q b ⊆ u → q ⊆ bitOr u b
+minus-⊆-or q b u s = within-⊆ q (bitOr u b) (sym (minus-within q b u) ∙ ⊆-within s)
+
+pub or-⊆-minus : (q b u : ℕ) → q ⊆ bitOr u b → minus q b ⊆ u
+or-⊆-minus q b u s = within-⊆ (minus q b) u (minus-within q b u ∙ ⊆-within s)

@@ -10,10 +10,10 @@ use lib.Dec.{eqb}
 use borrow.Author.Tests.{eqb-true, eqb-false}
 use Rattle.ground.proofs.Logic.{cases}
 use Rattle.masks.specs.Mask.{minus, _⊆_}
-use Rattle.masks.proofs.Laws.Apart.{minus-apart}
+use Rattle.masks.proofs.Laws.Apart.{minus-apart, minus-⊆-or}
 use Rattle.masks.proofs.Laws.Members.{two-pos}
 use Rattle.masks.proofs.Laws.Size.{halve-⊆, low-⊆}
-use Rattle.masks.proofs.Laws.Subsets.{⊆-refl, ⊆-trans, ⊆-antisym, ⊆-le, within-⊆, ⊆-within, or-⊆, or-⊆-l, or-⊆-r, minus-⊆, minus-within}
+use Rattle.masks.proofs.Laws.Subsets.{⊆-refl, ⊆-trans, ⊆-antisym, ⊆-le, or-⊆, or-⊆-l, or-⊆-r, minus-⊆}
 
 -- a set and a part of it
 pub or-part : {a b : ℕ} → b ⊆ a → bitOr a b ≡ a
@@ -51,10 +51,7 @@ next-with =
 pub minus-or : (m b : ℕ) → minus m b + b ≡ bitOr m b
 minus-or m b =
     sym (or-disjoint (minus m b) b (minus-apart m b))
-    ∙ ⊆-antisym (or-⊆ (⊆-trans (minus-⊆ m b) (or-⊆-l m b)) (or-⊆-r m b)) (or-⊆ back (or-⊆-r (minus m b) b))
-  where
-    back : m ⊆ bitOr (minus m b) b
-    back = within-⊆ m (bitOr (minus m b) b) (sym (minus-within m b (minus m b)) ∙ ⊆-within (⊆-refl (minus m b)))
+    ∙ ⊆-antisym (or-⊆ (⊆-trans (minus-⊆ m b) (or-⊆-l m b)) (or-⊆-r m b)) (or-⊆ (minus-⊆-or m b (minus m b) (⊆-refl (minus m b))) (or-⊆-r (minus m b) b))
 
 -- the next set has no member of b, is above p, and no such set stands between; it is not past 2 ^ n
 
