@@ -1,6 +1,6 @@
 -- Laws of rounds, of the largest quorum inside a set, and of quorums, over any rule s of n sites. No law asks for a bound on the set.
 use Prim.Native.Nat.{ℕ, zero, suc, _^_, _≤_, _<_}
-use mathlib.Core.Bool.{Bool, true, _&&_, _||_, not, cond}
+use mathlib.Core.Bool.{Bool, true, false, _&&_, _||_, not, cond}
 use mathlib.Core.Logic.{⊎-elim}
 use mathlib.Core.Path.{_≡_, refl, sym, ap, _∙_, subst}
 use native.Mathlib.Nat.{le-refl, le-trans, not-suc-le-zero, le-of-suc-le-suc, lt-of-lt-of-le}
@@ -10,7 +10,7 @@ use lib.Dec.{eqb}
 use lib.Pow.{ones-lt}
 use borrow.Author.Tests.{eqb-true, eqb-false, eq-eqb, ne-eqb}
 use Rattle.ground.proofs.Every.{every-of, every-at}
-use Rattle.ground.proofs.Logic.{and-l, and-r, and-i, cases, clash, not-t, or-i, or-e}
+use Rattle.ground.proofs.Logic.{and-l, and-r, and-i, cases, is-false, clash, not-t, or-i, or-e}
 use Rattle.ground.specs.Search.{every}
 use Rattle.masks.proofs.Laws.AllBelow.{⊆-all}
 use Rattle.masks.proofs.Laws.Gather.{∈-gather, gather-∈, gather-lt}
@@ -198,6 +198,17 @@ module _ (s : ℕ → ℕ → Bool) (n : ℕ) where
 
   pub quorum-lt : {q : ℕ} → quorum s n q ≡ true → q < 2 ^ n
   quorum-lt e = below-⊆ n (quorum-below e) (ones-lt n)
+
+  -- what is no quorum: the empty set, a set with a member that is no site, a set with a member that has no slice inside
+
+  pub quorum-empty : quorum s n 0 ≡ false
+  quorum-empty = is-false (quorum s n 0) (λ e. quorum-some e refl)
+
+  pub quorum-outside : (q : ℕ) → within q (allBelow n) ≡ false → quorum s n q ≡ false
+  quorum-outside q f = is-false (quorum s n q) (λ e. clash (⊆-within (quorum-below e)) f)
+
+  pub quorum-lacks : {q v : ℕ} → v ∈ q → s v q ≡ false → quorum s n q ≡ false
+  quorum-lacks {q} h f = is-false (quorum s n q) (λ e. clash (quorum-slice e h) f)
 
   -- a quorum is a set that is not empty and from which a round drops nobody
   pub quorum-still : {q : ℕ} → quorum s n q ≡ true → round s n q ≡ q

@@ -44,9 +44,9 @@ module _ (t : List ℕ) where
   deleted-inside b v u =
       ap (λ (p : ℕ → Bool). not (has b v) && some (countOf t v) p) (fun-ext (λ i. minus-within (sliceOf t v i) b u))
 
-  -- who is deleted has no slice
-  pub deleted-gone : (b v u : ℕ) → slicesOf t .deleted b v u ≡ true → v ∈ b → ⊥
-  deleted-gone b v u e h =
+  -- who has a slice then is not deleted
+  pub deleted-stays : (b v u : ℕ) → slicesOf t .deleted b v u ≡ true → v ∈ b → ⊥
+  deleted-stays b v u e h =
       clash (h .holds) (not-t (has b v) (and-l (not (has b v)) (slicesOf t .inside v (bitOr u b)) (sym (deleted-inside b v u) ∙ e)))
 
   -- with nobody deleted
