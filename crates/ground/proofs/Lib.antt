@@ -1,4 +1,6 @@
+pub mod Alike
+pub mod Every
+pub mod Least
 pub mod Logic
 pub mod Pieces
 pub mod Search
-pub mod Alike

@@ -1,11 +1,8 @@
--- The laws of sets of sites, by subject. A law is cited as `Rattle.masks.proofs.Laws.{name}`, whichever file has it.
+-- The laws of sets of sites, by subject.
 pub mod Members
 pub mod Subsets
 pub mod Gather
+pub mod Apart
 pub mod AllBelow
 pub mod Size
-pub use Members.*
-pub use Subsets.*
-pub use Gather.*
-pub use AllBelow.*
-pub use Size.*
+pub mod Step

@@ -1,6 +1,8 @@
--- Two results that meet the contract of `number`, or of `place`, coincide.
+-- Two answers that meet a contract of this crate coincide.
 use mathlib.Core.Path.{sym, _∙_}
 use Rattle.ground.specs.Coincide.{Answers}
+use Rattle.refusals.proofs.code.Kinds as code-kinds
+use Rattle.refusals.proofs.code.Reads as code-reads
 use Rattle.refusals.proofs.number.Kinds as number-kinds
 use Rattle.refusals.proofs.number.Reads as number-reads
 use Rattle.refusals.proofs.place.Kinds as place-kinds
@@ -11,3 +13,6 @@ number-coincide κs a x y s t p q = p ∙ sym q
 
 pub place-coincide : Answers place-kinds.ps place-kinds.r place-reads.Post
 place-coincide κs a x y s t p q = p ∙ sym q
+
+pub code-coincide : Answers code-kinds.ps code-kinds.r code-reads.Post
+code-coincide κs a x y s t p q = p ∙ sym q

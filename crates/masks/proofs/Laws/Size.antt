@@ -16,10 +16,10 @@ use Rattle.masks.proofs.Laws.Subsets.{mem, below-⊆}
 -- how many members
 
 -- a part of a set has no more members, and a part with as many is the set
-halve-⊆ : {a b : ℕ} → a ⊆ b → a / 2 ⊆ b / 2
+pub halve-⊆ : {a b : ℕ} → a ⊆ b → a / 2 ⊆ b / 2
 halve-⊆ {a} {b} s = record { each = λ v h. mem (sym (has-suc b v) ∙ s .each (suc v) (mem (has-suc a v ∙ h .holds)) .holds) }
 
-low-⊆ : {a b : ℕ} → a ⊆ b → a % 2 ≤ b % 2
+pub low-⊆ : {a b : ℕ} → a ⊆ b → a % 2 ≤ b % 2
 unfolding has
 low-⊆ {a} {b} s = bit-le (a % 2) (b % 2) (mod-lt a two-pos) (λ h. ap (λ (x : ℕ). eqb (x % 2) 1) (sym (one b)) ∙ s .each zero (mem (ap (λ (x : ℕ). eqb (x % 2) 1) (one a) ∙ h)) .holds)
   where

@@ -1,0 +1,7 @@
+pub mod Quorum
+pub mod Slices
+pub mod Verdicts
+pub mod Lawful
+pub mod Decides
+pub mod Promises
+pub mod WholeQuorum

@@ -1,0 +1,102 @@
+-- Laws of a table's slices: what its three tests say, and that the shortcuts that programs take say the same.
+use Prim.Native.Nat.{ℕ, _*_, _<_, _≤_}
+use mathlib.Core.Bool.{Bool, true, false, _&&_, not}
+use mathlib.Core.List.{List}
+use mathlib.Core.Logic.{⊎-elim}
+use mathlib.Core.Path.{_≡_, sym, ap, ap₂, _∙_, subst, fun-ext}
+use native.Mathlib.Nat.{not-suc-le-zero, mul-le-mul-left}
+use lib.Bits.{bitAnd, bitOr, or-zero-r}
+use lib.Dec.{eqb, ltb}
+use lib.ListN.{getD, take, drop-of-length-le}
+use borrow.Author.Tests.{not-false, ltb-true, ltb-false, eqb-true, eqb-false}
+use Rattle.ground.proofs.Every.{every-at, every-fails}
+use Rattle.ground.proofs.Logic.{and-l, cases, iff, is-false, clash, not-t}
+use Rattle.ground.proofs.Search.{some-of, some-ex}
+use Rattle.ground.specs.Search.{some}
+use Rattle.masks.proofs.Laws.Apart.{⊆-minus, ⊆-minus-apart}
+use Rattle.masks.proofs.Laws.Members.{has-zero}
+use Rattle.masks.proofs.Laws.Subsets.{⊆-trans, within-⊆, ⊆-within, minus-within}
+use Rattle.masks.specs.Mask.{has, within, minus, allBelow, _∈_, _⊆_}
+use Rattle.sets.specs.Slices.{slicesOf}
+use Rattle.sets.proofs.Quorum.{Rule}
+use Rattle.table.specs.Table.{countOf, sliceOf, Table}
+
+module _ (t : List ℕ) where
+  -- some slice inside
+
+  pub inside-of : (v i : ℕ) {u : ℕ} → i < countOf t v → sliceOf t v i ⊆ u → slicesOf t .inside v u ≡ true
+  unfolding slicesOf
+  inside-of v i {u} l sub = some-of (countOf t v) (λ i. within (sliceOf t v i) u) l (⊆-within sub)
+
+  pub inside-ex : (v u : ℕ) → slicesOf t .inside v u ≡ true → (i : ℕ) × (i < countOf t v) × (sliceOf t v i ⊆ u)
+  unfolding slicesOf
+  inside-ex v u e =
+      let r = some-ex (countOf t v) (λ i. within (sliceOf t v i) u) e in
+      (r .0, r .1, within-⊆ (sliceOf t v (r .0)) u (r .2))
+
+  pub inside-rule : Rule (slicesOf t .inside)
+  inside-rule = record { grows = λ v a b sub e. let r = inside-ex v a e in inside-of v (r .0) (r .1) (⊆-trans (r .2) sub) }
+
+  -- deleting: "every slice loses the members of b", or the set gains them
+
+  pub deleted-inside : (b v u : ℕ) → slicesOf t .deleted b v u ≡ not (has b v) && slicesOf t .inside v (bitOr u b)
+  unfolding slicesOf
+  deleted-inside b v u =
+      ap (λ (p : ℕ → Bool). not (has b v) && some (countOf t v) p) (fun-ext (λ i. minus-within (sliceOf t v i) b u))
+
+  -- who has a slice then is not deleted
+  pub deleted-stays : (b v u : ℕ) → slicesOf t .deleted b v u ≡ true → v ∈ b → ⊥
+  deleted-stays b v u e h =
+      clash (h .holds) (not-t (has b v) (and-l (not (has b v)) (slicesOf t .inside v (bitOr u b)) (sym (deleted-inside b v u) ∙ e)))
+
+  -- with nobody deleted
+  pub deleted-none : slicesOf t .deleted 0 ≡ slicesOf t .inside
+  deleted-none =
+      fun-ext (λ v. fun-ext (λ u. deleted-inside 0 v u ∙ ap₂ (λ (h : Bool) (x : ℕ). not h && slicesOf t .inside v x) (has-zero v) (or-zero-r u)))
+
+  -- blocking: no slice misses the set
+
+  pub blocked-meets : (v w i : ℕ) → slicesOf t .blocked v w ≡ true → i < countOf t v → bitAnd (sliceOf t v i) w ≡ 0 → ⊥
+  unfolding slicesOf
+  blocked-meets v w i e l =
+      eqb-false (bitAnd (sliceOf t v i) w) 0
+      (not-t (eqb (bitAnd (sliceOf t v i) w) 0) (every-at (countOf t v) (λ i. not (eqb (bitAnd (sliceOf t v i) w) 0)) e i l))
+
+  pub unblocked-misses : (v w : ℕ) → slicesOf t .blocked v w ≡ false → (i : ℕ) × (i < countOf t v) × (bitAnd (sliceOf t v i) w ≡ 0)
+  unfolding slicesOf
+  unblocked-misses v w e =
+      let r = every-fails (countOf t v) (λ i. not (eqb (bitAnd (sliceOf t v i) w) 0)) e in
+      (r .0, r .1, eqb-true (bitAnd (sliceOf t v (r .0)) w) 0 (not-false (eqb (bitAnd (sliceOf t v (r .0)) w) 0) (r .2)))
+
+-- of a checked table
+
+module _ {t : List ℕ} {n : ℕ} (table : Table t n) where
+  -- who is no site has no slice
+  pub no-slice : (v : ℕ) → n ≤ v → countOf t v ≡ 0
+  no-slice v l =
+      ap (λ (l : List ℕ). getD (take 63 l) 0 0) (drop-of-length-le t (subst (λ (x : ℕ). x ≤ 63 * v) (sym (table .size)) (mul-le-mul-left 63 l)))
+
+  -- every slice is of the n sites
+  pub slice-below : (v i : ℕ) → i < countOf t v → sliceOf t v i ⊆ allBelow n
+  slice-below v i l =
+      ⊎-elim (λ h. table .below v i (ltb-true v n h) l) (λ h. absurd (not-suc-le-zero (subst (λ (x : ℕ). i < x) (no-slice v (ltb-false v n h)) l)))
+      (cases (ltb v n))
+
+  -- w blocks v exactly if v has no slice inside the rest
+  pub blocked-rest : (v w : ℕ) → slicesOf t .blocked v w ≡ not (slicesOf t .inside v (minus (allBelow n) w))
+  blocked-rest v w =
+      iff (slicesOf t .blocked v w) (not (slicesOf t .inside v (minus (allBelow n) w)))
+      (λ e.
+      ap not
+      (is-false (slicesOf t .inside v (minus (allBelow n) w))
+      (λ h. let r = inside-ex t v (minus (allBelow n) w) h in blocked-meets t v w (r .0) e (r .1) (⊆-minus-apart (allBelow n) w (r .2)))))
+      (λ e.
+      ⊎-elim (λ h. h)
+      (λ h.
+      let r = unblocked-misses t v w h in
+      absurd (clash (inside-of t v (r .0) (r .1) (⊆-minus w (slice-below v (r .0) (r .1)) (r .2))) (not-t (slicesOf t .inside v (minus (allBelow n) w)) e)))
+      (cases (slicesOf t .blocked v w)))
+
+  -- each site has a slice inside all sites
+  pub inside-all : (v : ℕ) → v < n → slicesOf t .inside v (allBelow n) ≡ true
+  inside-all v l = inside-of t v 0 (table .some-slice v l) (slice-below v 0 (table .some-slice v l))
