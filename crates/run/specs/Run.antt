@@ -10,7 +10,7 @@ use Rattle.refusals.specs.First.{orElse, refuse}
 use Rattle.refusals.specs.Refusal.{code}
 use Rattle.refusals.specs.declared.Check.{Check}
 use Rattle.refusals.specs.declared.Check.the-variants.{Sound}
-use Rattle.refusals.specs.declared.Refusal.the-variants.{Room, Set} 
+use Rattle.refusals.specs.declared.Refusal.the-variants.{Room, Set}
 use Rattle.refusals.specs.declared.Refusal as Refusal
 use Rattle.run.specs.Passes.{Run, run}
 use Rattle.run.specs.declared.Ran.{Ran}

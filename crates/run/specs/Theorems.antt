@@ -49,7 +49,7 @@ OrderFree =
     OneSided (sites (length t)) F (calls a) → SameCalls (calls a) (calls b) →
     (endState t F a stateA p ≡ endState t F b stateB q)
     × ((i j : ℕ) → i < length a / 4 → j < length b / 4 → callAt a i ≡ callAt b j →
-        getD (endAnswers t F a answersA p) i 0 ≡ getD (endAnswers t F b answersB q) j 0)
+    getD (endAnswers t F a answersA p) i 0 ≡ getD (endAnswers t F b answersB q) j 0)
 
 -- Demand 3: "The passes never exceed the calls in that list by more than one", for every list
 abbrev pub FewPasses : Type 0

@@ -1,8 +1,181 @@
-// The run of a list of calls, given as bytes.
+// The run of a list of calls, given as bytes: passes from first to last until a pass changes nothing.
+ghost use mathlib.Core.Path.{_≡_};
+ghost use mathlib.Core.Bool.{_||_};
+ghost use Prim.Native.Nat.{_+_, _*_, _<_, _≤_};
+ghost use lib.ListN.{length, replicate};
+ghost use Rattle.table.specs.Table.{Table};
+ghost use Rattle.sets.specs.Slices.{slicesOf};
+ghost use Rattle.sets.specs.Promises.{questionsOf};
+ghost use Rattle.voting.specs.State.{size, fresh};
+ghost use Rattle.voting.specs.Sound.{Sound};
+ghost use Rattle.voting.specs.Inner.{Works};
+ghost use Rattle.run.specs.Run.{calls, callAt, runCheck, ran, stateInto, answersInto};
+ghost use Rattle.run.specs.Inner.{Passed, Whole};
+use refusals::Check;
 use refusals::Refusal;
 
 // The number of passes, or the refusal.
 pub enum Ran {
     Passes(u64),
     Refused(Refusal),
+}
+
+// A byte as a number that can be an index.
+fn wide(x: u8) -> usize
+    ensures { λ r. ⌜ r ≡ x ⌝ }
+{
+    x as usize
+}
+
+// One of two holds.
+fn either(a: bool, b: bool) -> bool
+    ensures { λ r. ⌜ r ≡ (a || b) ⌝ }
+{
+    if a {
+        return true;
+    }
+    b
+}
+
+// Call i of the list, on a sound state.
+fn work_at(
+    table: &[u64],
+    n: usize,
+    faulty: u64,
+    list: &[u8],
+    i: usize,
+    state: &mut [u64],
+) -> voting::Worked
+    requires { ⌜ Table (now table) n × Sound (questionsOf (slicesOf (now table)) n) n faulty (now state) × (4 * i + 3 < length (now list)) ⌝ }
+    ensures { λ r. ⌜ Works (questionsOf (slicesOf (now (table .entry))) n) n faulty (callAt (now (list .entry)) i) (now (state .entry)) (r .answer) (r .changed) (now (state .exit)) ⌝ }
+{
+    let kind = wide(list[4 * i]);
+    let from = wide(list[4 * i + 1]);
+    let to = wide(list[4 * i + 2]);
+    let side = wide(list[4 * i + 3]);
+    voting::work(table, n, faulty, state, kind, from, to, side)
+}
+
+// One pass over the list, from the first call to the last: whether it changed the state. One answer a call.
+fn pass_over(
+    table: &[u64],
+    n: usize,
+    faulty: u64,
+    list: &[u8],
+    state: &mut [u64],
+    answers: &mut [u8],
+) -> bool
+    requires { ⌜ Table (now table) n × Sound (questionsOf (slicesOf (now table)) n) n faulty (now state) × (length (now list) ≡ 4 * length (now answers)) ⌝ }
+    ensures { λ r. ⌜ Passed (questionsOf (slicesOf (now (table .entry))) n) n faulty (calls (now (list .entry))) (now (state .entry)) r (now (state .exit)) (now (answers .exit)) ⌝ }
+{
+    let mut changed = false;
+    let mut i: usize = 0;
+    while i < answers.len() {
+        let w = work_at(table, n, faulty, list, i, state);
+        let a = w.answer;
+        answers[i] = refusals::code(a);
+        changed = either(changed, w.changed);
+        i += 1;
+    }
+    changed
+}
+
+// Passes from a fresh state until one changes nothing: how many, that one counted.
+fn run_fresh(
+    table: &[u64],
+    n: usize,
+    faulty: u64,
+    list: &[u8],
+    state: &mut [u64],
+    answers: &mut [u8],
+) -> u64
+    requires { ⌜ Table (now table) n × (now state ≡ fresh n) × (length (now list) ≡ 4 * length (now answers)) × (length (now answers) ≤ 4096) ⌝ }
+    ensures { λ r. ⌜ Whole (questionsOf (slicesOf (now (table .entry))) n) n faulty (calls (now (list .entry))) r (now (state .exit)) (now (answers .exit)) ⌝ }
+{
+    let mut passes = 0u64;
+    loop {
+        let changed = pass_over(table, n, faulty, list, state, answers);
+        passes += 1;
+        if !changed {
+            return passes;
+        }
+    }
+}
+
+// Zeros all over.
+fn clear(state: &mut [u64])
+    ensures { λ r. ⌜ now (state .exit) ≡ replicate (length (now (state .entry))) 0 ⌝ }
+{
+    let mut i: usize = 0;
+    while i < state.len() {
+        state[i] = 0;
+        i += 1;
+    }
+}
+
+// The run in rooms of the right size, whatever they held.
+fn run_cleared(
+    table: &[u64],
+    n: usize,
+    faulty: u64,
+    list: &[u8],
+    state: &mut [u64],
+    answers: &mut [u8],
+) -> u64
+    requires { ⌜ Table (now table) n × (length (now state) ≡ size n) × (length (now list) ≡ 4 * length (now answers)) × (length (now answers) ≤ 4096) ⌝ }
+    ensures { λ r. ⌜ Whole (questionsOf (slicesOf (now (table .entry))) n) n faulty (calls (now (list .entry))) r (now (state .exit)) (now (answers .exit)) ⌝ }
+{
+    clear(state);
+    run_fresh(table, n, faulty, list, state, answers)
+}
+
+// Table, 10, 17, 9.
+fn check_run(table: &[u64], faulty: u64, list: &[u8], state: usize, answers: usize) -> Check
+    ensures { λ r. ⌜ r ≡ runCheck (now (table .entry)) faulty (now (list .entry)) state answers ⌝ }
+{
+    let q = table::check(table);
+    let Check::Sound = q else {
+        return q;
+    };
+    let n = table.len() / 63;
+    if !masks::within(faulty, masks::all_below(n as u64)) {
+        return Check::Refused(Refusal::Set);
+    }
+    if list.len() % 4 != 0 {
+        return Check::Refused(Refusal::List);
+    }
+    if 16384 < list.len() {
+        return Check::Refused(Refusal::List);
+    }
+    if state < 4 * n + 6 {
+        return Check::Refused(Refusal::Room);
+    }
+    if answers < list.len() / 4 {
+        return Check::Refused(Refusal::Room);
+    }
+    Check::Sound
+}
+
+// The run of a list of calls, four bytes a call, from a fresh state: the first 4n + 6 numbers of the state room, one byte a call of the answer room.
+pub fn run(table: &[u64], faulty: u64, list: &[u8], state: &mut [u64], answers: &mut [u8]) -> Ran
+    ensures answer { λ r. ⌜ r ≡ ran (now (table .entry)) faulty (now (list .entry)) (length (now (state .entry))) (length (now (answers .entry))) ⌝ }
+    ensures states { λ r. ⌜ now (state .exit) ≡ stateInto r (now (table .entry)) faulty (now (list .entry)) (now (state .entry)) ⌝ }
+    ensures bytes { λ r. ⌜ now (answers .exit) ≡ answersInto r (now (table .entry)) faulty (now (list .entry)) (now (answers .entry)) ⌝ }
+{
+    let q = check_run(table, faulty, list, state.len(), answers.len());
+    if let Check::Refused(r) = q {
+        return Ran::Refused(r);
+    }
+    let n = table.len() / 63;
+    let size = 4 * n + 6;
+    let many = list.len() / 4;
+    let passes = run_cleared(
+        table,
+        n,
+        faulty,
+        list,
+        &mut state[..size],
+        &mut answers[..many],
+    );
+    Ran::Passes(passes)
 }

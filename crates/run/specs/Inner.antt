@@ -1,0 +1,51 @@
+-- What the loops over the calls and over the passes carry.
+use Prim.Native.Nat.{ℕ, suc, _≤_, _<_}
+use mathlib.Core.Bool.{Bool, _&&_, not, true}
+use mathlib.Core.List.{List, [], _∷_, _++_}
+use mathlib.Core.Path.{_≡_}
+use lib.ListN.{length, take, drop}
+use Rattle.ground.specs.Alike.{alike}
+use Rattle.refusals.specs.Refusal.{code}
+use Rattle.run.specs.Passes.{Run, pass, iter, answersOf}
+use Rattle.run.specs.Run.{calls, runVotes}
+use Rattle.sets.specs.Promises.{Questions}
+use Rattle.voting.specs.Rules.{Call, answer, step}
+use Rattle.voting.specs.Sound.{Sound}
+use Rattle.voting.specs.State.{fresh}
+
+module _ (Q : Questions) (n F : ℕ) where
+  -- no call of the pass changed anything
+  abbrev pub quiet : List Call → List ℕ → Bool
+  quiet [] s = true
+  quiet (c ∷ l) s = alike s (step Q n F c s) && quiet l (step Q n F c s)
+
+  -- the answers of a pass
+  abbrev pub answersFrom : List Call → List ℕ → List ℕ
+  answersFrom l s = answersOf (step Q n F) (λ c s. code (answer n F c s)) l s
+
+  -- after the first i calls of a pass that began with the state s₀ and the answer bytes out₀
+  pub record After (list s₀ out₀ : List ℕ) (i : ℕ) (changed : Bool) (s out : List ℕ) : Type 0 where
+    pub within : i ≤ length out₀
+    pub long : length out ≡ length out₀
+    pub sound : Sound Q n F s
+    pub state : s ≡ pass (step Q n F) (take i (calls list)) s₀
+    pub answers : out ≡ answersFrom (take i (calls list)) s₀ ++ drop i out₀
+    pub flag : changed ≡ not (quiet (take i (calls list)) s₀)
+
+  -- a whole pass
+  pub record Passed (l : List Call) (s₀ : List ℕ) (changed : Bool) (s out : List ℕ) : Type 0 where
+    pub state : s ≡ pass (step Q n F) l s₀
+    pub answers : out ≡ answersFrom l s₀
+    pub flag : changed ≡ not (quiet l s₀)
+
+  -- k passes from a fresh state, each of which changed something
+  pub record Going (l : List Call) (k : ℕ) (s : List ℕ) : Type 0 where
+    pub state : s ≡ iter (step Q n F) k l (fresh n)
+    pub sound : Sound Q n F s
+    pub each : (j : ℕ) → j < k → iter (step Q n F) (suc j) l (fresh n) ≡ iter (step Q n F) j l (fresh n) → ⊥
+
+  -- the whole run
+  pub record Whole (l : List Call) (passes : ℕ) (s out : List ℕ) : Type 0 where
+    pub count : passes ≡ runVotes Q n F l .passes
+    pub state : s ≡ runVotes Q n F l .state
+    pub answers : out ≡ runVotes Q n F l .answers
