@@ -13,12 +13,13 @@ use Rattle.voting.specs.Rules.{Call, answer, step}
 use Rattle.voting.specs.Sound.{Sound}
 use Rattle.voting.specs.State.{fresh}
 
-module _ (Q : Questions) (n F : ℕ) where
-  -- no call of the pass changed anything
-  abbrev pub quiet : List Call → List ℕ → Bool
+-- no call of the pass changed anything
+module _ {S C : Type 0} (step : C → S → S) (same : S → S → Bool) where
+  abbrev pub quiet : List C → S → Bool
   quiet [] s = true
-  quiet (c ∷ l) s = alike s (step Q n F c s) && quiet l (step Q n F c s)
+  quiet (c ∷ l) s = same s (step c s) && quiet l (step c s)
 
+module _ (Q : Questions) (n F : ℕ) where
   -- the answers of a pass
   abbrev pub answersFrom : List Call → List ℕ → List ℕ
   answersFrom l s = answersOf (step Q n F) (λ c s. code (answer n F c s)) l s
@@ -30,13 +31,13 @@ module _ (Q : Questions) (n F : ℕ) where
     pub sound : Sound Q n F s
     pub state : s ≡ pass (step Q n F) (take i (calls list)) s₀
     pub answers : out ≡ answersFrom (take i (calls list)) s₀ ++ drop i out₀
-    pub flag : changed ≡ not (quiet (take i (calls list)) s₀)
+    pub flag : changed ≡ not (quiet (step Q n F) alike (take i (calls list)) s₀)
 
   -- a whole pass
   pub record Passed (l : List Call) (s₀ : List ℕ) (changed : Bool) (s out : List ℕ) : Type 0 where
     pub state : s ≡ pass (step Q n F) l s₀
     pub answers : out ≡ answersFrom l s₀
-    pub flag : changed ≡ not (quiet l s₀)
+    pub flag : changed ≡ not (quiet (step Q n F) alike l s₀)
 
   -- k passes from a fresh state, each of which changed something
   pub record Going (l : List Call) (k : ℕ) (s : List ℕ) : Type 0 where
