@@ -1,0 +1,126 @@
+-- Laws of one site's slices: one for each way out of their check, and what a sound site has.
+use Prim.Native.Nat.{ℕ, zero, suc, _-_, _≤_, _<_}
+use mathlib.Core.Bool.{Bool, true, false, _||_, not, or-true}
+use mathlib.Core.Path.{_≡_, refl, sym, ap, subst, _∙_}
+use native.Mathlib.Nat.{not-suc-le-zero, suc-ne-zero}
+use native.Mathlib.Omega.{arith}
+use lib.Dec.{eqb, eqb·suc-zero, ltb}
+use borrow.Author.Tests.{eq-eqb, ne-eqb, lt-ltb, le-ltb, eqb-false, ltb-true, ltb-false, not-false}
+use Rattle.ground.proofs.Logic.{or-none}
+use Rattle.masks.proofs.Laws.Subsets.{mem, within-⊆, ⊆-within}
+use Rattle.masks.specs.Mask.{has, within, allBelow, _∈_, _⊆_}
+use Rattle.refusals.proofs.First.{orElse-sound, first-all, first-sound, missed}
+use Rattle.refusals.specs.First.{orElse, refuse, first}
+use Rattle.refusals.specs.declared.Check.the-variants.{Sound, Refused}
+use Rattle.refusals.specs.declared.Refusal.{Refusal}
+use Rattle.refusals.specs.declared.Refusal.the-variants.{Count, Slice, Order, Filler}
+use Rattle.table.specs.Row.{strange, unordered, sliceCheck, rowCheck}
+
+-- a test that did not refuse
+kept : (p : Bool) (r : Refusal) → refuse p r ≡ Sound → p ≡ false
+kept true r h = let z : _≡_ {A = ℕ} 0 1 = cc in absurd (omega arith)
+kept false r h = refl
+
+pred-suc : (i : ℕ) → suc i - 1 ≡ i
+pred-suc i = omega arith
+
+-- slice k of site v in a table of n sites
+module _ (n v : ℕ) (slice : ℕ → ℕ) (k : ℕ) where
+  pub lacks-owner : has (slice k) v ≡ false → sliceCheck n v slice k ≡ Refused (Slice v)
+  unfolding sliceCheck strange
+  lacks-owner e = rw e refl
+
+  pub names-above : within (slice k) (allBelow n) ≡ false → sliceCheck n v slice k ≡ Refused (Slice v)
+  unfolding sliceCheck strange
+  names-above e = rw (e, or-true) refl
+
+  module _ (p : has (slice k) v ≡ true) (q : within (slice k) (allBelow n) ≡ true) where
+    pub is-first : k ≡ 0 → sliceCheck n v slice k ≡ Sound
+    unfolding sliceCheck strange unordered
+    is-first e = rw (p, q, eq-eqb k 0 e) refl
+
+    pub is-above : (k ≡ 0 → ⊥) → slice (k - 1) < slice k → sliceCheck n v slice k ≡ Sound
+    unfolding sliceCheck strange unordered
+    is-above ne l = rw (p, q, ne-eqb k 0 ne, lt-ltb (slice (k - 1)) (slice k) l) refl
+
+    pub not-above : (k ≡ 0 → ⊥) → slice k ≤ slice (k - 1) → sliceCheck n v slice k ≡ Refused (Order v)
+    unfolding sliceCheck strange unordered
+    not-above ne l = rw (p, q, ne-eqb k 0 ne, le-ltb (slice (k - 1)) (slice k) l) refl
+
+  -- what a sound slice has
+  neither : sliceCheck n v slice k ≡ Sound → (strange n v (slice k) ≡ false) × (unordered slice k ≡ false)
+  unfolding sliceCheck
+  neither h =
+      let q = missed (strange n v (slice k)) (Slice v) (refuse (unordered slice k) (Order v)) h in
+      (q .0, kept (unordered slice k) (Order v) (q .1))
+
+  pub slice-owner : sliceCheck n v slice k ≡ Sound → v ∈ slice k
+  unfolding strange
+  slice-owner h = mem (not-false (has (slice k) v) (or-none (not (has (slice k) v)) (not (within (slice k) (allBelow n))) (neither h .0) .0))
+
+  pub slice-below : sliceCheck n v slice k ≡ Sound → slice k ⊆ allBelow n
+  unfolding strange
+  slice-below h =
+      within-⊆ (slice k) (allBelow n)
+      (not-false (within (slice k) (allBelow n)) (or-none (not (has (slice k) v)) (not (within (slice k) (allBelow n))) (neither h .0) .1))
+
+pub slice-ascends : (n v : ℕ) (slice : ℕ → ℕ) (i : ℕ) → sliceCheck n v slice (suc i) ≡ Sound → slice i < slice (suc i)
+unfolding unordered
+slice-ascends n v slice i h =
+    let e : not (ltb (slice i) (slice (suc i))) ≡ false = rw (eqb·suc-zero i, pred-suc i) at (neither n v slice (suc i) h .1) in
+    ltb-true (slice i) (slice (suc i)) (not-false (ltb (slice i) (slice (suc i))) e)
+
+-- What a sound site has.
+pub record Row (n v count : ℕ) (slice : ℕ → ℕ) (unclean : Bool) : Type 0 where
+  pub some-slice : 1 ≤ count
+  pub few-slices : count ≤ 62
+  pub owner : (i : ℕ) → i < count → v ∈ slice i
+  pub below : (i : ℕ) → i < count → slice i ⊆ allBelow n
+  pub ascend : (i : ℕ) → suc i < count → slice i < slice (suc i)
+  pub clean : unclean ≡ false
+
+module _ (n v count : ℕ) (slice : ℕ → ℕ) (unclean : Bool) where
+  pub no-slice : count ≡ 0 → rowCheck n v count slice unclean ≡ Refused (Count v)
+  unfolding rowCheck
+  no-slice e = rw (eq-eqb count 0 e) refl
+
+  pub many-slices : 62 < count → rowCheck n v count slice unclean ≡ Refused (Count v)
+  unfolding rowCheck
+  many-slices l = rw (lt-ltb 62 count l, or-true) refl
+
+  module _ (ne : count ≡ 0 → ⊥) (l : count ≤ 62) where
+    pub bad-slice : (r : Refusal) → first (sliceCheck n v slice) count ≡ Refused r → rowCheck n v count slice unclean ≡ Refused r
+    unfolding rowCheck
+    bad-slice r e = rw (ne-eqb count 0 ne, le-ltb 62 count l, e) refl
+
+    pub good-slices : first (sliceCheck n v slice) count ≡ Sound → rowCheck n v count slice unclean ≡ refuse unclean (Filler v)
+    unfolding rowCheck
+    good-slices e = rw (ne-eqb count 0 ne, le-ltb 62 count l, e) refl
+
+  pub row-sound : rowCheck n v count slice unclean ≡ Sound → Row n v count slice unclean
+  unfolding rowCheck
+  row-sound h =
+      let p = missed (eqb count 0 || ltb 62 count) (Count v) (orElse (first (sliceCheck n v slice) count) (refuse unclean (Filler v))) h in
+      let q = orElse-sound (first (sliceCheck n v slice) count) (refuse unclean (Filler v)) (p .1) in
+      let c = or-none (eqb count 0) (ltb 62 count) (p .0) in
+      let ne = eqb-false count 0 (c .0) in
+      let each : (i : ℕ) → i < count → sliceCheck n v slice i ≡ Sound = λ i l. first-all (sliceCheck n v slice) count i (q .0) l in
+      record {
+        some-slice = omega arith;
+        few-slices = ltb-false 62 count (c .1);
+        owner = λ i l. slice-owner n v slice i (each i l);
+        below = λ i l. slice-below n v slice i (each i l);
+        ascend = λ i l. slice-ascends n v slice i (each (suc i) l);
+        clean = kept unclean (Filler v) (q .1);
+      }
+
+  pub sound-row : Row n v count slice unclean → rowCheck n v count slice unclean ≡ Sound
+  sound-row r =
+      good-slices (λ e. not-suc-le-zero (subst (λ (k : ℕ). 1 ≤ k) e (r .some-slice))) (r .few-slices) (first-sound (sliceCheck n v slice) count each)
+      ∙ ap (λ (u : Bool). refuse u (Filler v)) (r .clean)
+    where
+      each : (i : ℕ) → i < count → sliceCheck n v slice i ≡ Sound
+      each zero l = is-first n v slice 0 (r .owner 0 l .holds) (⊆-within (r .below 0 l)) refl
+      each (suc i) l =
+          is-above n v slice (suc i) (r .owner (suc i) l .holds) (⊆-within (r .below (suc i) l)) (suc-ne-zero i)
+          (subst (λ (k : ℕ). slice k < slice (suc i)) (sym (pred-suc i)) (r .ascend i l))
