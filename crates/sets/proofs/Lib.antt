@@ -5,3 +5,4 @@ pub mod Lawful
 pub mod Decides
 pub mod Promises
 pub mod WholeQuorum
+pub mod Places

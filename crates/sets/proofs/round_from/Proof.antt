@@ -1,0 +1,74 @@
+-- `round_from` meets its contract: the sites below v that stay are gathered.
+use Prim.Native.Nat.{ℕ, _+_, _-_, _≤_, _<_}
+use mathlib.Core.Bool.{Bool, true, false, _&&_, cond}
+use mathlib.Core.Logic.{⊎-elim}
+use mathlib.Core.Path.{_≡_, refl, sym, ap, ap₂, _∙_, subst}
+use native.Mathlib.Omega.{arith}
+use lib.Bits.{bitOr, or-zero-r}
+use borrow.Author.Needs.{needs}
+use denote.Ref.{now}
+use Rattle.ground.proofs.Logic.{cases}
+use Rattle.masks.specs.Mask.{has, single, gather}
+use Rattle.masks.proofs.Laws.Gather.{gather-none, gather-took, gather-left}
+use Rattle.sets.specs.Places.{Passed}
+use Rattle.sets.specs.Quorum.{round}
+use Rattle.sets.specs.Slices.{slicesOf}
+use Rattle.sets.proofs.round_from.Statement.{statement}
+use Rattle.sets.proofs.round_from.Tie as tie
+use Rattle.sets.proofs.round_from.Reads as reads
+use Rattle.sets.proofs.round_from.Lts as lts
+use Rattle.sets.proofs.stays.Reads as stays-reads
+
+abbrev Inv-loop : tie.InvT-loop
+Inv-loop table n b w places₀ stay₀ v₀ places stay v =
+    (v ≤ n) × (stay ≡ gather v (λ x. has w x && slicesOf table .deleted b x w)) × Passed table n b w places
+
+abbrev μ-loop : tie.MeasureT-loop
+μ-loop table n b w places₀ stay₀ v₀ places stay v = n - v
+
+loop-holds : tie.Need-loop-holds Inv-loop μ-loop
+loop-holds c = (search needs, gather-none _, c .before .pre .1)
+
+stays-requires : tie.Need-stays-requires Inv-loop μ-loop
+stays-requires c κs =
+    let p = c .before .before .before .before .pre in
+    (p .0, c .before .loop-test .taken, c .before .before .loop .inv .2)
+
+add-v : tie.Need-add-v Inv-loop μ-loop
+add-v c = search needs
+
+loop-less : tie.Need-loop-less Inv-loop μ-loop
+loop-less c = search needs
+
+-- one site more
+more : (v : ℕ) (p : ℕ → Bool) → bitOr (gather v p) (cond (p v) (single v) 0) ≡ gather (v + 1) p
+more v p =
+    ⊎-elim (λ e. ap (λ (b : Bool). bitOr (gather v p) (cond b (single v) 0)) e ∙ gather-took v p e)
+    (λ e. ap (λ (b : Bool). bitOr (gather v p) (cond b (single v) 0)) e ∙ or-zero-r (gather v p) ∙ gather-left v p e) (cases (p v))
+
+loop-again : tie.Need-loop-again Inv-loop μ-loop
+loop-again c =
+    let l = c .before .before .before .loop in
+    (omega arith, ap₂ bitOr (l .inv .1) (c .stays .ensures .0) ∙ more (l .v) _, c .stays .ensures .1)
+
+returns : tie.Need-returns Inv-loop μ-loop
+unfolding round
+returns c =
+    let a = c .before .before .before .args in
+    let l = c .before .loop in
+    let m = l .inv .0 in
+    let e : l .v ≡ a .n = omega arith in
+    (subst (λ (k : ℕ). l .stay ≡ gather k (λ x. has (a .w) x && slicesOf (now (a .table)) .deleted (a .b) x (a .w))) e (l .inv .1), l .inv .2)
+
+pub round-from-spec : {M : Type 1} → statement M
+round-from-spec =
+    tie.close
+    (tie.spec
+    Inv-loop
+    μ-loop
+    loop-holds
+    stays-requires
+    add-v
+    loop-less
+    loop-again
+    returns)
