@@ -85,7 +85,8 @@ pub fn blocks(table: &[u64], set: u64, site: u64) -> Holds
         return Holds::Refused(r);
     }
     let n = table.len() / 63;
-    if n as u64 <= site {
+    let sites = n as u64;
+    if sites <= site {
         return Holds::Refused(Refusal::Range);
     }
     if sets::blocks(table, n, set, site as usize) {
