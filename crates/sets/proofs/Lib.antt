@@ -6,3 +6,4 @@ pub mod Decides
 pub mod Promises
 pub mod WholeQuorum
 pub mod Places
+pub mod Coincide

@@ -3,18 +3,16 @@ use Prim.Native.Nat.{ℕ, zero-le, _≤_, _<_}
 use mathlib.Core.Bool.{Bool, true, false, _&&_, not}
 use mathlib.Core.List.{List}
 use mathlib.Core.Logic.{⊎-elim}
-use mathlib.Core.Path.{_≡_, refl, sym, ap, _∙_, subst}
+use mathlib.Core.Path.{_≡_, sym, ap, _∙_, subst}
 use native.Mathlib.Nat.{not-suc-le-zero, lt-of-lt-of-le, le-of-eq}
 use lib.Bits.{bitOr}
 use lib.Dec.{eqb, ltb}
 use lib.ListN.{length, getD, set, replicate, getD-replicate, List·getD-eq-default}
 use lib.Seq.{getD-set-same, getD-set-other, set-out}
 use borrow.Author.Tests.{eqb-true, eqb-false, ltb-true, ltb-false}
-use Rattle.ground.specs.Search.{some}
 use Rattle.ground.proofs.Logic.{and-r, and-i, is-false, clash, cases}
-use Rattle.ground.proofs.Search.{some-of, some-ex}
-use Rattle.masks.specs.Mask.{has, within, minus, _⊆_}
 use Rattle.masks.proofs.Laws.Subsets.{minus-within, within-⊆, ⊆-within, ⊆-trans}
+use Rattle.masks.specs.Mask.{has, within, minus, _⊆_}
 use Rattle.sets.specs.Places.{Passed}
 use Rattle.sets.specs.Slices.{slicesOf}
 use Rattle.sets.proofs.Slices.{deleted-inside, inside-of, inside-ex}

@@ -1,15 +1,14 @@
 // Set questions over a checked table. Those with a set b ask it of the table with the sites of b deleted; b = 0 is the table itself.
 ghost use mathlib.Core.Path.{_≡_};
 ghost use mathlib.Core.Bool.{true, false, _&&_, _||_, cond};
-ghost use Prim.Native.Nat.{ℕ, _+_, _*_, _<_, _≤_, _^_};
+ghost use Prim.Native.Nat.{ℕ, _<_, _≤_, _^_};
 ghost use lib.Bits.{bitOr};
 ghost use lib.Dec.{eqb};
-ghost use lib.ListN.{length, getD};
 ghost use Rattle.masks.specs.Mask.{has, single, within, minus, allBelow};
 ghost use Rattle.table.specs.Table.{countOf, sliceOf, Table};
 ghost use Rattle.sets.specs.Slices.{slicesOf};
 ghost use Rattle.sets.specs.Quorum.{quorum, round, largest, rounds};
-ghost use Rattle.sets.specs.Verdicts.{beside, apart, firstApart, meets, dispensable, intact};
+ghost use Rattle.sets.specs.Verdicts.{beside, apart, firstApart, dispensable, intact};
 ghost use Rattle.sets.specs.Places.{Passed};
 
 // The set w blocks site v: it meets every slice of v.

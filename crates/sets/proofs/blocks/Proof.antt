@@ -1,23 +1,20 @@
 -- `blocks` meets its contract: w meets each slice before i.
-use Prim.Native.Nat.{ℕ, _+_, _*_, _-_, _≤_, _<_}
-use mathlib.Core.Bool.{Bool, true, false, not}
-use mathlib.Core.Path.{_≡_, refl, sym, ap, _∙_, subst}
+use Prim.Native.Nat.{ℕ, _-_, _≤_, _<_}
+use mathlib.Core.Bool.{true, not}
+use mathlib.Core.Path.{_≡_, sym, ap, _∙_, subst}
 use native.Mathlib.Omega.{arith}
 use lib.Bits.{bitAnd}
 use lib.Dec.{eqb}
-use lib.ListN.{getD}
 use borrow.Author.Needs.{needs}
 use borrow.Author.Tests.{eq-eqb, ne-eqb}
 use denote.Ref.{now}
-use Rattle.ground.specs.Search.{every}
 use Rattle.ground.proofs.Every.{every-none, every-more, every-not}
+use Rattle.ground.specs.Search.{every}
 use Rattle.sets.specs.Slices.{slicesOf}
+use Rattle.sets.proofs.blocks.Statement.{statement}
 use Rattle.table.proofs.Table.{count-at, slice-at}
 use Rattle.table.specs.Table.{countOf, sliceOf}
-use Rattle.sets.proofs.blocks.Statement.{statement}
 use Rattle.sets.proofs.blocks.Tie as tie
-use Rattle.sets.proofs.blocks.Reads as reads
-use Rattle.sets.proofs.blocks.Lts as lts
 
 abbrev Inv-loop : tie.InvT-loop
 Inv-loop table n w v many i₀ i =
@@ -26,35 +23,11 @@ Inv-loop table n w v many i₀ i =
 abbrev μ-loop : tie.MeasureT-loop
 μ-loop table n w v many i₀ i = many - i
 
-mul-many : tie.Need-mul-many Inv-loop μ-loop
-mul-many c = search needs
-
-mul-many-2 : tie.Need-mul-many-2 Inv-loop μ-loop
-mul-many-2 c = search needs
-
-shared-slice-read-many : tie.Need-shared-slice-read-many Inv-loop μ-loop
-shared-slice-read-many c = search needs
-
 loop-holds : tie.Need-loop-holds Inv-loop μ-loop
 loop-holds c =
     let a = c .before .args in
     let p = c .before .pre in
     (search needs, subst (λ (k : ℕ). k ≤ 62) (count-at (now (a .table)) (a .v)) (p .0 .few-slices (a .v) (p .1)), every-none _)
-
-mul-if1 : tie.Need-mul-if1 Inv-loop μ-loop
-mul-if1 c = search needs
-
-add-if1 : tie.Need-add-if1 Inv-loop μ-loop
-add-if1 c = search needs
-
-add-if1-2 : tie.Need-add-if1-2 Inv-loop μ-loop
-add-if1-2 c = search needs
-
-mul-if1-2 : tie.Need-mul-if1-2 Inv-loop μ-loop
-mul-if1-2 c = search needs
-
-shared-slice-read-if1 : tie.Need-shared-slice-read-if1 Inv-loop μ-loop
-shared-slice-read-if1 c = search needs
 
 returns : tie.Need-returns Inv-loop μ-loop
 unfolding slicesOf
@@ -66,12 +39,6 @@ returns c =
     let e : bitAnd (sliceOf t (a .v) i) (a .w) ≡ 0 = ap (λ (q : ℕ). bitAnd q (a .w)) (slice-at t (a .v) i l) ∙ c .if1 .taken in
     sym (every-not (countOf t (a .v)) (λ k. not (eqb (bitAnd (sliceOf t (a .v) k) (a .w)) 0)) {j = i}
     (subst (λ (k : ℕ). i < k) (sym (count-at t (a .v))) (c .before .before .loop-test .taken)) (ap not (eq-eqb _ 0 e)))
-
-add-i : tie.Need-add-i Inv-loop μ-loop
-add-i c = search needs
-
-loop-less : tie.Need-loop-less Inv-loop μ-loop
-loop-less c = search needs
 
 loop-again : tie.Need-loop-again Inv-loop μ-loop
 loop-again c =
@@ -98,17 +65,17 @@ blocks-spec =
     (tie.spec
     Inv-loop
     μ-loop
-    mul-many
-    mul-many-2
-    shared-slice-read-many
+    (λ c. search needs)
+    (λ c. search needs)
+    (λ c. search needs)
     loop-holds
-    mul-if1
-    add-if1
-    add-if1-2
-    mul-if1-2
-    shared-slice-read-if1
+    (λ c. search needs)
+    (λ c. search needs)
+    (λ c. search needs)
+    (λ c. search needs)
+    (λ c. search needs)
     returns
-    add-i
-    loop-less
+    (λ c. search needs)
+    (λ c. search needs)
     loop-again
     returns-2)

@@ -1,27 +1,21 @@
 -- `first_apart_in` meets its contract: nothing before p is apart, since a set with a member of b is no quorum when b is deleted.
-use Prim.Native.Nat.{ℕ, _+_, _-_, _≤_, _<_, _^_}
+use Prim.Native.Nat.{ℕ, _-_, _≤_, _<_, _^_}
 use mathlib.Core.Bool.{false}
 use mathlib.Core.Path.{_≡_, refl, sym, ap, _∙_, subst}
 use native.Mathlib.Nat.{lt-of-lt-of-le}
 use native.Mathlib.Omega.{arith}
-use lib.Bits.{bitAnd, bitOr, or-lt}
+use lib.Bits.{bitAnd, or-lt}
 use lib.Pow.{pow-mono}
 use borrow.Author.Count.{below-none}
 use borrow.Author.Needs.{needs}
 use denote.Ref.{now}
-use Rattle.masks.specs.Mask.{minus}
 use Rattle.masks.proofs.Laws.Step.{next-apart, next-above, next-le}
 use Rattle.sets.specs.Slices.{slicesOf}
-use Rattle.sets.specs.Verdicts.{apart, firstApart}
+use Rattle.sets.specs.Verdicts.{apart}
 use Rattle.sets.proofs.Slices.{deleted-stays}
 use Rattle.sets.proofs.Verdicts.{first-apart-found, first-apart-none, none-apart-next}
 use Rattle.sets.proofs.first_apart_in.Statement.{statement}
 use Rattle.sets.proofs.first_apart_in.Tie as tie
-use Rattle.sets.proofs.first_apart_in.Reads as reads
-use Rattle.sets.proofs.first_apart_in.Lts as lts
-use Rattle.masks.proofs.minus.Reads as minus-reads
-use Rattle.masks.proofs.single.Reads as single-reads
-use Rattle.sets.proofs.is_apart_in.Reads as is-apart-in-reads
 
 abbrev Inv-loop : tie.InvT-loop
 Inv-loop table n b end p₀ p =
@@ -30,14 +24,8 @@ Inv-loop table n b end p₀ p =
 abbrev μ-loop : tie.MeasureT-loop
 μ-loop table n b end p₀ p = end - p
 
-single-requires : tie.Need-single-requires Inv-loop μ-loop
-single-requires c κs = search needs
-
 loop-holds : tie.Need-loop-holds Inv-loop μ-loop
 loop-holds c = (search needs, refl, below-none _)
-
-is-apart-in-requires : tie.Need-is-apart-in-requires Inv-loop μ-loop
-is-apart-in-requires c κs = search needs
 
 returns : tie.Need-returns Inv-loop μ-loop
 returns c =
@@ -53,9 +41,6 @@ add-minus c =
     let p = c .before .before .before .loop .p in
     let l : p < 2 ^ a .n = subst (λ (k : ℕ). p < k) (c .before .before .before .before .single .ensures) (c .before .before .loop-test .taken) in
     omega (arith, or-lt (a .n) p (a .b) l (s .pre .2), pow-mono (s .pre .1))
-
-minus-requires : tie.Need-minus-requires Inv-loop μ-loop
-minus-requires c κs = search needs
 
 loop-less : tie.Need-loop-less Inv-loop μ-loop
 loop-less c =
@@ -91,12 +76,12 @@ first-apart-in-spec =
     (tie.spec
     Inv-loop
     μ-loop
-    single-requires
+    (λ c κs. search needs)
     loop-holds
-    is-apart-in-requires
+    (λ c κs. search needs)
     returns
     add-minus
-    minus-requires
+    (λ c κs. search needs)
     loop-less
     loop-again
     returns-2)

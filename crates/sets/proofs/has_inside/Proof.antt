@@ -1,24 +1,18 @@
 -- `has_inside` meets its contract: a slice is inside u without the members of b if it is inside u | b.
-use Prim.Native.Nat.{ℕ, zero-le, _+_, _*_, _-_, _≤_, _<_}
-use mathlib.Core.Bool.{Bool, true, false}
+use Prim.Native.Nat.{zero-le}
 use mathlib.Core.Logic.{⊎-elim}
-use mathlib.Core.Path.{_≡_, refl, sym, ap, _∙_, subst}
+use mathlib.Core.Path.{sym, ap, _∙_}
 use native.Mathlib.Nat.{lt-of-lt-of-le}
-use native.Mathlib.Omega.{arith}
-use lib.Bits.{bitOr}
 use lib.Dec.{ltb}
 use borrow.Author.Needs.{needs}
-use borrow.Author.Tests.{lt-ltb, le-ltb, ltb-true, ltb-false}
+use borrow.Author.Tests.{ltb-true, ltb-false}
 use denote.Ref.{now}
 use Rattle.ground.proofs.Logic.{cases}
-use Rattle.masks.proofs.Laws.Subsets.{minus-within}
-use Rattle.table.proofs.Table.{count-at, slice-at}
 use Rattle.sets.proofs.Places.{deleted-gone, deleted-found, deleted-missed}
-use Rattle.table.specs.Table.{countOf, sliceOf}
 use Rattle.sets.proofs.has_inside.Statement.{statement}
+use Rattle.table.proofs.Table.{count-at}
+use Rattle.table.specs.Table.{countOf}
 use Rattle.sets.proofs.has_inside.Tie as tie
-use Rattle.sets.proofs.has_inside.Reads as reads
-use Rattle.sets.proofs.has_inside.Lts as lts
 
 returns : tie.Need-returns
 returns c =

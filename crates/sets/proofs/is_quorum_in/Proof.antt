@@ -1,29 +1,23 @@
 -- `is_quorum_in` meets its contract: each member of q below v has a slice inside q.
-use Prim.Native.Nat.{ℕ, _+_, _-_, _≤_, _<_, _^_}
-use mathlib.Core.Bool.{Bool, true, false, _&&_, not}
+use Prim.Native.Nat.{ℕ, _-_, _≤_, _<_}
+use mathlib.Core.Bool.{true, false}
 use mathlib.Core.Logic.{⊎-elim}
-use mathlib.Core.Path.{_≡_, refl, sym, ap, _∙_, subst}
+use mathlib.Core.Path.{_≡_, sym, ap, _∙_}
 use native.Mathlib.Nat.{lt-of-lt-of-le}
 use native.Mathlib.Omega.{arith}
 use lib.Pow.{ones-lt}
 use borrow.Author.Count.{below-none, below-more}
+use borrow.Author.Needs.{needs}
 use borrow.Author.Tests.{not-true, not-false}
 use denote.Ref.{now}
 use Rattle.ground.proofs.Logic.{clash}
-use Rattle.masks.specs.Mask.{within, allBelow, _∈_, _⊆_}
 use Rattle.masks.proofs.Laws.Subsets.{mem, within-⊆, ∈-below}
+use Rattle.masks.specs.Mask.{within, allBelow, _∈_, _⊆_}
 use Rattle.sets.specs.Quorum.{quorum}
 use Rattle.sets.specs.Slices.{slicesOf}
 use Rattle.sets.proofs.Quorum.{quorum-of, quorum-empty, quorum-outside, quorum-lacks}
-use borrow.Author.Needs.{needs}
 use Rattle.sets.proofs.is_quorum_in.Statement.{statement}
 use Rattle.sets.proofs.is_quorum_in.Tie as tie
-use Rattle.sets.proofs.is_quorum_in.Reads as reads
-use Rattle.sets.proofs.is_quorum_in.Lts as lts
-use Rattle.masks.proofs.all_below.Reads as all-below-reads
-use Rattle.masks.proofs.has.Reads as has-reads
-use Rattle.masks.proofs.within.Reads as within-reads
-use Rattle.sets.proofs.has_inside.Reads as has-inside-reads
 
 abbrev Inv-loop : tie.InvT-loop
 Inv-loop table n b q v₀ v = (v ≤ n) × ((x : ℕ) → x < v → x ∈ q → slicesOf table .deleted b x q ≡ true)
@@ -37,12 +31,6 @@ returns c =
     let s = slicesOf (now (a .table)) .deleted (a .b) in
     sym (ap (quorum s (a .n)) (c .if1 .taken) ∙ quorum-empty s (a .n))
 
-all-below-requires : tie.Need-all-below-requires Inv-loop μ-loop
-all-below-requires c κs = search needs
-
-within-requires : tie.Need-within-requires Inv-loop μ-loop
-within-requires c κs = search needs
-
 returns-2 : tie.Need-returns-2 Inv-loop μ-loop
 returns-2 c =
     let a = c .before .before .before .before .before .args in
@@ -53,23 +41,11 @@ returns-2 c =
 loop-holds : tie.Need-loop-holds Inv-loop μ-loop
 loop-holds c = (search needs, below-none _)
 
-has-requires : tie.Need-has-requires Inv-loop μ-loop
-has-requires c κs = search needs
-
-has-inside-requires : tie.Need-has-inside-requires Inv-loop μ-loop
-has-inside-requires c κs = search needs
-
 returns-3 : tie.Need-returns-3 Inv-loop μ-loop
 returns-3 c =
     let a = c .before .before .before .before .before .before .before .before .before .before .before .args in
     sym (quorum-lacks (slicesOf (now (a .table)) .deleted (a .b)) (a .n) (mem (sym (c .before .before .before .has .ensures) ∙ c .before .before .if3 .taken))
     (sym (c .before .has-inside .ensures) ∙ not-true _ (c .if4 .taken)))
-
-add-v : tie.Need-add-v Inv-loop μ-loop
-add-v c = search needs
-
-loop-less : tie.Need-loop-less Inv-loop μ-loop
-loop-less c = search needs
 
 loop-again : tie.Need-loop-again Inv-loop μ-loop
 loop-again c =
@@ -97,14 +73,14 @@ is-quorum-in-spec =
     Inv-loop
     μ-loop
     returns
-    all-below-requires
-    within-requires
+    (λ c κs. search needs)
+    (λ c κs. search needs)
     returns-2
     loop-holds
-    has-requires
-    has-inside-requires
+    (λ c κs. search needs)
+    (λ c κs. search needs)
     returns-3
-    add-v
-    loop-less
+    (λ c. search needs)
+    (λ c. search needs)
     loop-again
     returns-4)

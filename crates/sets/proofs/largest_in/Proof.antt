@@ -1,10 +1,9 @@
 -- `largest_in` meets its contract: what is left has the answer of w, and the rounds so far and those left make all of them.
-use Prim.Native.Nat.{ℕ, suc, _+_, _≤_, _<_, _^_}
+use Prim.Native.Nat.{ℕ, _+_, _<_}
 use mathlib.Core.Path.{_≡_, refl, sym, ap, _∙_, subst}
 use native.Mathlib.Nat.{zero-add, add-zero}
 use native.Mathlib.Omega.{arith}
 use lib.Count.{ones-le}
-use borrow.Author.Needs.{needs}
 use denote.Ref.{now}
 use Rattle.masks.specs.Mask.{_⊆_}
 use Rattle.sets.specs.Places.{Passed}
@@ -14,9 +13,6 @@ use Rattle.sets.proofs.Places.{passed-none, passed-less}
 use Rattle.sets.proofs.Quorum.{round-⊆, smaller, largest-stop, largest-step, rounds-stop, rounds-step, rounds-few}
 use Rattle.sets.proofs.largest_in.Statement.{statement}
 use Rattle.sets.proofs.largest_in.Tie as tie
-use Rattle.sets.proofs.largest_in.Reads as reads
-use Rattle.sets.proofs.largest_in.Lts as lts
-use Rattle.sets.proofs.round_from.Reads as round-from-reads
 
 abbrev Inv-loop : tie.InvT-loop
 Inv-loop table n b w places₀ set₀ count₀ places set count =

@@ -1,20 +1,17 @@
 -- `next_inside` meets its contract: no slice from start up to i is inside u.
-use Prim.Native.Nat.{ℕ, _+_, _*_, _-_, _≤_, _<_}
-use mathlib.Core.Bool.{Bool, true, false}
-use mathlib.Core.Path.{_≡_, refl, sym, ap, _∙_, subst}
-use native.Mathlib.Nat.{lt-of-lt-of-le, le-of-eq, lt-of-le-of-lt, lt-irrefl}
+use Prim.Native.Nat.{ℕ, _-_, _≤_, _<_}
+use mathlib.Core.Bool.{false}
+use mathlib.Core.Path.{_≡_, sym, ap, _∙_, subst}
+use native.Mathlib.Nat.{lt-of-lt-of-le, lt-irrefl}
 use native.Mathlib.Omega.{arith}
 use borrow.Author.Count.{below-more}
 use borrow.Author.Needs.{needs}
 use denote.Ref.{now}
 use Rattle.masks.specs.Mask.{within}
+use Rattle.sets.proofs.next_inside.Statement.{statement}
 use Rattle.table.proofs.Table.{count-at, slice-at}
 use Rattle.table.specs.Table.{countOf, sliceOf}
-use Rattle.sets.proofs.next_inside.Statement.{statement}
 use Rattle.sets.proofs.next_inside.Tie as tie
-use Rattle.sets.proofs.next_inside.Reads as reads
-use Rattle.sets.proofs.next_inside.Lts as lts
-use Rattle.masks.proofs.within.Reads as within-reads
 
 abbrev Inv-loop : tie.InvT-loop
 Inv-loop table n v u start many i₀ i = (many ≤ 62) × ((k : ℕ) → k < i → start ≤ k → within (sliceOf table v k) u ≡ false)
@@ -22,38 +19,11 @@ Inv-loop table n v u start many i₀ i = (many ≤ 62) × ((k : ℕ) → k < i �
 abbrev μ-loop : tie.MeasureT-loop
 μ-loop table n v u start many i₀ i = many - i
 
-mul-many : tie.Need-mul-many Inv-loop μ-loop
-mul-many c = search needs
-
-mul-many-2 : tie.Need-mul-many-2 Inv-loop μ-loop
-mul-many-2 c = search needs
-
-shared-slice-read-many : tie.Need-shared-slice-read-many Inv-loop μ-loop
-shared-slice-read-many c = search needs
-
 loop-holds : tie.Need-loop-holds Inv-loop μ-loop
 loop-holds c =
     let a = c .before .before .args in
     let p = c .before .before .pre in
     (subst (λ (k : ℕ). k ≤ 62) (count-at (now (a .table)) (a .v)) (p .0 .few-slices (a .v) (p .1)), λ k l m. absurd (lt-irrefl _ (lt-of-lt-of-le l m)))
-
-mul-within : tie.Need-mul-within Inv-loop μ-loop
-mul-within c = search needs
-
-add-within : tie.Need-add-within Inv-loop μ-loop
-add-within c = search needs
-
-add-within-2 : tie.Need-add-within-2 Inv-loop μ-loop
-add-within-2 c = search needs
-
-mul-within-2 : tie.Need-mul-within-2 Inv-loop μ-loop
-mul-within-2 c = search needs
-
-shared-slice-read-within : tie.Need-shared-slice-read-within Inv-loop μ-loop
-shared-slice-read-within c = search needs
-
-within-requires : tie.Need-within-requires Inv-loop μ-loop
-within-requires c κs = search needs
 
 returns : tie.Need-returns Inv-loop μ-loop
 returns c =
@@ -68,12 +38,6 @@ returns c =
         λ k m h. l .inv .1 k h m,
       ),
     )
-
-add-i : tie.Need-add-i Inv-loop μ-loop
-add-i c = search needs
-
-loop-less : tie.Need-loop-less Inv-loop μ-loop
-loop-less c = search needs
 
 loop-again : tie.Need-loop-again Inv-loop μ-loop
 loop-again c =
@@ -96,18 +60,18 @@ next-inside-spec =
     (tie.spec
     Inv-loop
     μ-loop
-    mul-many
-    mul-many-2
-    shared-slice-read-many
+    (λ c. search needs)
+    (λ c. search needs)
+    (λ c. search needs)
     loop-holds
-    mul-within
-    add-within
-    add-within-2
-    mul-within-2
-    shared-slice-read-within
-    within-requires
+    (λ c. search needs)
+    (λ c. search needs)
+    (λ c. search needs)
+    (λ c. search needs)
+    (λ c. search needs)
+    (λ c κs. search needs)
     returns
-    add-i
-    loop-less
+    (λ c. search needs)
+    (λ c. search needs)
     loop-again
     returns-2)

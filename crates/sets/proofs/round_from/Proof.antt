@@ -1,23 +1,18 @@
 -- `round_from` meets its contract: the sites below v that stay are gathered.
-use Prim.Native.Nat.{ℕ, _+_, _-_, _≤_, _<_}
-use mathlib.Core.Bool.{Bool, true, false, _&&_, cond}
-use mathlib.Core.Logic.{⊎-elim}
-use mathlib.Core.Path.{_≡_, refl, sym, ap, ap₂, _∙_, subst}
+use Prim.Native.Nat.{ℕ, _-_, _≤_}
+use mathlib.Core.Bool.{_&&_}
+use mathlib.Core.Path.{_≡_, ap₂, _∙_, subst}
 use native.Mathlib.Omega.{arith}
-use lib.Bits.{bitOr, or-zero-r}
+use lib.Bits.{bitOr}
 use borrow.Author.Needs.{needs}
 use denote.Ref.{now}
-use Rattle.ground.proofs.Logic.{cases}
-use Rattle.masks.specs.Mask.{has, single, gather}
-use Rattle.masks.proofs.Laws.Gather.{gather-none, gather-took, gather-left}
+use Rattle.masks.proofs.Laws.Gather.{gather-none, gather-more}
+use Rattle.masks.specs.Mask.{has, gather}
 use Rattle.sets.specs.Places.{Passed}
 use Rattle.sets.specs.Quorum.{round}
 use Rattle.sets.specs.Slices.{slicesOf}
 use Rattle.sets.proofs.round_from.Statement.{statement}
 use Rattle.sets.proofs.round_from.Tie as tie
-use Rattle.sets.proofs.round_from.Reads as reads
-use Rattle.sets.proofs.round_from.Lts as lts
-use Rattle.sets.proofs.stays.Reads as stays-reads
 
 abbrev Inv-loop : tie.InvT-loop
 Inv-loop table n b w places₀ stay₀ v₀ places stay v =
@@ -34,22 +29,10 @@ stays-requires c κs =
     let p = c .before .before .before .before .pre in
     (p .0, c .before .loop-test .taken, c .before .before .loop .inv .2)
 
-add-v : tie.Need-add-v Inv-loop μ-loop
-add-v c = search needs
-
-loop-less : tie.Need-loop-less Inv-loop μ-loop
-loop-less c = search needs
-
--- one site more
-more : (v : ℕ) (p : ℕ → Bool) → bitOr (gather v p) (cond (p v) (single v) 0) ≡ gather (v + 1) p
-more v p =
-    ⊎-elim (λ e. ap (λ (b : Bool). bitOr (gather v p) (cond b (single v) 0)) e ∙ gather-took v p e)
-    (λ e. ap (λ (b : Bool). bitOr (gather v p) (cond b (single v) 0)) e ∙ or-zero-r (gather v p) ∙ gather-left v p e) (cases (p v))
-
 loop-again : tie.Need-loop-again Inv-loop μ-loop
 loop-again c =
     let l = c .before .before .before .loop in
-    (omega arith, ap₂ bitOr (l .inv .1) (c .stays .ensures .0) ∙ more (l .v) _, c .stays .ensures .1)
+    (omega arith, ap₂ bitOr (l .inv .1) (c .stays .ensures .0) ∙ gather-more (l .v) _, c .stays .ensures .1)
 
 returns : tie.Need-returns Inv-loop μ-loop
 unfolding round
@@ -68,7 +51,7 @@ round-from-spec =
     μ-loop
     loop-holds
     stays-requires
-    add-v
-    loop-less
+    (λ c. search needs)
+    (λ c. search needs)
     loop-again
     returns)

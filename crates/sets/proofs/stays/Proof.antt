@@ -1,29 +1,18 @@
 -- `stays` meets its contract: every slice before the place fails, old and new, so v has one inside exactly if its new place is a slice.
-use Prim.Native.Nat.{ℕ, _+_, _*_, _-_, _≤_, _<_, _^_}
-use mathlib.Core.Bool.{Bool, true, false, _&&_, cond}
-use mathlib.Core.Path.{_≡_, refl, sym, ap, _∙_, subst}
+use Prim.Native.Nat.{ℕ, _≤_, _<_}
+use mathlib.Core.Bool.{true, false}
+use mathlib.Core.Path.{_≡_, refl, sym, _∙_, subst}
 use native.Mathlib.Nat.{lt-of-lt-of-le}
 use native.Mathlib.Omega.{arith}
-use lib.Bits.{bitOr}
-use lib.ListN.{getD, length, set}
-use lib.Seq.{getD-set-same}
 use borrow.Author.Needs.{needs}
 use borrow.Author.Tests.{not-true, not-false}
 use denote.Ref.{now}
-use Rattle.ground.proofs.Logic.{and-i}
-use Rattle.masks.specs.Mask.{has, single}
-use Rattle.sets.specs.Places.{Passed}
-use Rattle.sets.specs.Slices.{slicesOf}
-use Rattle.table.proofs.Table.{count-at}
+use Rattle.masks.specs.Mask.{has}
 use Rattle.sets.proofs.Places.{deleted-gone, deleted-found, deleted-missed, passed-to, passed-more}
-use Rattle.table.specs.Table.{countOf}
 use Rattle.sets.proofs.stays.Statement.{statement}
+use Rattle.table.proofs.Table.{count-at}
+use Rattle.table.specs.Table.{countOf}
 use Rattle.sets.proofs.stays.Tie as tie
-use Rattle.sets.proofs.stays.Reads as reads
-use Rattle.sets.proofs.stays.Lts as lts
-use Rattle.masks.proofs.has.Reads as has-reads
-use Rattle.masks.proofs.single.Reads as single-reads
-use Rattle.sets.proofs.next_inside.Reads as next-inside-reads
 
 returns : tie.Need-returns
 returns c =
