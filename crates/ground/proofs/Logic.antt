@@ -50,3 +50,8 @@ or-i false b e = e
 pub or-e : (a b : Bool) → a || b ≡ true → (a ≡ true) ⊎ (b ≡ true)
 or-e true b e = inl refl
 or-e false b e = inr e
+
+-- neither of two tests passes
+pub or-none : (a b : Bool) → a || b ≡ false → (a ≡ false) × (b ≡ false)
+or-none true b e = absurd (true≢false e)
+or-none false b e = (refl, e)

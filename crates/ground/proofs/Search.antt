@@ -8,7 +8,7 @@ use native.Mathlib.Numerals.{add-one}
 use native.Mathlib.Omega.{arith}
 use borrow.Author.Tests.{lt-ltb, le-ltb}
 use Rattle.ground.specs.Search.{some, least}
-use Rattle.ground.proofs.Logic.{cases, or-i, or-e}
+use Rattle.ground.proofs.Logic.{is-false, clash, cases, or-i, or-e}
 
 pub some-of : (k : ℕ) (p : ℕ → Bool) {j : ℕ} → j < k → p j ≡ true → some k p ≡ true
 unfolding some
@@ -89,3 +89,10 @@ least-before (suc k) p j l =
     (λ h. ⊎-elim (λ q. ap p q ∙ h) (λ m. ih (subst (λ (x : ℕ). j < x) (sym e) m))
     (eq-or-lt-of-le (le-of-suc-le-suc (subst (λ (x : ℕ). j < x) (at-end k p e ∙ ap (λ (b : Bool). cond b k (suc k)) h) l)))) (cases (p k)))
     (λ m. ih (subst (λ (x : ℕ). j < x) (found k p m) l)) (eq-or-lt-of-le (least-le k p))
+
+-- none passes: each fails
+pub none-each : (k : ℕ) (p : ℕ → Bool) (j : ℕ) → some k p ≡ false → j < k → p j ≡ false
+none-each k p j e l = is-false (p j) (λ h. clash (some-of k p l h) e)
+
+pub each-none : (k : ℕ) (p : ℕ → Bool) → ((j : ℕ) → j < k → p j ≡ false) → some k p ≡ false
+each-none k p f = is-false (some k p) (λ h. let r = some-ex k p h in clash (r .2) (f (r .0) (r .1)))
