@@ -1,1 +1,4 @@
 pub mod State
+pub mod Rules
+pub mod Alone
+pub mod Worked
