@@ -2,3 +2,4 @@ pub mod State
 pub mod Rules
 pub mod Alone
 pub mod Worked
+pub mod Heard
