@@ -3,3 +3,4 @@ pub mod Rules
 pub mod Alone
 pub mod Worked
 pub mod Heard
+pub mod Answer
