@@ -4,7 +4,7 @@ use Prim.Native.Nat.{ℕ, _<_}
 use mathlib.Core.Bool.{Bool}
 use mathlib.Core.List.{List}
 use mathlib.Core.Logic.{_⊎_, inl, inr, ⊎-elim}
-use mathlib.Core.Path.{_≡_}
+use mathlib.Core.Path.{_≡_, sym, subst₂}
 use native.Mathlib.Omega.{arith}
 use Rattle.ground.proofs.Logic.{iff}
 use Rattle.ground.proofs.Numbers.{same?}
@@ -61,8 +61,12 @@ module _ (n v side m : ℕ) (s : List ℕ) where
 abbrev pub Other : ℕ → ℕ → ℕ → ℕ → Type 0
 Other v side w τ = (τ ≡ side → ⊥) ⊎ (w ≡ v → ⊥)
 
-pub other? : (v side w τ : ℕ) → ((τ ≡ side) × (w ≡ v)) ⊎ Other v side w τ
+other? : (v side w τ : ℕ) → ((τ ≡ side) × (w ≡ v)) ⊎ Other v side w τ
 other? v side w τ = ⊎-elim (λ e. ⊎-elim (λ f. inl (e, f)) (λ f. inr (inr f)) (same? w v)) (λ e. inr (inl e)) (same? τ side)
+
+-- what holds of v and the side, and of any other site or side, holds of every one
+pub here-or-other : (R : ℕ → ℕ → Type 0) {v side w τ : ℕ} → R v side → (Other v side w τ → R w τ) → R w τ
+here-or-other R {v} {side} {w} {τ} r f = ⊎-elim (λ x. subst₂ R (sym (x .1)) (sym (x .0)) r) f (other? v side w τ)
 
 module _ {n v side : ℕ} (hv : v < n) (hs : side < 2) {s t : List ℕ} (A : Alone n v side s t) where
   same-set : (i : ℕ) → ((u : ℕ) → Elsewhere n v side i u) → get t i ≡ get s i

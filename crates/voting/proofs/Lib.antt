@@ -4,3 +4,5 @@ pub mod Alone
 pub mod Worked
 pub mod Heard
 pub mod Answer
+pub mod Sound
+pub mod Taken

@@ -99,3 +99,7 @@ fresh-get n i = go (decLt i (size n))
 
 pub fresh-none : (n i : ℕ) {v : ℕ} → v ∈ get (fresh n) i → ⊥
 fresh-none n i h = not-in-zero (at (fresh-get n i) h)
+
+-- it is below each state of its length
+pub fresh-least : (n : ℕ) {s : List ℕ} → length s ≡ size n → Below (fresh n) s
+fresh-least n e = record { long = fresh-length n ∙ sym e; each = λ i. record { each = λ v h. absurd (fresh-none n i h) } }

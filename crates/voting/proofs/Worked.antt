@@ -3,8 +3,9 @@ use Prim.Native.Nat.{ℕ, _<_}
 use mathlib.Core.Bool.{Bool, true}
 use mathlib.Core.List.{List}
 use mathlib.Core.Logic.{_⊎_, inl, inr, ⊎-elim}
-use mathlib.Core.Path.{_≡_, ap, _∙_}
+use mathlib.Core.Path.{_≡_, ap, ap₂, _∙_}
 use native.Mathlib.Omega.{arith}
+use lib.Bits.{bitOr}
 use lib.ListN.{length}
 use Rattle.masks.specs.Mask.{_∈_}
 use Rattle.masks.proofs.Laws.Single.{single-∈}
@@ -13,8 +14,8 @@ use Rattle.sets.specs.Promises.{Questions, Promises}
 use Rattle.voting.specs.Rules.{only, accepting, confirming, nowAccepts, nowConfirms}
 use Rattle.voting.specs.State.{votes, accepts, accepted, confirmed, size, get, add, Below}
 use Rattle.voting.proofs.Alone.{Alone, alone-trans, alone-accepts, alone-accepted, alone-confirmed}
-use Rattle.voting.proofs.Rules.{only-⊆, ∈-only, only-holds, only-still, only-grows, accepting-grows, confirming-grows}
-use Rattle.voting.proofs.State.{length-add, get-add-other, add-adds, add-grows, add-still, add-there, add-cases}
+use Rattle.voting.proofs.Rules.{only-⊆, ∈-only, only-holds, only-still, only-grows, accepting-own, accepting-grows, confirming-grows}
+use Rattle.voting.proofs.State.{length-add, get-add, get-add-other, add-adds, add-grows, add-still, add-there, add-cases}
 
 module _ (Q : Questions) (v side : ℕ) where
   -- site v accepts, or confirms, from what it has heard
@@ -86,6 +87,17 @@ module _ (Q : Questions) (n v side : ℕ) (s : List ℕ) where
     nowAccepts-accepts e =
         let a = only (acceptsNow Q v side s) v in
         add-there (accepts side v) a (add (accepted n side) a s) (omega (arith, length-add (accepted n side) a s)) .each v (∈-only v e)
+
+    -- the rule says the same once the own accept is heard
+    pub acceptsNow-after : acceptsNow Q v side (nowAccepts Q n v side s) ≡ acceptsNow Q v side s
+    unfolding nowAccepts
+    acceptsNow-after =
+        let b = acceptsNow Q v side s in
+        let a = only b v in
+        let t = add (accepted n side) a s in
+        let heardAccepts : get (add (accepts side v) a t) (accepts side v) ≡ bitOr (get s (accepts side v)) a = get-add (accepts side v) a t (omega (arith, length-add (accepted n side) a s)) ∙ ap (λ (m : ℕ). bitOr m a) (get-add-other (accepted n side) a s (λ e. omega arith)) in
+        let heardVotes : get (add (accepts side v) a t) (votes side v) ≡ get s (votes side v) = get-add-other (accepts side v) a t (λ e. omega arith) ∙ get-add-other (accepted n side) a s (λ e. omega arith) in
+        ap₂ (accepting Q v) heardVotes heardAccepts ∙ accepting-own Q v (get s (votes side v)) (get s (accepts side v)) (only-⊆ b v)
 
     pub nowConfirms-confirmed : confirmsNow Q v side s ≡ true → v ∈ get (nowConfirms Q n v side s) (confirmed n side)
     unfolding nowConfirms
