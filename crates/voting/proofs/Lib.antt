@@ -6,3 +6,5 @@ pub mod Heard
 pub mod Answer
 pub mod Sound
 pub mod Taken
+pub mod Inner
+pub mod Steps
