@@ -8,3 +8,4 @@ pub mod Sound
 pub mod Taken
 pub mod Inner
 pub mod Steps
+pub mod Exact
