@@ -4,5 +4,6 @@ pub mod Subsets
 pub mod Gather
 pub mod Apart
 pub mod AllBelow
+pub mod Single
 pub mod Size
 pub mod Step

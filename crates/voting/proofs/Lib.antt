@@ -1,0 +1,11 @@
+pub mod State
+pub mod Rules
+pub mod Alone
+pub mod Worked
+pub mod Heard
+pub mod Answer
+pub mod Sound
+pub mod Taken
+pub mod Inner
+pub mod Steps
+pub mod Exact

@@ -1,0 +1,73 @@
+-- Laws of the two rules: they grow with what was heard, leave the own accept out, and say no where nothing was heard.
+use Prim.Native.Nat.{ℕ, _<_}
+use mathlib.Core.Bool.{Bool, true, false, _||_, false≢true}
+use mathlib.Core.List.{List}
+use mathlib.Core.Logic.{⊎-elim}
+use mathlib.Core.Path.{_≡_, refl, sym, ap, _∙_, subst}
+use lib.Bits.{bitOr}
+use Rattle.ground.proofs.Logic.{is-false, clash, or-i, or-e}
+use Rattle.masks.specs.Mask.{single, minus, _∈_, _⊆_}
+use Rattle.masks.proofs.Laws.Single.{∈-single, single-⊆, ∈-or, or-grows, minus-grows, minus-added}
+use Rattle.masks.proofs.Laws.Subsets.{not-in-zero, ⊆-refl, ⊆-zero, minus-⊆}
+use Rattle.sets.specs.Paper.{Fbqs}
+use Rattle.sets.specs.Promises.{Questions, Promises}
+use Rattle.voting.specs.Rules.{only, others, accepting, confirming, nowAccepts, nowConfirms}
+use Rattle.voting.specs.State.{votes, accepts, accepted, confirmed, get, add, Below}
+use Rattle.voting.specs.Theorems.{Rests}
+use Rattle.voting.proofs.State.{below-trans, add-adds, add-grows, add-still}
+
+-- the site alone if the test holds
+
+pub only-⊆ : (b : Bool) (v : ℕ) → only b v ⊆ single v
+only-⊆ true v = ⊆-refl (single v)
+only-⊆ false v = ⊆-zero (single v)
+
+pub ∈-only : {b : Bool} (v : ℕ) → b ≡ true → v ∈ only b v
+∈-only v e = subst (λ (b : Bool). v ∈ only b v) (sym e) (∈-single v)
+
+pub only-holds : (b : Bool) {u : ℕ} (v : ℕ) → u ∈ only b v → b ≡ true
+only-holds true v h = refl
+only-holds false v h = absurd (not-in-zero h)
+
+pub only-still : (b : Bool) (v : ℕ) {m : ℕ} → (b ≡ true → v ∈ m) → only b v ⊆ m
+only-still true v f = single-⊆ (f refl)
+only-still false v {m} f = ⊆-zero m
+
+pub only-grows : (a b : Bool) (v : ℕ) → (a ≡ true → b ≡ true) → only a v ⊆ only b v
+only-grows a b v f = only-still a v (λ e. ∈-only v (f e))
+
+-- the two rules
+
+-- the own accept is not counted
+pub accepting-own : (Q : Questions) (v a b : ℕ) {m : ℕ} → m ⊆ single v → accepting Q v a (bitOr b m) ≡ accepting Q v a b
+unfolding accepting
+accepting-own Q v a b p = ap (λ (x : ℕ). Q .inQuorum v (bitOr a x) || Q .blocked v x) (minus-added b p)
+
+module _ {S : ℕ → Fbqs} {Q : Questions} (P : Promises S Q) where
+  pub accepting-grows : (v : ℕ) {a b c d : ℕ} → a ⊆ c → b ⊆ d → accepting Q v a b ≡ true → accepting Q v c d ≡ true
+  unfolding accepting
+  accepting-grows v {a} {b} {c} {d} p q e =
+      let r : others b v ⊆ others d v = minus-grows (single v) q in
+      ⊎-elim
+      (λ x. ap (λ (y : Bool). y || Q .blocked v (others d v)) (P .quorum-grows v (bitOr a (others b v)) (bitOr c (others d v)) (or-grows p r) x))
+      (λ x. or-i (Q .inQuorum v (bitOr c (others d v))) (Q .blocked v (others d v)) (P .blocked-grows v (others b v) (others d v) r x))
+      (or-e (Q .inQuorum v (bitOr a (others b v))) (Q .blocked v (others b v)) e)
+
+  pub confirming-grows : (v : ℕ) {a b : ℕ} → a ⊆ b → confirming Q v a ≡ true → confirming Q v b ≡ true
+  unfolding confirming
+  confirming-grows v {a} {b} p = P .quorum-grows v a b p
+
+-- where nothing was heard
+module _ {S : ℕ → Fbqs} {Q : Questions} {n : ℕ} (R : Rests S Q n) where
+  pub accepting-nothing : (v : ℕ) → v < n → accepting Q v 0 0 ≡ false
+  unfolding accepting
+  accepting-nothing v h =
+      is-false (Q .inQuorum v (bitOr 0 (others 0 v)) || Q .blocked v (others 0 v))
+      (λ e. ⊎-elim
+      (λ x. ⊎-elim not-in-zero (λ y. not-in-zero (minus-⊆ 0 (single v) .each v y)) (∈-or 0 (others 0 v) (R .promises .quorum-member v (bitOr 0 (others 0 v)) x)))
+      (λ x. clash (R .promises .blocked-grows v (others 0 v) 0 (minus-⊆ 0 (single v)) x) (R .promises .nobody-blocked v (R .sites v h)))
+      (or-e (Q .inQuorum v (bitOr 0 (others 0 v))) (Q .blocked v (others 0 v)) e))
+
+  pub confirming-nothing : (v : ℕ) → confirming Q v 0 ≡ false
+  unfolding confirming
+  confirming-nothing v = is-false (Q .inQuorum v 0) (λ e. not-in-zero (R .promises .quorum-member v 0 e))
