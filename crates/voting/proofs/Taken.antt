@@ -20,9 +20,9 @@ use Rattle.voting.specs.State.{votes, accepts, voted, accepted, confirme
 use Rattle.voting.proofs.Alone.{Alone, alone-trans, Other, here-or-other, same-votes, same-accepts, same-voted, same-accepted, same-confirmed}
 use Rattle.voting.proofs.Answer.{Takes}
 use Rattle.voting.proofs.Heard.{hears-alone, hears-grows, hears-cases, hears-kept, says-below, says-voted, says-votes, says-accepts, proposal-voted, proposal-heard}
-use Rattle.voting.proofs.Sound.{voted-heard, accepted-heard, accepted-rule, confirmed-rule}
+use Rattle.voting.proofs.SoundLaws.{voted-heard, accepted-heard, accepted-rule, confirmed-rule}
 use Rattle.voting.proofs.State.{below-trans, at}
-use Rattle.voting.proofs.Worked.{acceptsNow, confirmsNow, nowAccepts-alone, nowConfirms-alone, nowAccepts-else, nowConfirms-else, nowAccepts-cases, nowConfirms-cases, nowAccepts-accepted, nowAccepts-accepts, nowConfirms-confirmed, acceptsNow-after, acceptsNow-grows, confirmsNow-grows, nowAccepts-grows, nowConfirms-grows}
+use Rattle.voting.proofs.Receiver.{acceptsNow, confirmsNow, nowAccepts-alone, nowConfirms-alone, nowAccepts-else, nowConfirms-else, nowAccepts-cases, nowConfirms-cases, nowAccepts-accepted, nowAccepts-accepts, nowConfirms-confirmed, acceptsNow-after, acceptsNow-grows, confirmsNow-grows, nowAccepts-grows, nowConfirms-grows}
 
 -- the receiver alone changes, and a taken call only adds
 pub taken-alone : (Q : Questions) (n : ℕ) (c : Call) (s : List ℕ) → Alone n (c .to) (c .side) s (taken Q n c s)

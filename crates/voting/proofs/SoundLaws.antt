@@ -18,9 +18,9 @@ use Rattle.voting.specs.Rules.{Call, accepting, confirming, hears, nowAc
 use Rattle.voting.specs.Sound.{Sound}
 use Rattle.voting.specs.State.{votes, accepts, voted, accepted, confirmed, size, fresh, get, Below}
 use Rattle.voting.specs.Theorems.{Rests, FreshSound}
-use Rattle.voting.proofs.Rules.{accepting-nothing, confirming-nothing}
+use Rattle.voting.proofs.RuleLaws.{accepting-nothing, confirming-nothing}
 use Rattle.voting.proofs.State.{below-trans, at, fresh-length, fresh-get, fresh-none}
-use Rattle.voting.proofs.Worked.{acceptsNow, confirmsNow}
+use Rattle.voting.proofs.Receiver.{acceptsNow, confirmsNow}
 
 -- what the clauses say in facts
 
