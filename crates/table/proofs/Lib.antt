@@ -1,3 +1,4 @@
+pub mod Examples
 pub mod Row
 pub mod Table
 pub mod Exact

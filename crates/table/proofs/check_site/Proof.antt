@@ -1,6 +1,7 @@
 -- `check_site` meets its contract: each way out is the definition at what was found before it.
 use mathlib.Core.Bool.{Bool}
 use mathlib.Core.Path.{sym, ap, _∙_}
+use native.Mathlib.Omega.{arith}
 use borrow.Author.Needs.{needs}
 use denote.Ref.{now}
 use Rattle.refusals.specs.First.{refuse}
@@ -15,14 +16,14 @@ unfolding siteCheck
 returns c =
     let a = c .before .before .before .args in
     let m = now (a .m) in
-    sym (no-slice (a .n) (a .v) (count m) (slice m) (unclean m) (c .if1 .taken))
+    sym (no-slice (a .n) (a .v) (count m) (slice m) (unclean m) (omega arith))
 
 returns-2 : tie.Need-returns-2
 unfolding siteCheck
 returns-2 c =
     let a = c .before .before .before .before .args in
     let m = now (a .m) in
-    sym (many-slices (a .n) (a .v) (count m) (slice m) (unclean m) (c .if2 .taken))
+    sym (many-slices (a .n) (a .v) (count m) (slice m) (unclean m) (omega arith))
 
 returns-3 : tie.Need-returns-3
 unfolding siteCheck
@@ -32,7 +33,7 @@ returns-3 c =
     let b = c .before .before in
     let e = c .enum-told2 .given .1 in
     e
-    ∙ sym (bad-slice (a .n) (a .v) (count m) (slice m) (unclean m) (b .before .before .if1 .left) (b .before .if2 .left) _ (sym (b .check-slices .ensures) ∙ e))
+    ∙ sym (bad-slice (a .n) (a .v) (count m) (slice m) (unclean m) (λ e. omega arith) (omega arith) _ (sym (b .check-slices .ensures) ∙ e))
 
 returns-4 : tie.Need-returns-4
 unfolding siteCheck
@@ -40,7 +41,7 @@ returns-4 c =
     let a = c .before .before .before .before .before .before .before .before .before .args in
     let m = now (a .m) in
     let b = c .before .before .before .before in
-    sym (good-slices (a .n) (a .v) (count m) (slice m) (unclean m) (b .before .before .if1 .left) (b .before .if2 .left) (sym (b .check-slices .ensures) ∙ c .before .before .enum-told .given .1)
+    sym (good-slices (a .n) (a .v) (count m) (slice m) (unclean m) (λ e. omega arith) (omega arith) (sym (b .check-slices .ensures) ∙ c .before .before .enum-told .given .1)
     ∙ ap (λ (u : Bool). refuse u (Filler (a .v))) (sym (c .before .is-unclean .ensures) ∙ c .if3 .taken))
 
 returns-5 : tie.Need-returns-5
@@ -49,7 +50,7 @@ returns-5 c =
     let a = c .before .before .before .before .before .before .before .before .before .args in
     let m = now (a .m) in
     let b = c .before .before .before .before in
-    sym (good-slices (a .n) (a .v) (count m) (slice m) (unclean m) (b .before .before .if1 .left) (b .before .if2 .left) (sym (b .check-slices .ensures) ∙ c .before .before .enum-told .given .1)
+    sym (good-slices (a .n) (a .v) (count m) (slice m) (unclean m) (λ e. omega arith) (omega arith) (sym (b .check-slices .ensures) ∙ c .before .before .enum-told .given .1)
     ∙ ap (λ (u : Bool). refuse u (Filler (a .v))) (sym (c .before .is-unclean .ensures) ∙ c .if3 .left))
 
 pub check-site-spec : {M : Type 1} → statement M

@@ -31,7 +31,7 @@ returns c =
     let l = c .before .before .before .before .before .loop in
     let e = c .enum-told2 .given .1 in
     e
-    ∙ sym (first-stop (λ w. siteCheck (a .n) w (siteOf t w)) (a .n) (l .v) _ (c .before .before .before .before .loop-test .taken) (l .inv .1)
+    ∙ sym (first-stop (λ w. siteCheck (a .n) w (siteOf t w)) (a .n) (l .v) _ (omega arith) (l .inv .1)
     (ap (λ (m : List ℕ). siteCheck (a .n) (l .v) m) (sym (part-cut 63 (l .v) t)) ∙ sym (c .before .before .check-site .ensures) ∙ e))
 
 loop-again : tie.Need-loop-again Inv-loop μ-loop

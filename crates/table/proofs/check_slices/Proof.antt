@@ -28,7 +28,7 @@ returns c =
     let l = c .before .before .before .before .loop in
     let e = c .enum-told2 .given .1 in
     e
-    ∙ sym (first-stop (sliceCheck (a .n) (a .v) (slice (now (a .m)))) (a .many) (l .k) _ (c .before .before .before .loop-test .taken) (l .inv .1)
+    ∙ sym (first-stop (sliceCheck (a .n) (a .v) (slice (now (a .m)))) (a .many) (l .k) _ (omega arith) (l .inv .1)
     (sym (c .before .before .check-slice .ensures) ∙ e))
 
 loop-again : tie.Need-loop-again Inv-loop μ-loop

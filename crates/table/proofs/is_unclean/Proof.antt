@@ -26,7 +26,7 @@ returns : tie.Need-returns Inv-loop μ-loop
 unfolding unclean
 returns c =
     let m = now (c .before .before .before .before .before .args .m) in
-    sym (some-of (62 - count m) (λ j. not (eqb (slice m (count m + j)) 0)) (c .before .before .loop-test .taken) (ap not (ne-eqb _ 0 (c .if1 .taken))))
+    sym (some-of (62 - count m) (λ j. not (eqb (slice m (count m + j)) 0)) (omega arith) (ap not (ne-eqb _ 0 (c .if1 .taken))))
 
 loop-again : tie.Need-loop-again Inv-loop μ-loop
 loop-again c = (search needs, some-more _ _ (c .before .before .before .loop .inv .1) (ap not (eq-eqb _ 0 (c .if1 .left))))
