@@ -8,14 +8,14 @@ use native.Mathlib.Omega.{arith}
 use lib.ListN.{length}
 use borrow.Author.Tests.{eq-eqb, ne-eqb}
 use Rattle.ground.proofs.Numbers.{same?}
-use Rattle.masks.specs.Mask.{has, single, _∈_}
 use Rattle.masks.proofs.Laws.Single.{∈-single, single-∈, single-⊆}
 use Rattle.masks.proofs.Laws.Subsets.{mem, ⊆-refl, ⊆-antisym}
+use Rattle.masks.specs.Mask.{has, single, _∈_}
 use Rattle.voting.specs.Inner.{InRange, heard}
 use Rattle.voting.specs.Rules.{Call, hears}
 use Rattle.voting.specs.State.{votes, accepts, voted, size, get, add, Below}
 use Rattle.voting.proofs.Alone.{Alone, alone-trans, alone-votes, alone-accepts, alone-voted}
-use Rattle.voting.proofs.State.{below-trans, length-add, get-add-other, add-adds, add-grows, add-still, add-there, add-cases}
+use Rattle.voting.proofs.State.{length-add, add-adds, add-grows, add-still, add-there, add-cases}
 
 -- by the kind of the call
 module _ (n : ℕ) (c : Call) (s : List ℕ) where

@@ -7,8 +7,8 @@ use mathlib.Core.Path.{_≡_, ap, ap₂, _∙_}
 use native.Mathlib.Omega.{arith}
 use lib.Bits.{bitOr}
 use lib.ListN.{length}
-use Rattle.masks.specs.Mask.{_∈_}
 use Rattle.masks.proofs.Laws.Single.{single-∈}
+use Rattle.masks.specs.Mask.{_∈_}
 use Rattle.sets.specs.Paper.{Fbqs}
 use Rattle.sets.specs.Promises.{Questions, Promises}
 use Rattle.voting.specs.Rules.{only, accepting, confirming, nowAccepts, nowConfirms}
