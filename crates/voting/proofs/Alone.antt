@@ -52,13 +52,15 @@ module _ (n v side m : ℕ) (s : List ℕ) where
     pub alone-accepted : Alone n v side s (add (accepted n side) m s)
     alone-accepted = record {
       adds = add-adds (accepted n side) m s;
-      back = λ {i} {u} e h. ⊎-elim (λ x. x) (λ x. absurd (e .not-accepted (x .0) (single-∈ v (p .each u (x .1))))) (add-cases (accepted n side) m s h);
+      back = λ {i} {u} e h. ⊎-elim (λ x. x) (λ x. absurd (e .not-accepted (x .0) (single-∈ v (p .each u (x .1)))))
+          (add-cases (accepted n side) m s h);
     }
 
     pub alone-confirmed : Alone n v side s (add (confirmed n side) m s)
     alone-confirmed = record {
       adds = add-adds (confirmed n side) m s;
-      back = λ {i} {u} e h. ⊎-elim (λ x. x) (λ x. absurd (e .not-confirmed (x .0) (single-∈ v (p .each u (x .1))))) (add-cases (confirmed n side) m s h);
+      back = λ {i} {u} e h. ⊎-elim (λ x. x) (λ x. absurd (e .not-confirmed (x .0) (single-∈ v (p .each u (x .1)))))
+          (add-cases (confirmed n side) m s h);
     }
 
 -- another site or another side

@@ -73,7 +73,8 @@ module _ (n F : ℕ) (c : Call) (s : List ℕ) where
   refused (not-sent a b d e f) = rw (a, b, d, e, f) refl
 
   -- and taken if it passes each
-  pub passes : outOfRange n c ≡ false → crooked c ≡ false → has F (c .to) ≡ false → against n c s ≡ false → unsent n F c s ≡ false → answer n F c s ≡ Sound
+  pub passes : outOfRange n c ≡ false → crooked c ≡ false → has F (c .to) ≡ false → against n c s ≡ false → unsent n F c s ≡ false →
+      answer n F c s ≡ Sound
   unfolding answer
   passes a b d e f = rw (a, b, d, e, f) refl
 
@@ -88,13 +89,15 @@ module _ (n F : ℕ) (c : Call) (s : List ℕ) where
       (cases (against n c s))) (cases (has F (c .to)))) (cases (crooked c))) (cases (outOfRange n c))
 
   pub refuses : {r : Refusal} → answer n F c s ≡ Refused r → Refuses r
-  refuses {r} e = ⊎-elim (λ a. let z : _≡_ {A = ℕ} 0 1 = cc in absurd (omega arith)) (λ x. let q = refused (x .1) in let z : x .0 ≡ r = cc in subst Refuses z (x .1)) answered
+  refuses {r} e = ⊎-elim (λ a. let z : _≡_ {A = ℕ} 0 1 = cc in absurd (omega arith))
+      (λ x. let q = refused (x .1) in let z : x .0 ≡ r = cc in subst Refuses z (x .1)) answered
 
   -- what a taken call says, in facts, and the other way
 
   crooked-no : crooked c ≡ false → c .kind ≡ 0 → c .from ≡ c .to
   unfolding crooked
-  crooked-no h e = let k : not (eqb (c .from) (c .to)) ≡ false = rw (eq-eqb (c .kind) 0 e) at h in eqb-true (c .from) (c .to) (not-false (eqb (c .from) (c .to)) k)
+  crooked-no h e = let k : not (eqb (c .from) (c .to)) ≡ false = rw (eq-eqb (c .kind) 0 e) at h in
+      eqb-true (c .from) (c .to) (not-false (eqb (c .from) (c .to)) k)
 
   no-crooked : (c .kind ≡ 0 → c .from ≡ c .to) → crooked c ≡ false
   unfolding crooked
@@ -125,7 +128,12 @@ module _ (n F : ℕ) (c : Call) (s : List ℕ) where
   unfolding unsent
   unsent-accept h e f =
       let v = has (get s (accepted n (c .side))) (c .from) in
-      let k : not v ≡ false = rw (ne-eqb (c .kind) 0 (λ z. omega arith), is-false (has F (c .from)) (λ z. f (mem z)), ne-eqb (c .kind) 1 (λ z. omega arith)) at h in
+      let k : not v ≡ false = rw (
+        ne-eqb (c .kind) 0 (λ z. omega arith),
+        is-false (has F (c .from))
+            (λ z. f (mem z)),
+        ne-eqb (c .kind) 1 (λ z. omega arith),
+      ) at h in
       mem (not-false v k)
 
   pub takes : answer n F c s ≡ Sound → Takes n F c s
@@ -155,7 +163,8 @@ module _ (n F : ℕ) (c : Call) (s : List ℕ) where
       (same? (c .kind) 1)) (in? (c .from) F)) (same? (c .kind) 0)
 
   pub takes-answer : Takes n F c s → answer n F c s ≡ Sound
-  takes-answer t = passes (range-in (t .range)) (no-crooked (t .straight)) (is-false (has F (c .to)) (λ e. t .correct (mem e))) (no-against (t .free)) (no-unsent t)
+  takes-answer t = passes (range-in (t .range)) (no-crooked (t .straight)) (is-false (has F (c .to)) (λ e. t .correct (mem e))) (no-against (t .free))
+      (no-unsent t)
 
   -- the state after a call: a refused one leaves it as it was
   module _ (Q : Questions) where
@@ -171,7 +180,8 @@ module _ (n F : ℕ) (c : Call) (s : List ℕ) where
     step-cases = ⊎-elim (λ e. let t = takes e in inr (t, step-taken t)) (λ x. inl (step-refused (refused (x .1)))) answered
 
 -- a call that is taken is taken in each later state, if a proposal is still not for the other side
-pub takes-later : {n F : ℕ} {c : Call} {s t : List ℕ} → Below s t → (c .kind ≡ 0 → c .to ∈ get t (voted n (1 - c .side)) → ⊥) → Takes n F c s → Takes n F c t
+pub takes-later : {n F : ℕ} {c : Call} {s t : List ℕ} → Below s t → (c .kind ≡ 0 → c .to ∈ get t (voted n (1 - c .side)) → ⊥) → Takes n F c s →
+    Takes n F c t
 takes-later {n} {c = c} b free K = record {
   range = K .range;
   straight = K .straight;

@@ -106,13 +106,15 @@ module _ (Q : Questions) (F v hv ha vd ad cd : ℕ) where
   unfolding notOwn notRule notSent
   all-explained E =
       no-or (no-or (no-differ (E .vote-own)) (no-differ (E .accept-own)))
-      (no-or (no-or (no-differ (E .accepted-so)) (no-differ (E .confirmed-so))) (no-or (no-unsent F hv vd (E .votes-were)) (no-unsent F ha ad (E .accepts-were))))
+      (no-or (no-or (no-differ (E .accepted-so)) (no-differ (E .confirmed-so)))
+      (no-or (no-unsent F hv vd (E .votes-were)) (no-unsent F ha ad (E .accepts-were))))
 
 -- of a site and a side of a state
 
 module _ (Q : Questions) (n F : ℕ) (s : List ℕ) where
   abbrev NothingAt : ℕ → ℕ → Type 0
-  NothingAt v side = Nothing v (get s (votes side v)) (get s (accepts side v)) (get s (voted n side)) (get s (accepted n side)) (get s (confirmed n side))
+  NothingAt v side = Nothing v (get s (votes side v)) (get s (accepts side v)) (get s (voted n side)) (get s (accepted n side))
+      (get s (confirmed n side))
 
   abbrev ExplainedAt : ℕ → ℕ → Type 0
   ExplainedAt v side =
@@ -122,7 +124,8 @@ module _ (Q : Questions) (n F : ℕ) (s : List ℕ) where
   unfolding badSide
   faulty-side v side e f =
       nothing Q F v (get s (votes side v)) (get s (accepts side v)) (get s (voted n side)) (get s (accepted n side)) (get s (confirmed n side))
-      (or-none (notZero v (get s (votes side v)) (get s (accepts side v)) (get s (voted n side)) (get s (accepted n side)) (get s (confirmed n side))) false (rw (f .holds) at e) .0)
+      (or-none (notZero v (get s (votes side v)) (get s (accepts side v)) (get s (voted n side)) (get s (accepted n side))
+      (get s (confirmed n side))) false (rw (f .holds) at e) .0)
 
   correct-side : (v side : ℕ) → badSide Q n F s v side ≡ false → (v ∈ F → ⊥) → ExplainedAt v side
   unfolding badSide
@@ -157,7 +160,8 @@ module _ (Q : Questions) (n F : ℕ) (s : List ℕ) where
     where
       go : Dec (i < size n) → v < n
       go (yes k) =
-          let w : within (get s i) (allBelow n) ≡ true = not-false (within (get s i) (allBelow n)) (none-each (size n) (λ j. not (within (get s j) (allBelow n))) i e k) in
+          let w : within (get s i) (allBelow n) ≡ true =
+          not-false (within (get s i) (allBelow n)) (none-each (size n) (λ j. not (within (get s j) (allBelow n))) i e k) in
           ∈-below (ones-lt n) (within-⊆ (get s i) (allBelow n) w .each v h)
       go (no k) = absurd (not-in-zero (∈-eq (List·getD-eq-default s 0 (omega arith)) h))
 

@@ -39,7 +39,8 @@ module _ {Q : Questions} {n F : ℕ} {s : List ℕ} (S : Sound Q n F s) (c : Cal
   taken-heard K =
       let s₁ = hears n c s in
       let s₂ = nowAccepts Q n (c .to) (c .side) s₁ in
-      heard-grows n c s₁ (below-trans (nowAccepts-alone Q n (c .to) (c .side) s₁ .adds) (nowConfirms-alone Q n (c .to) (c .side) s₂ .adds)) (hears-heard (K .range) s (S .long))
+      heard-grows n c s₁ (below-trans (nowAccepts-alone Q n (c .to) (c .side) s₁ .adds) (nowConfirms-alone Q n (c .to) (c .side) s₂ .adds))
+      (hears-heard (K .range) s (S .long))
 
   pub step-heard : Takes n F c s → heard n c (step Q n F c s) ≡ true
   step-heard K = subst (λ (t : List ℕ). heard n c t ≡ true) (sym (step-taken n F c s Q K)) (taken-heard K)
@@ -66,4 +67,9 @@ module _ {Q : Questions} {n F : ℕ} {s : List ℕ} (S : Sound Q n F s) (c : Cal
     pub works-taken : {t : List ℕ} → a ≡ Check.Sound → heard n c s ≡ false → t ≡ taken Q n c s → Works Q n F c s a true t
     works-taken f h q =
         let K = takes n F c s (sym e ∙ f) in
-        record { answers-so = e; changes = sym (ap not (ne-alike s (step Q n F c s) (unheard-changes K h))); state = q ∙ sym (step-taken n F c s Q K) }
+        record {
+          answers-so = e;
+          changes = sym (ap not (ne-alike s (step Q n F c s) (unheard-changes K h)));
+          state = q
+              ∙ sym (step-taken n F c s Q K);
+        }

@@ -58,13 +58,15 @@ module _ {Q : Questions} {n F : ℕ} {c : Call} {s : List ℕ} (S : Sound Q n F 
   own-accept-here : has (get t (accepts side v)) v ≡ has (get t (accepted n side)) v
   own-accept-here =
       iff (has (get t (accepts side v)) v) (has (get t (accepted n side)) v) (λ e. accepts-sent-here (K .correct) (mem e) .holds)
-      (λ e. ⊎-elim (λ x. A .adds .each (accepts side v) .each v (accepted-heard S hs x) .holds) (λ x. accepts-there S K (x .0) .holds) (accepted-cases S K hs (mem e)))
+      (λ e. ⊎-elim (λ x. A .adds .each (accepts side v) .each v (accepted-heard S hs x) .holds) (λ x. accepts-there S K (x .0) .holds)
+      (accepted-cases S K hs (mem e)))
 
   module _ {Σ : ℕ → Fbqs} (P : Promises Σ Q) where
     accepted-here : has (get t (accepted n side)) v ≡ acceptsNow Q v side t
     accepted-here =
         iff (has (get t (accepted n side)) v) (acceptsNow Q v side t)
-        (λ e. ⊎-elim (λ x. acceptsNow-grows P n v side (A .adds) (accepted-rule S hs x)) (λ x. acceptsNow-kept S K ∙ x .0) (accepted-cases S K hs (mem e)))
+        (λ e. ⊎-elim (λ x. acceptsNow-grows P n v side (A .adds) (accepted-rule S hs x)) (λ x. acceptsNow-kept S K ∙ x .0)
+        (accepted-cases S K hs (mem e)))
         (λ e. accepted-there S K (sym (acceptsNow-kept S K) ∙ e) .holds)
 
     confirmed-here : has (get t (confirmed n side)) v ≡ confirmsNow Q v side t
@@ -101,7 +103,8 @@ module _ {Q : Questions} {n F : ℕ} {c : Call} {s : List ℕ} (S : Sound Q n F 
     own-accept = λ w τ hw ht f. here-or-other (λ x y. has (get t (accepts y x)) x ≡ has (get t (accepted n y)) x) own-accept-here
         (λ o. ap (λ (m : ℕ). has m w) (same-accepts hv hs A hw ht o) ∙ S .own-accept w τ hw ht f ∙ sym (same-accepted hv hs A hw ht o));
     accepted-by-rule = λ w τ hw ht f. here-or-other (λ x y. has (get t (accepted n y)) x ≡ acceptsNow Q x y t) (accepted-here P)
-        (λ o. same-accepted hv hs A hw ht o ∙ S .accepted-by-rule w τ hw ht f ∙ sym (ap₂ (accepting Q w) (same-votes hv hs A hw ht o) (same-accepts hv hs A hw ht o)));
+        (λ o. same-accepted hv hs A hw ht o ∙ S .accepted-by-rule w τ hw ht f
+        ∙ sym (ap₂ (accepting Q w) (same-votes hv hs A hw ht o) (same-accepts hv hs A hw ht o)));
     confirmed-by-rule = λ w τ hw ht f. here-or-other (λ x y. has (get t (confirmed n y)) x ≡ confirmsNow Q x y t) (confirmed-here P)
         (λ o. same-confirmed hv hs A hw ht o ∙ S .confirmed-by-rule w τ hw ht f ∙ sym (ap (confirming Q w) (same-accepts hv hs A hw ht o)));
     votes-sent = λ w u τ hw ht f. here-or-other (λ x y. u ∈ get t (votes y x) → u ∈ get t (voted n y)) (votes-sent-here f)

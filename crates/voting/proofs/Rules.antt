@@ -61,7 +61,8 @@ module _ {S : ℕ → Fbqs} {Q : Questions} {n : ℕ} (R : Rests S Q n) where
   accepting-nothing v h =
       is-false (Q .inQuorum v (bitOr 0 (others 0 v)) || Q .blocked v (others 0 v))
       (λ e. ⊎-elim
-      (λ x. ⊎-elim not-in-zero (λ y. not-in-zero (minus-⊆ 0 (single v) .each v y)) (∈-or 0 (others 0 v) (R .promises .quorum-member v (bitOr 0 (others 0 v)) x)))
+      (λ x. ⊎-elim not-in-zero (λ y. not-in-zero (minus-⊆ 0 (single v) .each v y))
+      (∈-or 0 (others 0 v) (R .promises .quorum-member v (bitOr 0 (others 0 v)) x)))
       (λ x. clash (R .promises .blocked-grows v (others 0 v) 0 (minus-⊆ 0 (single v)) x) (R .promises .nobody-blocked v (R .sites v h)))
       (or-e (Q .inQuorum v (bitOr 0 (others 0 v))) (Q .blocked v (others 0 v)) e))
 

@@ -67,8 +67,10 @@ fresh-sound S Q n F R = record {
   once = λ v h k. fresh-none n (voted n 0) h;
   own-vote = λ v side hv hs f. fresh-has n (votes side v) v ∙ sym (fresh-has n (voted n side) v);
   own-accept = λ v side hv hs f. fresh-has n (accepts side v) v ∙ sym (fresh-has n (accepted n side) v);
-  accepted-by-rule = λ v side hv hs f. fresh-has n (accepted n side) v ∙ sym (ap₂ (accepting Q v) (fresh-get n (votes side v)) (fresh-get n (accepts side v)) ∙ accepting-nothing R v hv);
-  confirmed-by-rule = λ v side hv hs f. fresh-has n (confirmed n side) v ∙ sym (ap (confirming Q v) (fresh-get n (accepts side v)) ∙ confirming-nothing R v);
+  accepted-by-rule = λ v side hv hs f. fresh-has n (accepted n side) v
+      ∙ sym (ap₂ (accepting Q v) (fresh-get n (votes side v)) (fresh-get n (accepts side v)) ∙ accepting-nothing R v hv);
+  confirmed-by-rule = λ v side hv hs f. fresh-has n (confirmed n side) v
+      ∙ sym (ap (confirming Q v) (fresh-get n (accepts side v)) ∙ confirming-nothing R v);
   votes-sent = λ v u side hv hs f h. absurd (fresh-none n (votes side v) h);
   accepts-sent = λ v u side hv hs f h. absurd (fresh-none n (accepts side v) h);
 }

@@ -51,7 +51,11 @@ module _ (i m : ℕ) (s : List ℕ) where
 
   -- adding only adds
   pub add-adds : Below s (add i m s)
-  add-adds = record { long = sym length-add; each = λ j. ⊎-elim (λ e. rw e (here (decLt i (length s)))) (λ ne. rw (get-add-other ne) (⊆-refl (get s j))) (same? j i) }
+  add-adds = record {
+    long = sym length-add;
+    each =
+        λ j. ⊎-elim (λ e. rw e (here (decLt i (length s)))) (λ ne. rw (get-add-other ne) (⊆-refl (get s j))) (same? j i);
+  }
     where
       here : Dec (i < length s) → get s i ⊆ get (add i m s) i
       here (yes h) = rw (get-add h) (or-⊆-l (get s i) m)
@@ -73,7 +77,10 @@ module _ (i m : ℕ) (s : List ℕ) where
 pub add-grows : (i : ℕ) {m k : ℕ} {s t : List ℕ} → m ⊆ k → Below s t → Below (add i m s) (add i k t)
 add-grows i {m} {k} {s} {t} p b = record {
   long = length-add i m s ∙ b .long ∙ sym (length-add i k t);
-  each = λ j. record { each = λ v h. ⊎-elim (λ x. add-adds i k t .each j .each v (b .each j .each v x)) (λ x. new j v h (x .0) (x .1) (decLt i (length t))) (add-cases i m s h) };
+  each = λ j. record {
+    each = λ v h. ⊎-elim (λ x. add-adds i k t .each j .each v (b .each j .each v x))
+        (λ x. new j v h (x .0) (x .1) (decLt i (length t))) (add-cases i m s h);
+  };
 }
   where
     new : (j v : ℕ) → v ∈ get (add i m s) j → j ≡ i → v ∈ m → Dec (i < length t) → v ∈ get (add i k t) j

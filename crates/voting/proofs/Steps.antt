@@ -21,10 +21,12 @@ step-sound Σ Q n F R c s S =
     ⊎-elim (λ e. subst (Sound Q n F) (sym e) S) (λ x. subst (Sound Q n F) (sym (x .1)) (taken-sound S (x .0) (R .promises))) (step-cases n F c s Q)
 
 pub step-adds : StepAdds
-step-adds Q n F c s = ⊎-elim (λ e. subst (Below s) (sym e) (below-refl s)) (λ x. subst (Below s) (sym (x .1)) (taken-adds Q n c s)) (step-cases n F c s Q)
+step-adds Q n F c s = ⊎-elim (λ e. subst (Below s) (sym e) (below-refl s)) (λ x. subst (Below s) (sym (x .1)) (taken-adds Q n c s))
+    (step-cases n F c s Q)
 
 -- a step grows with the state where the call is taken in both
-pub step-mono : {Σ : ℕ → Fbqs} {Q : Questions} {n F : ℕ} {c : Call} {s t : List ℕ} → Promises Σ Q → Takes n F c s → Takes n F c t → Below s t → Below (step Q n F c s) (step Q n F c t)
+pub step-mono : {Σ : ℕ → Fbqs} {Q : Questions} {n F : ℕ} {c : Call} {s t : List ℕ} → Promises Σ Q → Takes n F c s → Takes n F c t → Below s t →
+    Below (step Q n F c s) (step Q n F c t)
 step-mono {Q = Q} {n} {F} {c} {s} {t} P K U b = rw (step-taken n F c s Q K, step-taken n F c t Q U) (taken-mono P n c b)
 
 pub taken-stays : TakenStays

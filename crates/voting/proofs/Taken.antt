@@ -24,7 +24,8 @@ module _ (Q : Questions) (n : ℕ) (c : Call) (s : List ℕ) where
   pub worked-alone : Alone n (c .to) (c .side) (hears n c s) (taken Q n c s)
   unfolding taken
   worked-alone =
-      alone-trans (nowAccepts-alone Q n (c .to) (c .side) (hears n c s)) (nowConfirms-alone Q n (c .to) (c .side) (nowAccepts Q n (c .to) (c .side) (hears n c s)))
+      alone-trans (nowAccepts-alone Q n (c .to) (c .side) (hears n c s))
+      (nowConfirms-alone Q n (c .to) (c .side) (nowAccepts Q n (c .to) (c .side) (hears n c s)))
 
   pub taken-alone : Alone n (c .to) (c .side) s (taken Q n c s)
   taken-alone = alone-trans (hears-alone n c s) worked-alone
@@ -87,7 +88,8 @@ module _ {Q : Questions} {n F : ℕ} {c : Call} {s : List ℕ} (S : Sound Q n F 
   pub taken-below : (i u : ℕ) → u ∈ get (taken Q n c s) i → u < n
   unfolding taken
   taken-below i u h =
-      ⊎-elim (λ x. ⊎-elim (λ y. ⊎-elim (S .below i u) (says-below (K .range)) (hears-cases n c s i y)) (λ y. omega (arith, y .1)) (nowAccepts-cases Q n v side s₁ i x))
+      ⊎-elim (λ x. ⊎-elim (λ y. ⊎-elim (S .below i u) (says-below (K .range)) (hears-cases n c s i y)) (λ y. omega (arith, y .1))
+      (nowAccepts-cases Q n v side s₁ i x))
       (λ x. omega (arith, x .1)) (nowConfirms-cases Q n v side s₂ i h)
 
   -- only a proposal makes a vote, and only the receiver's own
@@ -95,13 +97,15 @@ module _ {Q : Questions} {n F : ℕ} {c : Call} {s : List ℕ} (S : Sound Q n F 
   taken-voted {τ} ht h = ⊎-elim inl (λ x. inr (says-voted (K .range) ht x)) (hears-cases n c s (voted n τ) (∈-eq (voted-kept ht) h))
 
   -- a site hears a vote from itself, or from the sender of the call
-  pub taken-votes : {τ w u : ℕ} → τ < 2 → w < n → u ∈ get (taken Q n c s) (votes τ w) → (u ∈ get s (votes τ w)) ⊎ (u ≡ w) ⊎ ((c .kind ≡ 1) × (w ≡ c .to) × (u ≡ c .from))
+  pub taken-votes : {τ w u : ℕ} → τ < 2 → w < n → u ∈ get (taken Q n c s) (votes τ w) →
+      (u ∈ get s (votes τ w)) ⊎ (u ≡ w) ⊎ ((c .kind ≡ 1) × (w ≡ c .to) × (u ≡ c .from))
   taken-votes {τ} {w} {u} ht hw h =
       ⊎-elim inl (λ x. let y = says-votes (K .range) ht hw x in inr (⊎-elim (λ z. inl (z .1 ∙ sym (y .0))) (λ z. inr (z .0, y .0, z .1)) (y .1)))
       (hears-cases n c s (votes τ w) (∈-eq (votes-kept ht hw) h))
 
   -- so an accept
-  pub taken-accepts : {τ w u : ℕ} → τ < 2 → w < n → u ∈ get (taken Q n c s) (accepts τ w) → (u ∈ get s (accepts τ w)) ⊎ (u ≡ w) ⊎ ((c .kind ≡ 2) × (w ≡ c .to) × (u ≡ c .from))
+  pub taken-accepts : {τ w u : ℕ} → τ < 2 → w < n → u ∈ get (taken Q n c s) (accepts τ w) →
+      (u ∈ get s (accepts τ w)) ⊎ (u ≡ w) ⊎ ((c .kind ≡ 2) × (w ≡ c .to) × (u ≡ c .from))
   taken-accepts {τ} {w} {u} ht hw h =
       let h₂ : u ∈ get s₂ (accepts τ w) = ∈-eq (accepts-kept ht hw) h in
       ⊎-elim (λ e. ⊎-elim heard (λ x. inr (inl (x .1 ∙ sym e))) (nowAccepts-cases Q n v side s₁ (accepts τ w) h₂))
@@ -111,11 +115,13 @@ module _ {Q : Questions} {n F : ℕ} {c : Call} {s : List ℕ} (S : Sound Q n F 
       heard k = ⊎-elim inl (λ x. let y = says-accepts (K .range) ht hw x in inr (inr (y .1, y .0, y .2))) (hears-cases n c s (accepts τ w) k)
 
   -- at the receiver's place and side: heard, or its own by the rule
-  pub accepts-cases : {u : ℕ} → u ∈ get (taken Q n c s) (accepts (c .side) (c .to)) → (u ∈ get (hears n c s) (accepts (c .side) (c .to))) ⊎ ((acceptsNow Q (c .to) (c .side) (hears n c s) ≡ true) × (u ≡ c .to))
+  pub accepts-cases : {u : ℕ} → u ∈ get (taken Q n c s) (accepts (c .side) (c .to)) →
+      (u ∈ get (hears n c s) (accepts (c .side) (c .to))) ⊎ ((acceptsNow Q (c .to) (c .side) (hears n c s) ≡ true) × (u ≡ c .to))
   accepts-cases h = nowAccepts-cases Q n v side s₁ (accepts side v) (∈-eq (accepts-kept hs hv) h)
 
   -- who has accepted or confirmed had before, or is the receiver by the rule
-  pub accepted-cases : {τ u : ℕ} → τ < 2 → u ∈ get (taken Q n c s) (accepted n τ) → (u ∈ get s (accepted n τ)) ⊎ ((acceptsNow Q (c .to) (c .side) (hears n c s) ≡ true) × (τ ≡ c .side) × (u ≡ c .to))
+  pub accepted-cases : {τ u : ℕ} → τ < 2 → u ∈ get (taken Q n c s) (accepted n τ) →
+      (u ∈ get s (accepted n τ)) ⊎ ((acceptsNow Q (c .to) (c .side) (hears n c s) ≡ true) × (τ ≡ c .side) × (u ≡ c .to))
   unfolding taken
   accepted-cases {τ} {u} ht h =
       let h₂ : u ∈ get s₂ (accepted n τ) = ∈-eq (nowConfirms-else Q n v side s₂ (λ e. omega arith)) h in
@@ -123,11 +129,14 @@ module _ {Q : Questions} {n F : ℕ} {c : Call} {s : List ℕ} (S : Sound Q n F 
       ⊎-elim (λ e. ⊎-elim (λ x. inl (old x)) (λ x. inr (x .0, e, x .1)) (nowAccepts-cases Q n v side s₁ (accepted n τ) h₂))
       (λ ne. inl (old (∈-eq (nowAccepts-else Q n v side s₁ (λ e. omega arith) (λ e. ne (omega arith))) h₂))) (same? τ side)
 
-  pub confirmed-cases : {τ u : ℕ} → τ < 2 → u ∈ get (taken Q n c s) (confirmed n τ) → (u ∈ get s (confirmed n τ)) ⊎ ((confirmsNow Q (c .to) (c .side) (taken Q n c s) ≡ true) × (τ ≡ c .side) × (u ≡ c .to))
+  pub confirmed-cases : {τ u : ℕ} → τ < 2 → u ∈ get (taken Q n c s) (confirmed n τ) →
+      (u ∈ get s (confirmed n τ)) ⊎ ((confirmsNow Q (c .to) (c .side) (taken Q n c s) ≡ true) × (τ ≡ c .side) × (u ≡ c .to))
   unfolding taken
   confirmed-cases {τ} {u} ht h =
-      let old : u ∈ get s₂ (confirmed n τ) → u ∈ get s (confirmed n τ) = λ k. ∈-eq (nowAccepts-else Q n v side s₁ (λ e. omega arith) (λ e. omega arith) ∙ hears-kept (K .range) s (confirmed n τ) (omega arith)) k in
-      ⊎-elim (λ e. ⊎-elim (λ x. inl (old x)) (λ x. inr (ap (confirming Q v) (accepts-kept hs hv) ∙ x .0, e, x .1)) (nowConfirms-cases Q n v side s₂ (confirmed n τ) h))
+      let old : u ∈ get s₂ (confirmed n τ) → u ∈ get s (confirmed n τ) =
+      λ k. ∈-eq (nowAccepts-else Q n v side s₁ (λ e. omega arith) (λ e. omega arith) ∙ hears-kept (K .range) s (confirmed n τ) (omega arith)) k in
+      ⊎-elim (λ e. ⊎-elim (λ x. inl (old x)) (λ x. inr (ap (confirming Q v) (accepts-kept hs hv) ∙ x .0, e, x .1))
+      (nowConfirms-cases Q n v side s₂ (confirmed n τ) h))
       (λ ne. inl (old (∈-eq (nowConfirms-else Q n v side s₂ (λ e. ne (omega arith))) h))) (same? τ side)
 
   -- where the rules say so, the receiver has accepted, has heard it, and has confirmed
@@ -147,8 +156,10 @@ module _ {Q : Questions} {n F : ℕ} {c : Call} {s : List ℕ} (S : Sound Q n F 
   pub heard-voted : {u : ℕ} → (u ∈ F → ⊥) → u ∈ get (hears n c s) (votes (c .side) (c .to)) → u ∈ get (taken Q n c s) (voted n (c .side))
   heard-voted {u} f h =
       ⊎-elim (λ x. taken-adds Q n c s .each (voted n side) .each u (S .votes-sent v u side hv hs f x))
-      (λ x. ⊎-elim (λ y. worked-alone Q n c s .adds .each (voted n side) .each u (subst (λ (w : ℕ). w ∈ get s₁ (voted n side)) (sym (y .1)) (proposal-voted (K .range) s (S .long) (y .0))))
-      (λ y. taken-adds Q n c s .each (voted n side) .each u (subst (λ (w : ℕ). w ∈ get s (voted n side)) (sym (y .1)) (K .vote-sent (y .0) (subst (λ (w : ℕ). w ∈ F → ⊥) (y .1) f))))
+      (λ x. ⊎-elim (λ y. worked-alone Q n c s .adds .each (voted n side) .each u (subst (λ (w : ℕ). w ∈ get s₁ (voted n side)) (sym (y .1))
+      (proposal-voted (K .range) s (S .long) (y .0))))
+      (λ y. taken-adds Q n c s .each (voted n side) .each u (subst (λ (w : ℕ). w ∈ get s (voted n side)) (sym (y .1))
+      (K .vote-sent (y .0) (subst (λ (w : ℕ). w ∈ F → ⊥) (y .1) f))))
       (says-votes (K .range) hs hv x .1))
       (hears-cases n c s (votes side v) h)
 
