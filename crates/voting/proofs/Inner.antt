@@ -14,9 +14,9 @@ use Rattle.voting.specs.Rules.{Call, answer, hears, nowAccepts, nowConfi
 use Rattle.voting.specs.Sound.{Sound}
 use Rattle.voting.proofs.Answer.{Takes, takes, step-taken, step-refused, step-cases}
 use Rattle.voting.proofs.Heard.{heard-grows, hears-still, hears-heard}
-use Rattle.voting.proofs.Sound.{voted-heard, accepted-heard, rule-accepted, rule-confirmed}
+use Rattle.voting.proofs.SoundLaws.{voted-heard, accepted-heard, rule-accepted, rule-confirmed}
 use Rattle.voting.proofs.State.{below-trans}
-use Rattle.voting.proofs.Worked.{nowAccepts-alone, nowConfirms-alone, nowAccepts-still, nowConfirms-still}
+use Rattle.voting.proofs.Receiver.{nowAccepts-alone, nowConfirms-alone, nowAccepts-still, nowConfirms-still}
 
 module _ {Q : Questions} {n F : ℕ} {s : List ℕ} (S : Sound Q n F s) (c : Call) where
   -- heard already: nothing changes

@@ -16,9 +16,9 @@ use Rattle.voting.specs.State.{votes, accepts, voted, accepted, confirme
 use Rattle.voting.proofs.Alone.{Alone, Other, here-or-other, same-votes, same-accepts, same-voted, same-accepted, same-confirmed}
 use Rattle.voting.proofs.Answer.{Takes}
 use Rattle.voting.proofs.Heard.{proposal-heard}
-use Rattle.voting.proofs.Sound.{voted-heard, accepted-heard, accepted-rule, confirmed-rule}
+use Rattle.voting.proofs.SoundLaws.{voted-heard, accepted-heard, accepted-rule, confirmed-rule}
 use Rattle.voting.proofs.Taken.{taken-alone, votes-kept, acceptsNow-kept, taken-below, taken-voted, accepts-cases, accepted-cases, confirmed-cases, accepted-there, accepts-there, confirmed-there, heard-voted, heard-accepted}
-use Rattle.voting.proofs.Worked.{acceptsNow, confirmsNow, acceptsNow-grows, confirmsNow-grows}
+use Rattle.voting.proofs.Receiver.{acceptsNow, confirmsNow, acceptsNow-grows, confirmsNow-grows}
 
 module _ {Q : Questions} {n F : ℕ} {c : Call} {s : List ℕ} (S : Sound Q n F s) (K : Takes n F c s) where
   abbrev v : ℕ

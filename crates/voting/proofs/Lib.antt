@@ -1,10 +1,10 @@
 pub mod State
-pub mod Rules
+pub mod RuleLaws
 pub mod Alone
-pub mod Worked
+pub mod Receiver
 pub mod Heard
 pub mod Answer
-pub mod Sound
+pub mod SoundLaws
 pub mod Taken
 pub mod Kept
 pub mod Inner

@@ -17,7 +17,7 @@ use Rattle.voting.specs.State.{votes, accepts, voted, accepted, confirme
 use Rattle.voting.proofs.Alone.{Alone, alone-trans}
 use Rattle.voting.proofs.Answer.{Takes}
 use Rattle.voting.proofs.Heard.{hears-alone, hears-grows, hears-cases, hears-kept, says-below, says-voted, says-votes, says-accepts, proposal-voted}
-use Rattle.voting.proofs.Worked.{acceptsNow, confirmsNow, nowAccepts-alone, nowConfirms-alone, nowAccepts-else, nowConfirms-else, nowAccepts-cases, nowConfirms-cases, nowAccepts-accepted, nowAccepts-accepts, nowConfirms-confirmed, acceptsNow-after, nowAccepts-grows, nowConfirms-grows}
+use Rattle.voting.proofs.Receiver.{acceptsNow, confirmsNow, nowAccepts-alone, nowConfirms-alone, nowAccepts-else, nowConfirms-else, nowAccepts-cases, nowConfirms-cases, nowAccepts-accepted, nowAccepts-accepts, nowConfirms-confirmed, acceptsNow-after, nowAccepts-grows, nowConfirms-grows}
 
 -- from hearing on, and from the state before, only the receiver changes
 module _ (Q : Questions) (n : ℕ) (c : Call) (s : List ℕ) where

@@ -12,9 +12,9 @@ use Rattle.voting.specs.Rules.{accepting, confirming}
 use Rattle.voting.specs.Sound.{Sound}
 use Rattle.voting.specs.State.{votes, accepts, voted, accepted, confirmed, fresh, get}
 use Rattle.voting.specs.Theorems.{FreshSound}
-use Rattle.voting.proofs.Rules.{accepting-nothing, confirming-nothing}
+use Rattle.voting.proofs.RuleLaws.{accepting-nothing, confirming-nothing}
 use Rattle.voting.proofs.State.{fresh-length, fresh-get, fresh-none}
-use Rattle.voting.proofs.Worked.{acceptsNow, confirmsNow}
+use Rattle.voting.proofs.Receiver.{acceptsNow, confirmsNow}
 
 -- what the clauses say in facts
 

@@ -14,7 +14,7 @@ use Rattle.sets.specs.Promises.{Questions, Promises}
 use Rattle.voting.specs.Rules.{only, accepting, confirming, nowAccepts, nowConfirms}
 use Rattle.voting.specs.State.{votes, accepts, accepted, confirmed, size, get, add, Below}
 use Rattle.voting.proofs.Alone.{Alone, alone-trans, alone-accepts, alone-accepted, alone-confirmed}
-use Rattle.voting.proofs.Rules.{only-⊆, ∈-only, only-holds, only-still, only-grows, accepting-own, accepting-grows, confirming-grows}
+use Rattle.voting.proofs.RuleLaws.{only-⊆, ∈-only, only-holds, only-still, only-grows, accepting-own, accepting-grows, confirming-grows}
 use Rattle.voting.proofs.State.{length-add, get-add, get-add-other, add-adds, add-grows, add-still, add-there, add-cases}
 
 module _ (Q : Questions) (v side : ℕ) where
