@@ -1,16 +1,15 @@
 -- "The receiver alone is worked out again, for the call's side": a change to what site v has heard for a side, and to v itself in the masks of that
 -- side, leaves everything else as it was.
 use Prim.Native.Nat.{ℕ, _<_}
-use mathlib.Core.Bool.{Bool}
 use mathlib.Core.List.{List}
 use mathlib.Core.Logic.{_⊎_, inl, inr, ⊎-elim}
 use mathlib.Core.Path.{_≡_, sym, subst₂}
 use native.Mathlib.Omega.{arith}
 use Rattle.ground.proofs.Logic.{iff}
 use Rattle.ground.proofs.Numbers.{same?}
-use Rattle.masks.specs.Mask.{has, single, _∈_, _⊆_}
 use Rattle.masks.proofs.Laws.Single.{single-∈}
 use Rattle.masks.proofs.Laws.Subsets.{mem, ⊆-antisym}
+use Rattle.masks.specs.Mask.{has, single, _∈_, _⊆_}
 use Rattle.voting.specs.State.{votes, accepts, voted, accepted, confirmed, get, add, Below}
 use Rattle.voting.proofs.State.{below-trans, add-adds, add-cases}
 
@@ -33,29 +32,36 @@ alone-trans p q = record { adds = below-trans (p .adds) (q .adds); back = λ e h
 module _ (n v side m : ℕ) (s : List ℕ) where
   pub alone-votes : Alone n v side s (add (votes side v) m s)
   alone-votes = record {
-      adds = add-adds (votes side v) m s;
-      back = λ e h. ⊎-elim (λ x. x) (λ x. absurd (e .no-vote (x .0))) (add-cases (votes side v) m s h) }
+    adds = add-adds (votes side v) m s;
+    back = λ e h. ⊎-elim (λ x. x) (λ x. absurd (e .no-vote (x .0))) (add-cases (votes side v) m s h);
+  }
 
   pub alone-accepts : Alone n v side s (add (accepts side v) m s)
   alone-accepts = record {
-      adds = add-adds (accepts side v) m s;
-      back = λ e h. ⊎-elim (λ x. x) (λ x. absurd (e .no-accept (x .0))) (add-cases (accepts side v) m s h) }
+    adds = add-adds (accepts side v) m s;
+    back = λ e h. ⊎-elim (λ x. x) (λ x. absurd (e .no-accept (x .0))) (add-cases (accepts side v) m s h);
+  }
 
   module _ (p : m ⊆ single v) where
     pub alone-voted : Alone n v side s (add (voted n side) m s)
     alone-voted = record {
-        adds = add-adds (voted n side) m s;
-        back = λ {i} {u} e h. ⊎-elim (λ x. x) (λ x. absurd (e .not-voted (x .0) (single-∈ v (p .each u (x .1))))) (add-cases (voted n side) m s h) }
+      adds = add-adds (voted n side) m s;
+      back = λ {i} {u} e h. ⊎-elim (λ x. x) (λ x. absurd (e .not-voted (x .0) (single-∈ v (p .each u (x .1))))) (add-cases (voted n side) m s h);
+    }
 
     pub alone-accepted : Alone n v side s (add (accepted n side) m s)
     alone-accepted = record {
-        adds = add-adds (accepted n side) m s;
-        back = λ {i} {u} e h. ⊎-elim (λ x. x) (λ x. absurd (e .not-accepted (x .0) (single-∈ v (p .each u (x .1))))) (add-cases (accepted n side) m s h) }
+      adds = add-adds (accepted n side) m s;
+      back = λ {i} {u} e h. ⊎-elim (λ x. x) (λ x. absurd (e .not-accepted (x .0) (single-∈ v (p .each u (x .1)))))
+          (add-cases (accepted n side) m s h);
+    }
 
     pub alone-confirmed : Alone n v side s (add (confirmed n side) m s)
     alone-confirmed = record {
-        adds = add-adds (confirmed n side) m s;
-        back = λ {i} {u} e h. ⊎-elim (λ x. x) (λ x. absurd (e .not-confirmed (x .0) (single-∈ v (p .each u (x .1))))) (add-cases (confirmed n side) m s h) }
+      adds = add-adds (confirmed n side) m s;
+      back = λ {i} {u} e h. ⊎-elim (λ x. x) (λ x. absurd (e .not-confirmed (x .0) (single-∈ v (p .each u (x .1)))))
+          (add-cases (confirmed n side) m s h);
+    }
 
 -- another site or another side
 abbrev pub Other : ℕ → ℕ → ℕ → ℕ → Type 0

@@ -1,27 +1,25 @@
 -- Laws of the answer: a call is taken exactly if it passes each test, and refused by the first that it fails.
-use Prim.Native.Nat.{ℕ, _-_, _<_}
-use mathlib.Core.Bool.{Bool, true, false, _&&_, _||_, not, cond}
+use Prim.Native.Nat.{ℕ, _-_}
+use mathlib.Core.Bool.{true, false, _&&_, _||_, not}
 use mathlib.Core.List.{List}
 use mathlib.Core.Logic.{_⊎_, inl, inr, ⊎-elim}
-use mathlib.Core.Path.{_≡_, refl, sym, ap, _∙_, subst}
+use mathlib.Core.Path.{_≡_, refl, subst}
 use native.Mathlib.Omega.{arith}
 use lib.Dec.{eqb, ltb}
 use borrow.Author.Tests.{eq-eqb, ne-eqb, eqb-true, lt-ltb, le-ltb, ltb-true, ltb-false, not-false}
-use Rattle.ground.proofs.Logic.{is-false, clash, and-l, and-r, and-i, not-t, or-none, cases}
+use Rattle.ground.proofs.Logic.{is-false, clash, and-l, and-r, not-t, or-none, cases}
 use Rattle.ground.proofs.Numbers.{same?}
-use Rattle.masks.specs.Mask.{has, _∈_}
 use Rattle.masks.proofs.Laws.Single.{in?, not-in}
 use Rattle.masks.proofs.Laws.Subsets.{mem}
-use Rattle.refusals.specs.First.{orElse, refuse}
-use Rattle.refusals.specs.declared.Check.{Check}
+use Rattle.masks.specs.Mask.{has, _∈_}
+use Rattle.refusals.proofs.First.{missed}
 use Rattle.refusals.specs.declared.Check.the-variants.{Sound, Refused}
 use Rattle.refusals.specs.declared.Refusal.{Refusal}
 use Rattle.refusals.specs.declared.Refusal.the-variants.{Range, Receiver, Proposal, Voted, Unsent}
-use Rattle.refusals.proofs.First.{missed}
 use Rattle.sets.specs.Promises.{Questions}
 use Rattle.voting.specs.Inner.{InRange}
 use Rattle.voting.specs.Rules.{Call, outOfRange, crooked, against, unsent, answer, taken, step}
-use Rattle.voting.specs.State.{voted, accepted, get}
+use Rattle.voting.specs.State.{voted, accepted, get, Below}
 
 -- each test, in facts
 
@@ -35,7 +33,8 @@ in-range {n} {c} e =
       kind-in = omega (arith, ltb-false 2 (c .kind) (r .0));
       from-in = ltb-true (c .from) n (not-false (ltb (c .from) n) (p .0));
       to-in = ltb-true (c .to) n (not-false (ltb (c .to) n) (q .0));
-      side-in = omega (arith, ltb-false 1 (c .side) (r .1)) }
+      side-in = omega (arith, ltb-false 1 (c .side) (r .1));
+    }
 
 pub range-in : {n : ℕ} {c : Call} → InRange n c → outOfRange n c ≡ false
 unfolding outOfRange
@@ -74,7 +73,8 @@ module _ (n F : ℕ) (c : Call) (s : List ℕ) where
   refused (not-sent a b d e f) = rw (a, b, d, e, f) refl
 
   -- and taken if it passes each
-  pub passes : outOfRange n c ≡ false → crooked c ≡ false → has F (c .to) ≡ false → against n c s ≡ false → unsent n F c s ≡ false → answer n F c s ≡ Sound
+  pub passes : outOfRange n c ≡ false → crooked c ≡ false → has F (c .to) ≡ false → against n c s ≡ false → unsent n F c s ≡ false →
+      answer n F c s ≡ Sound
   unfolding answer
   passes a b d e f = rw (a, b, d, e, f) refl
 
@@ -89,13 +89,15 @@ module _ (n F : ℕ) (c : Call) (s : List ℕ) where
       (cases (against n c s))) (cases (has F (c .to)))) (cases (crooked c))) (cases (outOfRange n c))
 
   pub refuses : {r : Refusal} → answer n F c s ≡ Refused r → Refuses r
-  refuses {r} e = ⊎-elim (λ a. let z : _≡_ {A = ℕ} 0 1 = cc in absurd (omega arith)) (λ x. let q = refused (x .1) in let z : x .0 ≡ r = cc in subst Refuses z (x .1)) answered
+  refuses {r} e = ⊎-elim (λ a. let z : _≡_ {A = ℕ} 0 1 = cc in absurd (omega arith))
+      (λ x. let q = refused (x .1) in let z : x .0 ≡ r = cc in subst Refuses z (x .1)) answered
 
   -- what a taken call says, in facts, and the other way
 
   crooked-no : crooked c ≡ false → c .kind ≡ 0 → c .from ≡ c .to
   unfolding crooked
-  crooked-no h e = let k : not (eqb (c .from) (c .to)) ≡ false = rw (eq-eqb (c .kind) 0 e) at h in eqb-true (c .from) (c .to) (not-false (eqb (c .from) (c .to)) k)
+  crooked-no h e = let k : not (eqb (c .from) (c .to)) ≡ false = rw (eq-eqb (c .kind) 0 e) at h in
+      eqb-true (c .from) (c .to) (not-false (eqb (c .from) (c .to)) k)
 
   no-crooked : (c .kind ≡ 0 → c .from ≡ c .to) → crooked c ≡ false
   unfolding crooked
@@ -126,7 +128,12 @@ module _ (n F : ℕ) (c : Call) (s : List ℕ) where
   unfolding unsent
   unsent-accept h e f =
       let v = has (get s (accepted n (c .side))) (c .from) in
-      let k : not v ≡ false = rw (ne-eqb (c .kind) 0 (λ z. omega arith), is-false (has F (c .from)) (λ z. f (mem z)), ne-eqb (c .kind) 1 (λ z. omega arith)) at h in
+      let k : not v ≡ false = rw (
+        ne-eqb (c .kind) 0 (λ z. omega arith),
+        is-false (has F (c .from))
+            (λ z. f (mem z)),
+        ne-eqb (c .kind) 1 (λ z. omega arith),
+      ) at h in
       mem (not-false v k)
 
   pub takes : answer n F c s ≡ Sound → Takes n F c s
@@ -143,7 +150,8 @@ module _ (n F : ℕ) (c : Call) (s : List ℕ) where
         correct = not-in (d .0);
         free = against-no (e .0);
         vote-sent = unsent-vote (f .0);
-        accept-sent = unsent-accept (f .0) }
+        accept-sent = unsent-accept (f .0);
+      }
 
   no-unsent : Takes n F c s → unsent n F c s ≡ false
   unfolding unsent
@@ -155,7 +163,8 @@ module _ (n F : ℕ) (c : Call) (s : List ℕ) where
       (same? (c .kind) 1)) (in? (c .from) F)) (same? (c .kind) 0)
 
   pub takes-answer : Takes n F c s → answer n F c s ≡ Sound
-  takes-answer t = passes (range-in (t .range)) (no-crooked (t .straight)) (is-false (has F (c .to)) (λ e. t .correct (mem e))) (no-against (t .free)) (no-unsent t)
+  takes-answer t = passes (range-in (t .range)) (no-crooked (t .straight)) (is-false (has F (c .to)) (λ e. t .correct (mem e))) (no-against (t .free))
+      (no-unsent t)
 
   -- the state after a call: a refused one leaves it as it was
   module _ (Q : Questions) where
@@ -169,3 +178,26 @@ module _ (n F : ℕ) (c : Call) (s : List ℕ) where
 
     pub step-cases : (step Q n F c s ≡ s) ⊎ (Takes n F c s × (step Q n F c s ≡ taken Q n c s))
     step-cases = ⊎-elim (λ e. let t = takes e in inr (t, step-taken t)) (λ x. inl (step-refused (refused (x .1)))) answered
+
+-- a call that is taken is taken in each later state, if a proposal is still not for the other side
+pub takes-later : {n F : ℕ} {c : Call} {s t : List ℕ} → Below s t → (c .kind ≡ 0 → c .to ∈ get t (voted n (1 - c .side)) → ⊥) → Takes n F c s →
+    Takes n F c t
+takes-later {n} {c = c} b free K = record {
+  range = K .range;
+  straight = K .straight;
+  correct = K .correct;
+  free = free;
+  vote-sent = λ e f. b .each (voted n (c .side)) .each (c .from) (K .vote-sent e f);
+  accept-sent = λ e f. b .each (accepted n (c .side)) .each (c .from) (K .accept-sent e f);
+}
+
+-- a proposal that is taken could be taken in each earlier state
+pub takes-earlier : {n F : ℕ} {c : Call} {s t : List ℕ} → Below s t → c .kind ≡ 0 → Takes n F c t → Takes n F c s
+takes-earlier {n} {c = c} b k K = record {
+  range = K .range;
+  straight = K .straight;
+  correct = K .correct;
+  free = λ e h. K .free e (b .each (voted n (1 - c .side)) .each (c .to) h);
+  vote-sent = λ e. absurd (omega arith);
+  accept-sent = λ e. absurd (omega arith);
+}

@@ -1,9 +1,9 @@
 -- Number 18 is exact: the test says no exactly of the sound states.
-use Prim.Native.Nat.{ℕ, _-_, _^_, _<_}
-use mathlib.Core.Bool.{Bool, true, false, _&&_, _||_, not}
+use Prim.Native.Nat.{ℕ, _<_}
+use mathlib.Core.Bool.{Bool, true, false, _||_, not}
 use mathlib.Core.List.{List}
 use mathlib.Core.Logic.{⊎-elim}
-use mathlib.Core.Path.{_≡_, refl, sym, ap, ap₂, _∙_, subst}
+use mathlib.Core.Path.{_≡_, refl, sym, ap, ap₂, subst}
 use native.Mathlib.Decide.{decLt}
 use native.Mathlib.Omega.{arith}
 use lib.Bits.{bitAnd}
@@ -11,20 +11,19 @@ use lib.Dec.{eqb}
 use lib.ListN.{length, List·getD-eq-default}
 use lib.Pow.{ones-lt}
 use borrow.Author.Tests.{eqb-true, eq-eqb, not-false}
-use Rattle.ground.specs.Search.{some}
-use Rattle.ground.proofs.Logic.{is-false, or-none, cases}
+use Rattle.ground.proofs.Logic.{is-false, or-none}
 use Rattle.ground.proofs.Numbers.{two}
 use Rattle.ground.proofs.Search.{none-each, each-none}
-use Rattle.masks.specs.Mask.{has, within, minus, allBelow, _∈_, _⊆_}
+use Rattle.ground.specs.Search.{some}
 use Rattle.masks.proofs.Laws.AllBelow.{in-all}
-use Rattle.masks.proofs.Laws.Single.{in?, not-in}
+use Rattle.masks.proofs.Laws.Single.{in?, ∈-eq}
 use Rattle.masks.proofs.Laws.Subsets.{mem, not-in-zero, within-⊆, ⊆-within, ∈-below, ∈-and, and-⊆-l, and-⊆-r, minus-⊆, ∈-minus, minus-not-in, empty}
+use Rattle.masks.specs.Mask.{has, within, minus, allBelow, _∈_}
 use Rattle.sets.specs.Promises.{Questions}
 use Rattle.voting.specs.Rules.{accepting, confirming}
 use Rattle.voting.specs.Sound.{Sound, differ, notZero, notOwn, notRule, notSent, badSide, badSite, unsound}
 use Rattle.voting.specs.State.{votes, accepts, voted, accepted, confirmed, size, get}
 use Rattle.voting.specs.Theorems.{Exact}
-use Rattle.voting.proofs.State.{at}
 
 -- tests that fail, in facts and back
 
@@ -100,19 +99,22 @@ module _ (Q : Questions) (F v hv ha vd ad cd : ℕ) where
         accepted-so = alike-of (has ad v) (accepting Q v hv ha) (rule .0);
         confirmed-so = alike-of (has cd v) (confirming Q v ha) (rule .1);
         votes-were = sent-of F hv vd (sent .0);
-        accepts-were = sent-of F ha ad (sent .1) }
+        accepts-were = sent-of F ha ad (sent .1);
+      }
 
   all-explained : Explained Q F v hv ha vd ad cd → notOwn v hv ha vd ad || (notRule Q v hv ha ad cd || notSent F hv ha vd ad) ≡ false
   unfolding notOwn notRule notSent
   all-explained E =
       no-or (no-or (no-differ (E .vote-own)) (no-differ (E .accept-own)))
-      (no-or (no-or (no-differ (E .accepted-so)) (no-differ (E .confirmed-so))) (no-or (no-unsent F hv vd (E .votes-were)) (no-unsent F ha ad (E .accepts-were))))
+      (no-or (no-or (no-differ (E .accepted-so)) (no-differ (E .confirmed-so)))
+      (no-or (no-unsent F hv vd (E .votes-were)) (no-unsent F ha ad (E .accepts-were))))
 
 -- of a site and a side of a state
 
 module _ (Q : Questions) (n F : ℕ) (s : List ℕ) where
   abbrev NothingAt : ℕ → ℕ → Type 0
-  NothingAt v side = Nothing v (get s (votes side v)) (get s (accepts side v)) (get s (voted n side)) (get s (accepted n side)) (get s (confirmed n side))
+  NothingAt v side = Nothing v (get s (votes side v)) (get s (accepts side v)) (get s (voted n side)) (get s (accepted n side))
+      (get s (confirmed n side))
 
   abbrev ExplainedAt : ℕ → ℕ → Type 0
   ExplainedAt v side =
@@ -122,7 +124,8 @@ module _ (Q : Questions) (n F : ℕ) (s : List ℕ) where
   unfolding badSide
   faulty-side v side e f =
       nothing Q F v (get s (votes side v)) (get s (accepts side v)) (get s (voted n side)) (get s (accepted n side)) (get s (confirmed n side))
-      (or-none (notZero v (get s (votes side v)) (get s (accepts side v)) (get s (voted n side)) (get s (accepted n side)) (get s (confirmed n side))) false (rw (f .holds) at e) .0)
+      (or-none (notZero v (get s (votes side v)) (get s (accepts side v)) (get s (voted n side)) (get s (accepted n side))
+      (get s (confirmed n side))) false (rw (f .holds) at e) .0)
 
   correct-side : (v side : ℕ) → badSide Q n F s v side ≡ false → (v ∈ F → ⊥) → ExplainedAt v side
   unfolding badSide
@@ -157,9 +160,10 @@ module _ (Q : Questions) (n F : ℕ) (s : List ℕ) where
     where
       go : Dec (i < size n) → v < n
       go (yes k) =
-          let w : within (get s i) (allBelow n) ≡ true = not-false (within (get s i) (allBelow n)) (none-each (size n) (λ j. not (within (get s j) (allBelow n))) i e k) in
+          let w : within (get s i) (allBelow n) ≡ true =
+          not-false (within (get s i) (allBelow n)) (none-each (size n) (λ j. not (within (get s j) (allBelow n))) i e k) in
           ∈-below (ones-lt n) (within-⊆ (get s i) (allBelow n) w .each v h)
-      go (no k) = absurd (not-in-zero (at (List·getD-eq-default s 0 (omega arith)) h))
+      go (no k) = absurd (not-in-zero (∈-eq (List·getD-eq-default s 0 (omega arith)) h))
 
   no-high : ((i v : ℕ) → v ∈ get s i → v < n) → some (size n) (λ i. not (within (get s i) (allBelow n))) ≡ false
   no-high f = each-none (size n) (λ i. not (within (get s i) (allBelow n))) (λ i k. ap not (⊆-within (record { each = λ v h. in-all (f i v h) })))
@@ -167,22 +171,23 @@ module _ (Q : Questions) (n F : ℕ) (s : List ℕ) where
   sides-sound : length s ≡ size n → ((i v : ℕ) → v ∈ get s i → v < n) → bitAnd (get s (voted n 0)) (get s (voted n 1)) ≡ 0 →
       ((v side : ℕ) → v < n → side < 2 → badSide Q n F s v side ≡ false) → Sound Q n F s
   sides-sound l low once good = record {
-      long = l;
-      below = low;
-      faulty-votes = λ v side hv hs f. faulty-side v side (good v side hv hs) f .votes-0;
-      faulty-accepts = λ v side hv hs f. faulty-side v side (good v side hv hs) f .accepts-0;
-      faulty-voted = λ v side hv hs f. faulty-side v side (good v side hv hs) f .voted-not;
-      faulty-accepted = λ v side hv hs f. faulty-side v side (good v side hv hs) f .accepted-not;
-      faulty-confirmed = λ v side hv hs f. faulty-side v side (good v side hv hs) f .confirmed-not;
-      once = λ v h k. not-in-zero (at once (∈-and h k));
-      own-vote = λ v side hv hs f. correct-side v side (good v side hv hs) f .vote-own;
-      own-accept = λ v side hv hs f. correct-side v side (good v side hv hs) f .accept-own;
-      accepted-by-rule = λ v side hv hs f. correct-side v side (good v side hv hs) f .accepted-so;
-      confirmed-by-rule = λ v side hv hs f. correct-side v side (good v side hv hs) f .confirmed-so;
-      votes-sent = λ v u side hv hs f h. ⊎-elim (λ k. absurd (not-in-zero (at (faulty-side v side (good v side hv hs) k .votes-0) h)))
-          (λ k. correct-side v side (good v side hv hs) k .votes-were u f h) (in? v F);
-      accepts-sent = λ v u side hv hs f h. ⊎-elim (λ k. absurd (not-in-zero (at (faulty-side v side (good v side hv hs) k .accepts-0) h)))
-          (λ k. correct-side v side (good v side hv hs) k .accepts-were u f h) (in? v F) }
+    long = l;
+    below = low;
+    faulty-votes = λ v side hv hs f. faulty-side v side (good v side hv hs) f .votes-0;
+    faulty-accepts = λ v side hv hs f. faulty-side v side (good v side hv hs) f .accepts-0;
+    faulty-voted = λ v side hv hs f. faulty-side v side (good v side hv hs) f .voted-not;
+    faulty-accepted = λ v side hv hs f. faulty-side v side (good v side hv hs) f .accepted-not;
+    faulty-confirmed = λ v side hv hs f. faulty-side v side (good v side hv hs) f .confirmed-not;
+    once = λ v h k. not-in-zero (∈-eq once (∈-and h k));
+    own-vote = λ v side hv hs f. correct-side v side (good v side hv hs) f .vote-own;
+    own-accept = λ v side hv hs f. correct-side v side (good v side hv hs) f .accept-own;
+    accepted-by-rule = λ v side hv hs f. correct-side v side (good v side hv hs) f .accepted-so;
+    confirmed-by-rule = λ v side hv hs f. correct-side v side (good v side hv hs) f .confirmed-so;
+    votes-sent = λ v u side hv hs f h. ⊎-elim (λ k. absurd (not-in-zero (∈-eq (faulty-side v side (good v side hv hs) k .votes-0) h)))
+        (λ k. correct-side v side (good v side hv hs) k .votes-were u f h) (in? v F);
+    accepts-sent = λ v u side hv hs f h. ⊎-elim (λ k. absurd (not-in-zero (∈-eq (faulty-side v side (good v side hv hs) k .accepts-0) h)))
+        (λ k. correct-side v side (good v side hv hs) k .accepts-were u f h) (in? v F);
+  }
 
   sound-sides : Sound Q n F s → (v side : ℕ) → v < n → side < 2 → badSide Q n F s v side ≡ false
   sound-sides S v side hv hs =
@@ -192,14 +197,16 @@ module _ (Q : Questions) (n F : ℕ) (s : List ℕ) where
         accepts-0 = S .faulty-accepts v side hv hs f;
         voted-not = S .faulty-voted v side hv hs f;
         accepted-not = S .faulty-accepted v side hv hs f;
-        confirmed-not = S .faulty-confirmed v side hv hs f })
+        confirmed-not = S .faulty-confirmed v side hv hs f;
+      })
       (λ f. record {
         vote-own = S .own-vote v side hv hs f;
         accept-own = S .own-accept v side hv hs f;
         accepted-so = S .accepted-by-rule v side hv hs f;
         confirmed-so = S .confirmed-by-rule v side hv hs f;
         votes-were = λ u. S .votes-sent v u side hv hs;
-        accepts-were = λ u. S .accepts-sent v u side hv hs })
+        accepts-were = λ u. S .accepts-sent v u side hv hs;
+      })
 
   pub sound-of : unsound Q n F s ≡ false → Sound Q n F s
   unfolding unsound

@@ -8,14 +8,14 @@ use native.Mathlib.Omega.{arith}
 use lib.ListN.{length}
 use borrow.Author.Tests.{eq-eqb, ne-eqb}
 use Rattle.ground.proofs.Numbers.{same?}
-use Rattle.masks.specs.Mask.{has, single, _∈_}
 use Rattle.masks.proofs.Laws.Single.{∈-single, single-∈, single-⊆}
 use Rattle.masks.proofs.Laws.Subsets.{mem, ⊆-refl, ⊆-antisym}
+use Rattle.masks.specs.Mask.{has, single, _∈_}
 use Rattle.voting.specs.Inner.{InRange, heard}
 use Rattle.voting.specs.Rules.{Call, hears}
 use Rattle.voting.specs.State.{votes, accepts, voted, size, get, add, Below}
 use Rattle.voting.proofs.Alone.{Alone, alone-trans, alone-votes, alone-accepts, alone-voted}
-use Rattle.voting.proofs.State.{below-trans, length-add, get-add-other, add-adds, add-grows, add-still, add-there, add-cases}
+use Rattle.voting.proofs.State.{length-add, add-adds, add-grows, add-still, add-there, add-cases}
 
 -- by the kind of the call
 module _ (n : ℕ) (c : Call) (s : List ℕ) where
@@ -60,13 +60,15 @@ module _ (n : ℕ) (c : Call) (s : List ℕ) where
   pub hears-alone : Alone n (c .to) (c .side) s (hears n c s)
   hears-alone =
       hears-by n c s (Alone n (c .to) (c .side) s)
-      (λ e. alone-trans (alone-voted n (c .to) (c .side) (single (c .to)) s (⊆-refl (single (c .to)))) (alone-votes n (c .to) (c .side) (single (c .to)) _))
+      (λ e. alone-trans (alone-voted n (c .to) (c .side) (single (c .to)) s (⊆-refl (single (c .to))))
+      (alone-votes n (c .to) (c .side) (single (c .to)) _))
       (λ e. alone-votes n (c .to) (c .side) (single (c .from)) s) (λ p q. alone-accepts n (c .to) (c .side) (single (c .from)) s)
 
   pub hears-grows : {t : List ℕ} → Below s t → Below (hears n c s) (hears n c t)
   hears-grows {t} b =
       by-kind c
-      (λ e. rw (hears-proposal n c s e, hears-proposal n c t e) (add-grows (votes (c .side) (c .to)) (⊆-refl (single (c .to))) (add-grows (voted n (c .side)) (⊆-refl (single (c .to))) b)))
+      (λ e. rw (hears-proposal n c s e, hears-proposal n c t e)
+      (add-grows (votes (c .side) (c .to)) (⊆-refl (single (c .to))) (add-grows (voted n (c .side)) (⊆-refl (single (c .to))) b)))
       (λ e. rw (hears-vote n c s e, hears-vote n c t e) (add-grows (votes (c .side) (c .to)) (⊆-refl (single (c .from))) b))
       (λ p q. rw (hears-accept n c s p q, hears-accept n c t p q) (add-grows (accepts (c .side) (c .to)) (⊆-refl (single (c .from))) b))
 
@@ -129,7 +131,8 @@ module _ {n : ℕ} {c : Call} (r : InRange n c) where
   says-voted ht (an-accept k l p q) = absurd (omega arith)
 
   -- the receiver hears its own vote by a proposal, and the sender's by a vote
-  pub says-votes : {τ w u : ℕ} → τ < 2 → w < n → Says n c (votes τ w) u → (w ≡ c .to) × (((c .kind ≡ 0) × (u ≡ c .to)) ⊎ ((c .kind ≡ 1) × (u ≡ c .from)))
+  pub says-votes : {τ w u : ℕ} → τ < 2 → w < n → Says n c (votes τ w) u →
+      (w ≡ c .to) × (((c .kind ≡ 0) × (u ≡ c .to)) ⊎ ((c .kind ≡ 1) × (u ≡ c .from)))
   says-votes ht hw (own-voted k p q) = absurd (omega arith)
   says-votes ht hw (own-vote k p q) = (omega arith, inl (k, q))
   says-votes ht hw (a-vote k p q) = (omega arith, inr (k, q))
@@ -145,7 +148,8 @@ module _ {n : ℕ} {c : Call} (r : InRange n c) where
   module _ (s : List ℕ) where
     pub hears-kept : (i : ℕ) → 4 * n + 2 ≤ i → get (hears n c s) i ≡ get s i
     hears-kept i l =
-        ⊆-antisym (record { each = λ u h. ⊎-elim (λ x. x) (λ x. absurd (omega (arith, says-low x))) (hears-cases n c s i h) }) (hears-alone n c s .adds .each i)
+        ⊆-antisym (record { each = λ u h. ⊎-elim (λ x. x) (λ x. absurd (omega (arith, says-low x))) (hears-cases n c s i h) })
+        (hears-alone n c s .adds .each i)
 
     module _ (long : length s ≡ size n) where
       -- by a proposal the receiver has voted, and heard its own vote
@@ -158,12 +162,16 @@ module _ {n : ℕ} {c : Call} (r : InRange n c) where
       pub proposal-heard : c .kind ≡ 0 → c .to ∈ get (hears n c s) (votes (c .side) (c .to))
       proposal-heard e =
           rw (hears-proposal n c s e)
-          (add-there (votes (c .side) (c .to)) (single (c .to)) (add (voted n (c .side)) (single (c .to)) s) (omega (arith, length-add (voted n (c .side)) (single (c .to)) s)) .each (c .to) (∈-single (c .to)))
+          (add-there (votes (c .side) (c .to)) (single (c .to)) (add (voted n (c .side)) (single (c .to)) s)
+          (omega (arith, length-add (voted n (c .side)) (single (c .to)) s)) .each (c .to) (∈-single (c .to)))
 
       -- the bit of the call is heard
       pub hears-heard : heard n c (hears n c s) ≡ true
       hears-heard =
           by-kind c
           (λ e. heard-proposal n c (hears n c s) e ∙ proposal-voted e .holds)
-          (λ e. heard-vote n c (hears n c s) e ∙ rw (hears-vote n c s e) (add-there (votes (c .side) (c .to)) (single (c .from)) s (omega arith) .each (c .from) (∈-single (c .from)) .holds))
-          (λ p q. heard-accept n c (hears n c s) p q ∙ rw (hears-accept n c s p q) (add-there (accepts (c .side) (c .to)) (single (c .from)) s (omega arith) .each (c .from) (∈-single (c .from)) .holds))
+          (λ e. heard-vote n c (hears n c s) e ∙ rw (hears-vote n c s e)
+          (add-there (votes (c .side) (c .to)) (single (c .from)) s (omega arith) .each (c .from) (∈-single (c .from)) .holds))
+          (λ p q. heard-accept n c (hears n c s) p q
+          ∙ rw (hears-accept n c s p q) (add-there (accepts (c .side) (c .to)) (single (c .from)) s (omega arith) .each (c .from)
+          (∈-single (c .from)) .holds))

@@ -6,6 +6,7 @@ pub mod Heard
 pub mod Answer
 pub mod SoundLaws
 pub mod Taken
+pub mod Kept
 pub mod Inner
 pub mod Steps
 pub mod Exact

@@ -7,8 +7,8 @@ use mathlib.Core.Path.{_≡_, ap, ap₂, _∙_}
 use native.Mathlib.Omega.{arith}
 use lib.Bits.{bitOr}
 use lib.ListN.{length}
-use Rattle.masks.specs.Mask.{_∈_}
 use Rattle.masks.proofs.Laws.Single.{single-∈}
+use Rattle.masks.specs.Mask.{_∈_}
 use Rattle.sets.specs.Paper.{Fbqs}
 use Rattle.sets.specs.Promises.{Questions, Promises}
 use Rattle.voting.specs.Rules.{only, accepting, confirming, nowAccepts, nowConfirms}
@@ -63,7 +63,8 @@ module _ (Q : Questions) (n v side : ℕ) (s : List ℕ) where
       ⊎-elim inl (λ x. inr (only-holds b v (x .1), single-∈ v (only-⊆ b v .each u (x .1)))) (add-cases (confirmed n side) (only b v) s h)
 
   -- nothing changes where what the rule says holds already
-  pub nowAccepts-still : (acceptsNow Q v side s ≡ true → v ∈ get s (accepted n side)) → (acceptsNow Q v side s ≡ true → v ∈ get s (accepts side v)) → nowAccepts Q n v side s ≡ s
+  pub nowAccepts-still : (acceptsNow Q v side s ≡ true → v ∈ get s (accepted n side)) → (acceptsNow Q v side s ≡ true → v ∈ get s (accepts side v)) →
+      nowAccepts Q n v side s ≡ s
   unfolding nowAccepts
   nowAccepts-still f g =
       let b = acceptsNow Q v side s in
@@ -95,8 +96,11 @@ module _ (Q : Questions) (n v side : ℕ) (s : List ℕ) where
         let b = acceptsNow Q v side s in
         let a = only b v in
         let t = add (accepted n side) a s in
-        let heardAccepts : get (add (accepts side v) a t) (accepts side v) ≡ bitOr (get s (accepts side v)) a = get-add (accepts side v) a t (omega (arith, length-add (accepted n side) a s)) ∙ ap (λ (m : ℕ). bitOr m a) (get-add-other (accepted n side) a s (λ e. omega arith)) in
-        let heardVotes : get (add (accepts side v) a t) (votes side v) ≡ get s (votes side v) = get-add-other (accepts side v) a t (λ e. omega arith) ∙ get-add-other (accepted n side) a s (λ e. omega arith) in
+        let heardAccepts : get (add (accepts side v) a t) (accepts side v) ≡ bitOr (get s (accepts side v)) a =
+        get-add (accepts side v) a t (omega (arith, length-add (accepted n side) a s))
+        ∙ ap (λ (m : ℕ). bitOr m a) (get-add-other (accepted n side) a s (λ e. omega arith)) in
+        let heardVotes : get (add (accepts side v) a t) (votes side v) ≡ get s (votes side v) = get-add-other (accepts side v) a t (λ e. omega arith)
+        ∙ get-add-other (accepted n side) a s (λ e. omega arith) in
         ap₂ (accepting Q v) heardVotes heardAccepts ∙ accepting-own Q v (get s (votes side v)) (get s (accepts side v)) (only-⊆ b v)
 
     pub nowConfirms-confirmed : confirmsNow Q v side s ≡ true → v ∈ get (nowConfirms Q n v side s) (confirmed n side)

@@ -1,20 +1,17 @@
 -- Laws of the two rules: they grow with what was heard, leave the own accept out, and say no where nothing was heard.
 use Prim.Native.Nat.{ℕ, _<_}
-use mathlib.Core.Bool.{Bool, true, false, _||_, false≢true}
-use mathlib.Core.List.{List}
+use mathlib.Core.Bool.{Bool, true, false, _||_}
 use mathlib.Core.Logic.{⊎-elim}
-use mathlib.Core.Path.{_≡_, refl, sym, ap, _∙_, subst}
+use mathlib.Core.Path.{_≡_, refl, sym, ap, subst}
 use lib.Bits.{bitOr}
 use Rattle.ground.proofs.Logic.{is-false, clash, or-i, or-e}
-use Rattle.masks.specs.Mask.{single, minus, _∈_, _⊆_}
 use Rattle.masks.proofs.Laws.Single.{∈-single, single-⊆, ∈-or, or-grows, minus-grows, minus-added}
 use Rattle.masks.proofs.Laws.Subsets.{not-in-zero, ⊆-refl, ⊆-zero, minus-⊆}
+use Rattle.masks.specs.Mask.{single, _∈_, _⊆_}
 use Rattle.sets.specs.Paper.{Fbqs}
 use Rattle.sets.specs.Promises.{Questions, Promises}
-use Rattle.voting.specs.Rules.{only, others, accepting, confirming, nowAccepts, nowConfirms}
-use Rattle.voting.specs.State.{votes, accepts, accepted, confirmed, get, add, Below}
+use Rattle.voting.specs.Rules.{only, others, accepting, confirming}
 use Rattle.voting.specs.Theorems.{Rests}
-use Rattle.voting.proofs.State.{below-trans, add-adds, add-grows, add-still}
 
 -- the site alone if the test holds
 
@@ -64,7 +61,8 @@ module _ {S : ℕ → Fbqs} {Q : Questions} {n : ℕ} (R : Rests S Q n) where
   accepting-nothing v h =
       is-false (Q .inQuorum v (bitOr 0 (others 0 v)) || Q .blocked v (others 0 v))
       (λ e. ⊎-elim
-      (λ x. ⊎-elim not-in-zero (λ y. not-in-zero (minus-⊆ 0 (single v) .each v y)) (∈-or 0 (others 0 v) (R .promises .quorum-member v (bitOr 0 (others 0 v)) x)))
+      (λ x. ⊎-elim not-in-zero (λ y. not-in-zero (minus-⊆ 0 (single v) .each v y))
+      (∈-or 0 (others 0 v) (R .promises .quorum-member v (bitOr 0 (others 0 v)) x)))
       (λ x. clash (R .promises .blocked-grows v (others 0 v) 0 (minus-⊆ 0 (single v)) x) (R .promises .nobody-blocked v (R .sites v h)))
       (or-e (Q .inQuorum v (bitOr 0 (others 0 v))) (Q .blocked v (others 0 v)) e))
 

@@ -1,25 +1,19 @@
 -- Laws of a sound state: what its clauses say in facts, and that the fresh state is sound.
-use Prim.Native.Nat.{ℕ, _*_, _+_, _-_, _≤_, _<_}
-use mathlib.Core.Bool.{Bool, true, false}
+use Prim.Native.Nat.{ℕ, _<_}
+use mathlib.Core.Bool.{true, false}
 use mathlib.Core.List.{List}
-use mathlib.Core.Logic.{_⊎_, inl, inr, ⊎-elim}
-use mathlib.Core.Path.{_≡_, refl, sym, ap, ap₂, _∙_, subst, subst₂}
-use native.Mathlib.Omega.{arith}
-use lib.Bits.{bitOr}
-use lib.ListN.{length}
-use Rattle.ground.proofs.Logic.{iff, clash}
-use Rattle.masks.specs.Mask.{has, _∈_}
+use mathlib.Core.Path.{_≡_, sym, ap, ap₂, _∙_}
 use Rattle.masks.proofs.Laws.Members.{has-zero}
 use Rattle.masks.proofs.Laws.Single.{not-in}
 use Rattle.masks.proofs.Laws.Subsets.{mem}
-use Rattle.sets.specs.Paper.{Fbqs}
-use Rattle.sets.specs.Promises.{Questions, Promises}
-use Rattle.voting.specs.Rules.{Call, accepting, confirming, hears, nowAccepts, nowConfirms, taken}
+use Rattle.masks.specs.Mask.{has, _∈_}
+use Rattle.sets.specs.Promises.{Questions}
+use Rattle.voting.specs.Rules.{accepting, confirming}
 use Rattle.voting.specs.Sound.{Sound}
-use Rattle.voting.specs.State.{votes, accepts, voted, accepted, confirmed, size, fresh, get, Below}
-use Rattle.voting.specs.Theorems.{Rests, FreshSound}
+use Rattle.voting.specs.State.{votes, accepts, voted, accepted, confirmed, fresh, get}
+use Rattle.voting.specs.Theorems.{FreshSound}
 use Rattle.voting.proofs.RuleLaws.{accepting-nothing, confirming-nothing}
-use Rattle.voting.proofs.State.{below-trans, at, fresh-length, fresh-get, fresh-none}
+use Rattle.voting.proofs.State.{fresh-length, fresh-get, fresh-none}
 use Rattle.voting.proofs.Receiver.{acceptsNow, confirmsNow}
 
 -- what the clauses say in facts
@@ -63,17 +57,20 @@ fresh-has n i v = ap (λ (m : ℕ). has m v) (fresh-get n i) ∙ has-zero v
 
 pub fresh-sound : FreshSound
 fresh-sound S Q n F R = record {
-    long = fresh-length n;
-    below = λ i v h. absurd (fresh-none n i h);
-    faulty-votes = λ v side hv hs f. fresh-get n (votes side v);
-    faulty-accepts = λ v side hv hs f. fresh-get n (accepts side v);
-    faulty-voted = λ v side hv hs f. fresh-has n (voted n side) v;
-    faulty-accepted = λ v side hv hs f. fresh-has n (accepted n side) v;
-    faulty-confirmed = λ v side hv hs f. fresh-has n (confirmed n side) v;
-    once = λ v h k. fresh-none n (voted n 0) h;
-    own-vote = λ v side hv hs f. fresh-has n (votes side v) v ∙ sym (fresh-has n (voted n side) v);
-    own-accept = λ v side hv hs f. fresh-has n (accepts side v) v ∙ sym (fresh-has n (accepted n side) v);
-    accepted-by-rule = λ v side hv hs f. fresh-has n (accepted n side) v ∙ sym (ap₂ (accepting Q v) (fresh-get n (votes side v)) (fresh-get n (accepts side v)) ∙ accepting-nothing R v hv);
-    confirmed-by-rule = λ v side hv hs f. fresh-has n (confirmed n side) v ∙ sym (ap (confirming Q v) (fresh-get n (accepts side v)) ∙ confirming-nothing R v);
-    votes-sent = λ v u side hv hs f h. absurd (fresh-none n (votes side v) h);
-    accepts-sent = λ v u side hv hs f h. absurd (fresh-none n (accepts side v) h) }
+  long = fresh-length n;
+  below = λ i v h. absurd (fresh-none n i h);
+  faulty-votes = λ v side hv hs f. fresh-get n (votes side v);
+  faulty-accepts = λ v side hv hs f. fresh-get n (accepts side v);
+  faulty-voted = λ v side hv hs f. fresh-has n (voted n side) v;
+  faulty-accepted = λ v side hv hs f. fresh-has n (accepted n side) v;
+  faulty-confirmed = λ v side hv hs f. fresh-has n (confirmed n side) v;
+  once = λ v h k. fresh-none n (voted n 0) h;
+  own-vote = λ v side hv hs f. fresh-has n (votes side v) v ∙ sym (fresh-has n (voted n side) v);
+  own-accept = λ v side hv hs f. fresh-has n (accepts side v) v ∙ sym (fresh-has n (accepted n side) v);
+  accepted-by-rule = λ v side hv hs f. fresh-has n (accepted n side) v
+      ∙ sym (ap₂ (accepting Q v) (fresh-get n (votes side v)) (fresh-get n (accepts side v)) ∙ accepting-nothing R v hv);
+  confirmed-by-rule = λ v side hv hs f. fresh-has n (confirmed n side) v
+      ∙ sym (ap (confirming Q v) (fresh-get n (accepts side v)) ∙ confirming-nothing R v);
+  votes-sent = λ v u side hv hs f h. absurd (fresh-none n (votes side v) h);
+  accepts-sent = λ v u side hv hs f h. absurd (fresh-none n (accepts side v) h);
+}

@@ -2,16 +2,16 @@
 use Prim.Native.Nat.{ℕ, _≤_, _<_}
 use mathlib.Core.List.{List}
 use mathlib.Core.Logic.{_⊎_, inl, inr, ⊎-elim}
-use mathlib.Core.Path.{_≡_, refl, sym, ap, _∙_, subst}
+use mathlib.Core.Path.{_≡_, refl, sym, ap, _∙_}
 use native.Mathlib.Decide.{decLt}
 use native.Mathlib.Omega.{arith}
 use lib.Bits.{bitOr}
 use lib.ListN.{length, set, length-set, length-replicate, getD-replicate, List·getD-eq-default}
 use lib.Seq.{getD-set-same, getD-set-other, set-getD, set-out, ext-getD}
 use Rattle.ground.proofs.Numbers.{same?}
-use Rattle.masks.specs.Mask.{has, _∈_, _⊆_}
-use Rattle.masks.proofs.Laws.Single.{∈-or}
+use Rattle.masks.proofs.Laws.Single.{∈-eq, ∈-or}
 use Rattle.masks.proofs.Laws.Subsets.{not-in-zero, ⊆-refl, ⊆-trans, ⊆-antisym, or-⊆, or-⊆-l, or-⊆-r}
+use Rattle.masks.specs.Mask.{_∈_, _⊆_}
 use Rattle.voting.specs.State.{size, fresh, get, add, Below}
 
 -- the order of states
@@ -24,10 +24,6 @@ below-trans p q = record { long = p .long ∙ q .long; each = λ i. ⊆-trans (p
 
 pub below-antisym : {s t : List ℕ} → Below s t → Below t s → s ≡ t
 below-antisym {s} {t} p q = ext-getD 0 s t (p .long) (λ i h. ⊆-antisym (p .each i) (q .each i))
-
--- who is in the set at a place, carried along an equation of sets
-pub at : {v a b : ℕ} → a ≡ b → v ∈ a → v ∈ b
-at {v} e h = subst (λ (m : ℕ). v ∈ m) e h
 
 -- adding
 
@@ -55,7 +51,11 @@ module _ (i m : ℕ) (s : List ℕ) where
 
   -- adding only adds
   pub add-adds : Below s (add i m s)
-  add-adds = record { long = sym length-add; each = λ j. ⊎-elim (λ e. rw e (here (decLt i (length s)))) (λ ne. rw (get-add-other ne) (⊆-refl (get s j))) (same? j i) }
+  add-adds = record {
+    long = sym length-add;
+    each =
+        λ j. ⊎-elim (λ e. rw e (here (decLt i (length s)))) (λ ne. rw (get-add-other ne) (⊆-refl (get s j))) (same? j i);
+  }
     where
       here : Dec (i < length s) → get s i ⊆ get (add i m s) i
       here (yes h) = rw (get-add h) (or-⊆-l (get s i) m)
@@ -67,17 +67,21 @@ module _ (i m : ℕ) (s : List ℕ) where
 
   -- who is there was there, or was added there
   pub add-cases : {j v : ℕ} → v ∈ get (add i m s) j → (v ∈ get s j) ⊎ ((j ≡ i) × (v ∈ m))
-  add-cases {j} {v} h = ⊎-elim (λ e. here e (decLt i (length s))) (λ ne. inl (at (get-add-other ne) h)) (same? j i)
+  add-cases {j} {v} h = ⊎-elim (λ e. here e (decLt i (length s))) (λ ne. inl (∈-eq (get-add-other ne) h)) (same? j i)
     where
       here : j ≡ i → Dec (i < length s) → (v ∈ get s j) ⊎ ((j ≡ i) × (v ∈ m))
-      here e (yes l) = ⊎-elim (λ k. inl (rw e k)) (λ k. inr (e, k)) (∈-or (get s i) m (at (get-add l) (rw e at h)))
+      here e (yes l) = ⊎-elim (λ k. inl (rw e k)) (λ k. inr (e, k)) (∈-or (get s i) m (∈-eq (get-add l) (rw e at h)))
       here e (no l) = inl (rw (add-beyond (omega arith)) at h)
 
 -- adding grows with the state and with who is added
 pub add-grows : (i : ℕ) {m k : ℕ} {s t : List ℕ} → m ⊆ k → Below s t → Below (add i m s) (add i k t)
 add-grows i {m} {k} {s} {t} p b = record {
-    long = length-add i m s ∙ b .long ∙ sym (length-add i k t);
-    each = λ j. record { each = λ v h. ⊎-elim (λ x. add-adds i k t .each j .each v (b .each j .each v x)) (λ x. new j v h (x .0) (x .1) (decLt i (length t))) (add-cases i m s h) } }
+  long = length-add i m s ∙ b .long ∙ sym (length-add i k t);
+  each = λ j. record {
+    each = λ v h. ⊎-elim (λ x. add-adds i k t .each j .each v (b .each j .each v x))
+        (λ x. new j v h (x .0) (x .1) (decLt i (length t))) (add-cases i m s h);
+  };
+}
   where
     new : (j v : ℕ) → v ∈ get (add i m s) j → j ≡ i → v ∈ m → Dec (i < length t) → v ∈ get (add i k t) j
     new j v h e x (yes l) = rw e (add-there i k t l .each v (p .each v x))
@@ -98,7 +102,7 @@ fresh-get n i = go (decLt i (size n))
     go (no h) = List·getD-eq-default (fresh n) 0 (omega (arith, length-replicate {A = ℕ} (size n) 0))
 
 pub fresh-none : (n i : ℕ) {v : ℕ} → v ∈ get (fresh n) i → ⊥
-fresh-none n i h = not-in-zero (at (fresh-get n i) h)
+fresh-none n i h = not-in-zero (∈-eq (fresh-get n i) h)
 
 -- it is below each state of its length
 pub fresh-least : (n : ℕ) {s : List ℕ} → length s ≡ size n → Below (fresh n) s

@@ -1,6 +1,6 @@
 -- The set of one site; and what a union or a difference holds.
-use Prim.Native.Nat.{ℕ, _^_}
-use mathlib.Core.Bool.{Bool, false}
+use Prim.Native.Nat.{ℕ}
+use mathlib.Core.Bool.{false}
 use mathlib.Core.Logic.{_⊎_, inl, inr, ⊎-elim}
 use mathlib.Core.Path.{_≡_, refl, sym, _∙_, subst}
 use lib.Bits.{bitOr}
@@ -8,7 +8,7 @@ use borrow.Author.Tests.{eqb-true, eq-eqb}
 use Rattle.ground.proofs.Logic.{clash, cases, or-e}
 use Rattle.masks.specs.Mask.{has, single, minus, _∈_, _⊆_}
 use Rattle.masks.proofs.Laws.Members.{has-or, has-single}
-use Rattle.masks.proofs.Laws.Subsets.{mem, ⊆-refl, ⊆-trans, ⊆-antisym, or-⊆, or-⊆-l, or-⊆-r, minus-⊆, ∈-minus, minus-not-in}
+use Rattle.masks.proofs.Laws.Subsets.{mem, ⊆-trans, ⊆-antisym, or-⊆, or-⊆-l, or-⊆-r, minus-⊆, ∈-minus, minus-not-in}
 
 -- a site is in a set or not
 pub in? : (v m : ℕ) → (v ∈ m) ⊎ (v ∈ m → ⊥)
@@ -16,6 +16,10 @@ in? v m = ⊎-elim (λ e. inl (mem e)) (λ e. inr (λ h. clash (h .holds) e)) (c
 
 pub not-in : {v m : ℕ} → has m v ≡ false → v ∈ m → ⊥
 not-in e h = clash (h .holds) e
+
+-- a member of an equal set
+pub ∈-eq : {v a b : ℕ} → a ≡ b → v ∈ a → v ∈ b
+∈-eq {v} e h = subst (λ (m : ℕ). v ∈ m) e h
 
 -- the set of v alone
 pub ∈-single : (v : ℕ) → v ∈ single v
