@@ -23,16 +23,17 @@ module _ {S C : Type 0} (step : C → S → S) (same : S → S → Bool) where
         let f : step c s ≡ s = anti (step c s) s (subst (W .Le (step c s)) e (pass-up step same W l (step c s) (W .inv-step c s i))) (W .up c s i) in
         and-i (subst (λ (x : S). (same s x ≡ true)) (sym f) (W .same-refl s)) (still-quiet l (step c s) (W .inv-step c s i) (e ∙ sym f))
 
-module _ {S C : Type 0} (step : C → S → S) (same : S → S → Bool) (W : Spends step same) (ans : C → S → ℕ) (fresh : S) (inv : W .Inv fresh) (l : List C) where
-  pub iter-suc : (k : ℕ) (s : S) → iter step (suc k) l s ≡ pass step l (iter step k l s)
-  iter-suc zero s = refl
-  iter-suc (suc k) s = iter-suc k (pass step l s)
+-- one pass more at the end
+pub iter-more : {S C : Type 0} (step : C → S → S) (l : List C) (k : ℕ) (s : S) → iter step (suc k) l s ≡ pass step l (iter step k l s)
+iter-more step l zero s = refl
+iter-more step l (suc k) s = iter-more step l k (pass step l s)
 
+module _ {S C : Type 0} (step : C → S → S) (same : S → S → Bool) (W : Spends step same) (ans : C → S → ℕ) (fresh : S) (inv : W .Inv fresh) (l : List C) where
   abbrev Changed : ℕ → Type 0
   Changed k = (j : ℕ) → j < k → iter step (suc j) l fresh ≡ iter step j l fresh → ⊥
 
   still : iter step (suc ((run-ends step same W ans fresh inv l) .changing)) l fresh ≡ iter step ((run-ends step same W ans fresh inv l) .changing) l fresh
-  still = let E = run-ends step same W ans fresh inv l in iter-suc (E .changing) fresh ∙ ap (pass step l) (sym (E .state-is)) ∙ E .fixed ∙ E .state-is
+  still = let E = run-ends step same W ans fresh inv l in iter-more step l (E .changing) fresh ∙ ap (pass step l) (sym (E .state-is)) ∙ E .fixed ∙ E .state-is
 
   pub changed-few : (k : ℕ) → Changed k → k ≤ length l
   changed-few k h = elim (decLt ((run-ends step same W ans fresh inv l) .changing) k) [
@@ -55,7 +56,7 @@ module _ {S C : Type 0} (step : C → S → S) (same : S → S → Bool) (W : Sp
       e = elim (decLt (E .changing) k) [
         | yes m ↦ absurd (h (E .changing) m still)
         | no m ↦ elim (decLt k (E .changing)) [
-          | yes p ↦ absurd (E .each-changed k p (iter-suc k fresh ∙ f))
+          | yes p ↦ absurd (E .each-changed k p (iter-more step l k fresh ∙ f))
           | no p ↦ omega arith
         ]
       ]

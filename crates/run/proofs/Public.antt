@@ -1,0 +1,125 @@
+-- The theorems of the public run: what it leaves in its rooms is the run of the rules, so what is true of the one is true of the other.
+use Prim.Native.Nat.{ℕ, suc, _+_, _*_, _/_, _%_, _≤_, _<_}
+use mathlib.Core.Bool.{Bool, true, false, not, _||_}
+use mathlib.Core.List.{List, [], _∷_}
+use mathlib.Core.Path.{_≡_, refl, sym, ap, ap₂, subst, _∙_}
+use native.Mathlib.Omega.{arith}
+use lib.Dec.{eqb, ltb}
+use lib.ListN.{length, getD, take, drop}
+use lib.Seq.{take-at}
+use borrow.Author.Tests.{eqb-true, not-false}
+use Rattle.ground.proofs.Logic.{or-none}
+use Rattle.masks.proofs.Laws.AllBelow.{in-all}
+use Rattle.masks.specs.Mask.{within, allBelow}
+use Rattle.refusals.proofs.First.{orElse-sound, missed}
+use Rattle.refusals.specs.First.{orElse, refuse}
+use Rattle.refusals.specs.Refusal.{code}
+use Rattle.refusals.specs.declared.Check.{Check}
+use Rattle.refusals.specs.declared.Check.the-variants.{Sound, Refused}
+use Rattle.refusals.specs.declared.Refusal as Refusal
+use Rattle.refusals.specs.declared.Refusal.the-variants.{Room, Set}
+use Rattle.run.proofs.Calls.{calls-at, calls-length}
+use Rattle.run.proofs.Order.{run-is, few-passes, same-end, same-answers, fewer-below}
+use Rattle.run.specs.Passes.{Run, answersOf}
+use Rattle.run.specs.Run.{calls, callAt, runVotes, misshapen, roomless, runCheck, runOf, toRan, ran, stateInto, answersInto}
+use Rattle.run.specs.Theorems.{Taken, endState, endAnswers, OrderFree, FewPasses, IsRun, TheRun, FewerBelow}
+use Rattle.run.specs.declared.Ran.{Ran}
+use Rattle.run.specs.declared.Ran.the-variants.{Passes}
+use Rattle.sets.proofs.Promises.{table-promises}
+use Rattle.sets.specs.Promises.{Questions}
+use Rattle.sets.specs.Slices.{fbqsOf}
+use Rattle.table.proofs.Exact.{checked}
+use Rattle.table.specs.Table.{sites, check, Table}
+use Rattle.voting.specs.Rules.{Call, answer, step}
+use Rattle.voting.specs.State.{size, fresh, Below}
+use Rattle.voting.specs.Step.{questions}
+use Rattle.voting.specs.Theorems.{Rests}
+
+taken-inv : (q : Check) (k p : ℕ) → toRan q k ≡ Passes p → (q ≡ Sound) × (k ≡ p)
+taken-inv Sound k p e = (refl, cc)
+taken-inv (Refused r) k p e = let z : _≡_ {A = ℕ} 0 1 = cc in absurd (omega arith)
+
+-- one answer a call
+answers-length : (Q : Questions) (n F : ℕ) (l : List Call) (s : List ℕ) → length (answersOf (step Q n F) (λ c s. code (answer n F c s)) l s) ≡ length l
+answers-length Q n F [] s = refl
+answers-length Q n F (c ∷ l) s = ap suc (answers-length Q n F l (step Q n F c s))
+
+-- what a taken run has shown of its table and its list
+module _ {t : List ℕ} {F : ℕ} {list state answers : List ℕ} {p : ℕ} (T : Taken t F list state answers p) where
+  checks : (runCheck t F list (length state) (length answers) ≡ Sound) × (runOf t F list .passes ≡ p)
+  unfolding ran
+  checks = taken-inv (runCheck t F list (length state) (length answers)) (runOf t F list .passes) p (T .took)
+
+  sound-table : Table t (sites (length t))
+  unfolding runCheck
+  sound-table = checked t (orElse-sound (check t) _ (checks .0) .0)
+
+  pub rests : Rests (λ v. fbqsOf t (sites (length t))) (questions t) (sites (length t))
+  rests = record { promises = table-promises t (sites (length t)) sound-table; sites = λ v l. in-all l }
+
+  four : length list % 4 ≡ 0
+  unfolding runCheck misshapen
+  four =
+      let n = sites (length t) in
+      let roomed = refuse (roomless n (length list) (length state) (length answers)) Room in
+      let listed = orElse (refuse (misshapen (length list)) Refusal.Refusal.List) roomed in
+      let past = orElse-sound (check t) (orElse (refuse (not (within F (allBelow n))) Set) listed) (checks .0) .1 in
+      let whole = missed (misshapen (length list)) Refusal.Refusal.List roomed (missed (not (within F (allBelow n))) Set listed past .1) .0 in
+      eqb-true (length list % 4) 0
+      (not-false (eqb (length list % 4) 0) (or-none (not (eqb (length list % 4) 0)) (ltb 16384 (length list)) whole .0))
+
+  call-count : length (calls list) ≡ length list / 4
+  call-count = let z = four in calls-length list (length list / 4) (omega arith)
+
+  -- the front of the state room is the state of the run, the front of the answer room its answers
+  pub state-is-run : endState t F list state p ≡ runOf t F list .state
+  unfolding stateInto
+  state-is-run = take-at (runOf t F list .state) (drop (size (sites (length t))) state) (size (sites (length t))) (run-is rests F (calls list) .inv .long)
+
+  pub answers-are-run : endAnswers t F list answers p ≡ runOf t F list .answers
+  unfolding answersInto
+  answers-are-run =
+      take-at (runOf t F list .answers) (drop (length list / 4) answers) (length list / 4)
+      (ap length (run-is rests F (calls list) .last-answers)
+      ∙ answers-length (questions t) (sites (length t)) F (calls list) (runOf t F list .state)
+      ∙ call-count)
+
+  pub passes-are-run : runOf t F list .passes ≡ p
+  passes-are-run = checks .1
+
+  at-call : (i : ℕ) (d : Call) → i < length list / 4 → getD (calls list) i d ≡ callAt list i
+  at-call i d h = let z = four in calls-at list i d (omega arith)
+
+pub few : FewPasses
+few t F list state answers p T =
+    subst (λ (k : ℕ). k ≤ suc (length list / 4)) (passes-are-run T)
+    (subst (λ (k : ℕ). runOf t F list .passes ≤ suc k) (call-count T) (few-passes (rests T) F (calls list)))
+
+pub order-free : OrderFree
+order-free t F a stateA answersA p b stateB answersB q A B o w = (
+  state-is-run A ∙ same-end (rests A) F (calls a) o (calls b) (w .0) (w .1) ∙ sym (state-is-run B),
+  λ i j hi hj e.
+      let d : Call = callAt a i in
+      ap (λ (l : List ℕ). getD l i 0) (answers-are-run A)
+      ∙ same-answers (rests A) F (calls a) o (calls b) (w .0) (w .1) d i j (rw (call-count A) hi) (rw (call-count B) hj)
+      (at-call A i d hi ∙ e ∙ sym (at-call B j d hj))
+      ∙ sym (ap (λ (l : List ℕ). getD l j 0) (answers-are-run B)),
+)
+
+pub fewer : FewerBelow
+fewer t F a stateA answersA p b stateB answersB q A B o w =
+    rw (state-is-run A, state-is-run B) (fewer-below (rests A) F (calls a) o (calls b) w)
+
+pub the-run : TheRun
+the-run t F list state answers p T =
+    let E = run-is (rests T) F (calls list) in
+    subst (IsRun (questions t) (sites (length t)) F (calls list))
+    (λ i. record { state = sym (state-is-run T) i; passes = passes-are-run T i; answers = sym (answers-are-run T) i })
+    (record {
+      changing = E .changing;
+      passes-is = E .passes-is;
+      state-is = E .state-is;
+      each-changed = E .each-changed;
+      last-still = E .fixed;
+      last-answers = E .last-answers;
+    })
