@@ -7,3 +7,5 @@ pub mod Public
 pub mod OnlyRun
 pub mod Spent
 pub mod Bound
+pub mod Chain
+pub mod Reached
