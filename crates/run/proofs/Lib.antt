@@ -5,3 +5,7 @@ pub mod Order
 pub mod Calls
 pub mod Public
 pub mod OnlyRun
+pub mod Spent
+pub mod Bound
+pub mod Chain
+pub mod Reached
