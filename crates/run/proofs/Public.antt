@@ -46,9 +46,9 @@ answers-length Q n F (c ∷ l) s = ap suc (answers-length Q n F l (step Q n F c 
 
 -- what a taken run has shown of its table and its list
 module _ {t : List ℕ} {F : ℕ} {list state answers : List ℕ} {p : ℕ} (T : Taken t F list state answers p) where
-  checks : (runCheck t F list (length state) (length answers) ≡ Sound) × (runOf t F list .passes ≡ p)
+  checks : (runCheck t F (length list) (length state) (length answers) ≡ Sound) × (runOf t F list .passes ≡ p)
   unfolding ran
-  checks = taken-inv (runCheck t F list (length state) (length answers)) (runOf t F list .passes) p (T .took)
+  checks = taken-inv (runCheck t F (length list) (length state) (length answers)) (runOf t F list .passes) p (T .took)
 
   sound-table : Table t (sites (length t))
   unfolding runCheck

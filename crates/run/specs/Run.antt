@@ -46,14 +46,14 @@ misshapen length = not (eqb (length % 4) 0) || ltb 16384 length
 unfoldable pub roomless : ℕ → ℕ → ℕ → ℕ → Bool
 roomless n bytes state answers = ltb state (size n) || ltb answers (bytes / 4)
 
--- for rooms of so many numbers and bytes
-unfoldable pub runCheck : List ℕ → ℕ → List ℕ → ℕ → ℕ → Check
+-- for a list of so many bytes, and rooms of so many numbers and bytes
+unfoldable pub runCheck : List ℕ → ℕ → ℕ → ℕ → ℕ → Check
 unfolding check misshapen roomless
-runCheck t F list state answers =
+runCheck t F bytes state answers =
     orElse (check t)
     (orElse (refuse (not (within F (allBelow (sites (length t))))) Set)
-    (orElse (refuse (misshapen (length list)) Refusal.Refusal.List)
-    (refuse (roomless (sites (length t)) (length list) state answers) Room)))
+    (orElse (refuse (misshapen bytes) Refusal.Refusal.List)
+    (refuse (roomless (sites (length t)) bytes state answers) Room)))
 
 -- the run of this table, faulty set and list
 abbrev pub runOf : List ℕ → ℕ → List ℕ → Run (List ℕ)
@@ -66,7 +66,7 @@ toRan (Check.Refused r) passes = Ran.Refused r
 -- the answer: the number of passes, or the refusal
 unfoldable pub ran : List ℕ → ℕ → List ℕ → ℕ → ℕ → Ran
 unfolding runCheck runVotes
-ran t F list state answers = toRan (runCheck t F list state answers) (runOf t F list .passes)
+ran t F list state answers = toRan (runCheck t F (length list) state answers) (runOf t F list .passes)
 
 -- what a room holds then: the result in front and the rest kept; on refusal all is kept
 abbrev pub front : Ran → List ℕ → ℕ → List ℕ → List ℕ

@@ -129,9 +129,9 @@ fn run_cleared(
     run_fresh(table, n, faulty, list, state, answers)
 }
 
-// Table, 10, 17, 9.
-fn check_run(table: &[u64], faulty: u64, list: &[u8], state: usize, answers: usize) -> Check
-    ensures { λ r. ⌜ r ≡ runCheck (now (table .entry)) faulty (now (list .entry)) state answers ⌝ }
+// Table, 10, 17, 9, for a list of so many bytes and rooms of so many numbers and bytes.
+pub fn check(table: &[u64], faulty: u64, bytes: usize, state: usize, answers: usize) -> Check
+    ensures { λ r. ⌜ r ≡ runCheck (now (table .entry)) faulty bytes state answers ⌝ }
 {
     let q = table::check(table);
     let Check::Sound = q else {
@@ -141,16 +141,16 @@ fn check_run(table: &[u64], faulty: u64, list: &[u8], state: usize, answers: usi
     if !masks::within(faulty, masks::all_below(n as u64)) {
         return Check::Refused(Refusal::Set);
     }
-    if list.len() % 4 != 0 {
+    if bytes % 4 != 0 {
         return Check::Refused(Refusal::List);
     }
-    if 16384 < list.len() {
+    if 16384 < bytes {
         return Check::Refused(Refusal::List);
     }
     if state < 4 * n + 6 {
         return Check::Refused(Refusal::Room);
     }
-    if answers < list.len() / 4 {
+    if answers < bytes / 4 {
         return Check::Refused(Refusal::Room);
     }
     Check::Sound
@@ -162,7 +162,7 @@ pub fn run(table: &[u64], faulty: u64, list: &[u8], state: &mut [u64], answers: 
     ensures states { λ r. ⌜ now (state .exit) ≡ stateInto r (now (table .entry)) faulty (now (list .entry)) (now (state .entry)) ⌝ }
     ensures bytes { λ r. ⌜ now (answers .exit) ≡ answersInto r (now (table .entry)) faulty (now (list .entry)) (now (answers .entry)) ⌝ }
 {
-    let q = check_run(table, faulty, list, state.len(), answers.len());
+    let q = check(table, faulty, list.len(), state.len(), answers.len());
     if let Check::Refused(r) = q {
         return Ran::Refused(r);
     }
