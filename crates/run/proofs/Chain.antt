@@ -1,5 +1,5 @@
--- The chain of n sites, as a table: sites 0 and 1 have the slice of both, each site after them the slice of itself and the one before it. So a site is
--- blocked by the one before it alone, the first two are a quorum, and no site is one by itself.
+-- The chain of n sites, as a table: sites 0 and 1 have the slice of both, each site after them the slice of itself and the one before it. So a site
+-- is blocked by the one before it alone, the first two are a quorum, and no site is one by itself.
 use Prim.Native.Nat.{ℕ, zero, suc, _+_, _*_, _≤_, _<_}
 use mathlib.Core.Bool.{true}
 use mathlib.Core.List.{List, _∷_}

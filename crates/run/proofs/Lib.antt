@@ -8,4 +8,5 @@ pub mod OnlyRun
 pub mod Spent
 pub mod Bound
 pub mod Chain
+pub mod Stages
 pub mod Reached

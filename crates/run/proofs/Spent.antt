@@ -27,9 +27,16 @@ use Rattle.voting.specs.Sound.{Sound}
 use Rattle.voting.specs.State.{voted, accepted, get, Below}
 use Rattle.voting.specs.Theorems.{Rests}
 
--- Calls of the sort P: they alone put a site at the places I, and besides the other side's votes only what stands there decides whether they are taken.
+-- a pass of which no call changes anything
+pub pass-still : {S A : Type 0} (does : A → S → S) (m : List A) {s : S} → ((c : A) → List·Memᴰ c m → does c s ≡ s) → pass does m s ≡ s
+pass-still does [] f = refl
+pass-still does (c ∷ m) f = ap (pass does m) (f c (List·Memᴰ·head refl)) ∙ pass-still does m (λ d k. f d (List·Memᴰ·tail k))
+
+-- Calls of the sort P: they alone put a site at the places I, and besides the other side's votes only what stands there decides whether they are
+-- taken.
 pub record Sort (Q : Questions) (n F : ℕ) (P : Call → Type 0) (I : ℕ → Type 0) : Type 0 where
-  pub theirs : {c : Call} {s : List ℕ} {i u : ℕ} → Sound Q n F s → Takes n F c s → I i → u ∈ get (taken Q n c s) i → (u ∈ get s i) ⊎ P c
+  pub theirs : {c : Call} {s : List ℕ} {i u : ℕ} → Sound Q n F s → Takes n F c s → I i → u ∈ get (taken Q n c s) i →
+      (u ∈ get s i) ⊎ P c
   pub before : {c : Call} {s t : List ℕ} → P c → Below s t → ((i : ℕ) → I i → get t i ⊆ get s i) → Takes n F c t → Takes n F c s
 
 -- the proposals: they make the votes
@@ -71,7 +78,8 @@ of-side Q n F {σ} hσ = record {
   };
 }
   where
-    theirs : {c : Call} {s : List ℕ} {i u : ℕ} → Sound Q n F s → Takes n F c s → Sent n σ i → u ∈ get (taken Q n c s) i → (u ∈ get s i) ⊎ OfSide σ c
+    theirs : {c : Call} {s : List ℕ} {i u : ℕ} → Sound Q n F s → Takes n F c s → Sent n σ i → u ∈ get (taken Q n c s) i →
+        (u ∈ get s i) ⊎ OfSide σ c
     theirs S K (inl e) h = rw e (⊎-elim inl (λ x. inr (sym (x .1))) (taken-voted S K hσ (rw e at h)))
     theirs S K (inr e) h = rw e (⊎-elim inl (λ x. inr (sym (x .1))) (taken-accepted S K hσ (rw e at h)))
 
@@ -81,7 +89,8 @@ module _ {Σ : ℕ → Fbqs} {Q : Questions} {n : ℕ} (R : Rests Σ Q n) (F : �
   Spent P s = (c : Call) → List·Memᴰ c l → P c → Takes n F c s → heard n c s ≡ true
 
   -- a spent call changes nothing
-  pub spent-still : {P : Call → Type 0} {s : List ℕ} → Sound Q n F s → Spent P s → (c : Call) → List·Memᴰ c l → P c → step Q n F c s ≡ s
+  pub spent-still : {P : Call → Type 0} {s : List ℕ} → Sound Q n F s → Spent P s → (c : Call) → List·Memᴰ c l → P c →
+      step Q n F c s ≡ s
   spent-still {s = s} S z c m p = ⊎-elim (λ e. e) (λ x. heard-still S c (z c m p (x .0))) (step-cases n F c s Q)
 
   -- a pass meets each of its calls in some state between its start and its end
@@ -107,7 +116,8 @@ module _ {Σ : ℕ → Fbqs} {Q : Questions} {n : ℕ} (R : Rests Σ Q n) (F : �
 
   module _ {P : Call → Type 0} {I : ℕ → Type 0} (A : Sort Q n F P I) where
     -- spent calls stay spent, and nobody new comes to their places
-    step-kept : {s : List ℕ} → Sound Q n F s → Spent P s → (c : Call) → List·Memᴰ c l → (i : ℕ) → I i → get (step Q n F c s) i ⊆ get s i
+    step-kept : {s : List ℕ} → Sound Q n F s → Spent P s → (c : Call) → List·Memᴰ c l → (i : ℕ) → I i →
+        get (step Q n F c s) i ⊆ get s i
     step-kept {s} S z c m i hi = record {
       each = λ u h.
           let same : step Q n F c s ≡ s → u ∈ get s i = λ e. subst (λ (t : List ℕ). u ∈ get t i) e h in
@@ -130,7 +140,8 @@ module _ {Σ : ℕ → Fbqs} {Q : Questions} {n : ℕ} (R : Rests Σ Q n) (F : �
         (r .0, λ i hi. ⊆-trans (r .1 i hi) (step-kept S z c hc i hi))
 
     -- a pass that brings nobody new to their places spends them
-    pub quiet-spends : {s : List ℕ} → Sound Q n F s → ((i : ℕ) → I i → get (pass (step Q n F) l s) i ⊆ get s i) → Spent P (pass (step Q n F) l s)
+    pub quiet-spends : {s : List ℕ} → Sound Q n F s → ((i : ℕ) → I i → get (pass (step Q n F) l s) i ⊆ get s i) →
+        Spent P (pass (step Q n F) l s)
     quiet-spends {s} S kept = spent-after S (λ c p. A .before p (pass-up (step Q n F) alike (spends R F) l s S) kept)
 
   -- the proposals are spent after any pass
@@ -139,14 +150,9 @@ module _ {Σ : ℕ → Fbqs} {Q : Questions} {n : ℕ} (R : Rests Σ Q n) (F : �
 
   -- where the calls of both sides are spent a pass changes nothing
   pub both-still : {s : List ℕ} → Sound Q n F s → Spent (OfSide 0) s → Spent (OfSide 1) s → pass (step Q n F) l s ≡ s
-  both-still {s} S a b = go l (λ c m. m)
+  both-still {s} S a b =
+      pass-still (step Q n F) l
+      (λ c m. ⊎-elim (λ e. e) (λ x. heard-still S c (side c m (x .0) (c .side) (x .0 .range .side-in) refl)) (step-cases n F c s Q))
     where
-      still : (c : Call) → List·Memᴰ c l → step Q n F c s ≡ s
-      still c m =
-          ⊎-elim (λ e. e)
-          (λ x. heard-still S c (two (λ σ. c .side ≡ σ → heard n c s ≡ true) (λ e. a c m e (x .0)) (λ e. b c m e (x .0)) (c .side) (x .0 .range .side-in) refl))
-          (step-cases n F c s Q)
-
-      go : (m : List Call) → ((c : Call) → List·Memᴰ c m → List·Memᴰ c l) → pass (step Q n F) m s ≡ s
-      go [] f = refl
-      go (c ∷ m) f = ap (pass (step Q n F) m) (still c (f c (List·Memᴰ·head refl))) ∙ go m (λ d k. f d (List·Memᴰ·tail k))
+      side : (c : Call) → List·Memᴰ c l → Takes n F c s → (σ : ℕ) → σ < 2 → c .side ≡ σ → heard n c s ≡ true
+      side c m K = two (λ σ. c .side ≡ σ → heard n c s ≡ true) (λ e. a c m e K) (λ e. b c m e K)
