@@ -1,3 +1,5 @@
 pub mod Load
 pub mod Block
 pub mod Store
+pub mod ReadLaws
+pub mod WriteLaws
