@@ -44,13 +44,13 @@ module _ (many : ℕ) where
   unfolding misshapen
   too-many-blocks l = rw (lt-ltb 32768 many (omega arith), or-true) (or-true (eqb many 0))
 
-  pub well-shaped : (many / 512 ≡ 0 → ⊥) → many % 512 ≡ 0 → many / 512 ≤ 64 → misshapen many ≡ false
+  pub whole-blocks : (many / 512 ≡ 0 → ⊥) → many % 512 ≡ 0 → many / 512 ≤ 64 → misshapen many ≡ false
   unfolding misshapen
-  well-shaped ne e l = rw (ne-eqb many 0 (λ z. ne (omega arith)), eq-eqb (many % 512) 0 e, le-ltb 32768 many (omega arith)) refl
+  whole-blocks ne e l = rw (ne-eqb many 0 (λ z. ne (omega arith)), eq-eqb (many % 512) 0 e, le-ltb 32768 many (omega arith)) refl
 
-  pub shape : misshapen many ≡ false → (many ≡ 512 * (many / 512)) × (1 ≤ many / 512) × (many / 512 ≤ 64)
+  pub blocks-shape : misshapen many ≡ false → (many ≡ 512 * (many / 512)) × (1 ≤ many / 512) × (many / 512 ≤ 64)
   unfolding misshapen
-  shape h =
+  blocks-shape h =
       let p = or-none (eqb many 0) (not (eqb (many % 512) 0) || ltb 32768 many) h in
       let q = or-none (not (eqb (many % 512) 0)) (ltb 32768 many) (p .1) in
       let ne = eqb-false many 0 (p .0) in
@@ -94,7 +94,7 @@ module _ (image : List ℕ) (room : ℕ) where
     unfolding read readCheck
     read-sites l h =
         let n = length image / 512 in
-        let s = shape (length image) e in
+        let s = blocks-shape (length image) e in
         rw (e, le-ltb room (63 * n) l, h, some-quorum n (loads n image) (loads-table n image (s .1) (s .2) h)) refl
 
   pub read-taken : (n : ℕ) → read image room ≡ Sites n → (misshapen (length image) ≡ false) × (length image / 512 ≡ n) × (blocksCheck n image ≡ Sound)
