@@ -3,3 +3,4 @@ pub mod Block
 pub mod Store
 pub mod ReadLaws
 pub mod WriteLaws
+pub mod OneSite
