@@ -4,3 +4,4 @@ pub mod Store
 pub mod ReadLaws
 pub mod WriteLaws
 pub mod OneSite
+pub mod RoundTrip

@@ -109,3 +109,9 @@ module _ (image : List ℕ) (room : ℕ) where
       done : (k n : ℕ) (s : Check) → toReading k s ≡ Sites n → (s ≡ Sound) × (k ≡ n)
       done k n Sound h = (refl, cc)
       done k n (Refused r) h = let z : _≡_ {A = ℕ} 0 1 = cc in absurd (omega arith)
+
+-- an image of n blocks that pass, and room for them
+pub read-all : (image : List ℕ) (room n : ℕ) → length image ≡ 512 * n → 1 ≤ n → n ≤ 64 → 63 * n ≤ room → blocksCheck n image ≡ Sound → read image room ≡ Sites n
+read-all image room n len p q l h =
+    let k : length image / 512 ≡ n = omega arith in
+    read-sites image room (whole-blocks (length image) (λ z. omega arith) (omega arith) (rw k q)) (rw k l) (rw k h) ∙ ap Sites k

@@ -14,6 +14,7 @@ use Rattle.refusals.proofs.First.{missed}
 use Rattle.refusals.specs.declared.Check.{Check}
 use Rattle.refusals.specs.declared.Check.the-variants.{Sound}
 use Rattle.refusals.specs.declared.Refusal.the-variants.{Length, Room}
+use Rattle.table.proofs.Table.{well-shaped}
 use Rattle.table.specs.Table.{sites, misshapen, sitesCheck}
 
 module _ (t : List ℕ) (room : ℕ) where
@@ -42,3 +43,9 @@ module _ (t : List ℕ) (room : ℕ) where
       done : (k n : ℕ) (s : Check) → toWriting k s ≡ Sites n → (s ≡ Sound) × (k ≡ n)
       done k n Sound h = (refl, cc)
       done k n (Check.Refused r) h = let z : _≡_ {A = ℕ} 0 1 = cc in absurd (omega arith)
+
+-- a table of n sites that pass, and room for them
+pub write-all : (t : List ℕ) (room n : ℕ) → length t ≡ 63 * n → 1 ≤ n → n ≤ 64 → 512 * n ≤ room → sitesCheck n t ≡ Sound → write t room ≡ Sites n
+write-all t room n len p q l h =
+    let k : sites (length t) ≡ n = omega arith in
+    write-sites t room (well-shaped (length t) (omega arith) (λ z. omega arith) (rw k q)) (rw k l) Sound (rw k h) ∙ ap Sites k
