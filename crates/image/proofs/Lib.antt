@@ -5,3 +5,4 @@ pub mod ReadLaws
 pub mod WriteLaws
 pub mod OneSite
 pub mod RoundTrip
+pub mod Coincide
