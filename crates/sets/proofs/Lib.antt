@@ -5,3 +5,5 @@ pub mod Lawful
 pub mod Decides
 pub mod Promises
 pub mod WholeQuorum
+pub mod Places
+pub mod Coincide

@@ -1,15 +1,14 @@
 // Set questions over a checked table. Those with a set b ask it of the table with the sites of b deleted; b = 0 is the table itself.
 ghost use mathlib.Core.Path.{_≡_};
-ghost use mathlib.Core.Bool.{_&&_, _||_, cond};
-ghost use Prim.Native.Nat.{ℕ, _+_, _*_, _<_, _≤_, _^_};
+ghost use mathlib.Core.Bool.{true, false, _&&_, _||_, cond};
+ghost use Prim.Native.Nat.{ℕ, _<_, _≤_, _^_};
 ghost use lib.Bits.{bitOr};
 ghost use lib.Dec.{eqb};
-ghost use lib.ListN.{length, getD};
-ghost use Rattle.masks.specs.Mask.{has, within, minus, allBelow};
-ghost use Rattle.table.specs.Table.{Table};
+ghost use Rattle.masks.specs.Mask.{has, single, within, minus, allBelow};
+ghost use Rattle.table.specs.Table.{countOf, sliceOf, Table};
 ghost use Rattle.sets.specs.Slices.{slicesOf};
 ghost use Rattle.sets.specs.Quorum.{quorum, round, largest, rounds};
-ghost use Rattle.sets.specs.Verdicts.{beside, apart, firstApart, meets, dispensable, intact};
+ghost use Rattle.sets.specs.Verdicts.{beside, apart, firstApart, dispensable, intact};
 ghost use Rattle.sets.specs.Places.{Passed};
 
 // The set w blocks site v: it meets every slice of v.
@@ -29,11 +28,14 @@ pub fn blocks(table: &[u64], n: usize, w: u64, v: usize) -> bool
 }
 
 // The first slice of site v from slice start on that is inside u, or the count of its slices.
-fn next_inside(table: &[u64], n: usize, v: usize, u: u64, start: usize) -> usize
+fn next_inside(table: &[u64], n: usize, v: usize, u: u64, start: u8) -> usize
     requires { ⌜ Table (now table) n × (v < n) ⌝ }
+    ensures { λ r. ⌜ r ≤ countOf (now (table .entry)) v ⌝ }
+    ensures { λ r. ⌜ (r < countOf (now (table .entry)) v → within (sliceOf (now (table .entry)) v r) u ≡ true) ⌝ }
+    ensures { λ r. ⌜ ((i : ℕ) → start ≤ i → i < r → within (sliceOf (now (table .entry)) v i) u ≡ false) ⌝ }
 {
     let many = table[63 * v] as usize;
-    let mut i = start;
+    let mut i = start as usize;
     while i < many {
         if masks::within(table[63 * v + 1 + i], u) {
             return i;
@@ -46,6 +48,8 @@ fn next_inside(table: &[u64], n: usize, v: usize, u: u64, start: usize) -> usize
 // The set of site v if it stays in the round that starts at w, else the empty set. Its place moves on to its first slice that still holds.
 fn stays(table: &[u64], n: usize, b: u64, v: usize, w: u64, places: &mut [u8; 64]) -> u64
     requires { ⌜ Table (now table) n × (v < n) × Passed (now table) n b w (now places) ⌝ }
+    ensures { λ r. ⌜ r ≡ cond (has w v && slicesOf (now (table .entry)) .deleted b v w) (single v) 0 ⌝ }
+    ensures { λ r. ⌜ Passed (now (table .entry)) n b w (now (places .exit)) ⌝ }
 {
     if !masks::has(w, v as u64) {
         return 0;
@@ -53,8 +57,7 @@ fn stays(table: &[u64], n: usize, b: u64, v: usize, w: u64, places: &mut [u8; 64
     if masks::has(b, v as u64) {
         return 0;
     }
-    let start = places[v] as usize;
-    let i = next_inside(table, n, v, w | b, start);
+    let i = next_inside(table, n, v, w | b, places[v]);
     places[v] = i as u8;
     if i < table[63 * v] as usize {
         return masks::single(v as u64);

@@ -6,7 +6,7 @@ use mathlib.Core.Path.{_≡_, refl, sym, ap, ap₂, _∙_}
 use native.Mathlib.Nat.{le-refl, zero-lt-suc, pow-suc, one-mul, add-comm, add-zero}
 use native.Mathlib.Numerals.{add-one}
 use native.Mathlib.Omega.{arith}
-use lib.Bits.{bitOr, or-shifted-r}
+use lib.Bits.{bitOr, or-shifted-r, or-zero-r}
 use lib.Dec.{eqb, ltb}
 use borrow.Author.Tests.{eqb-true, eqb-false, eq-eqb, ne-eqb, ltb-true, ltb-false, lt-ltb, le-ltb}
 use Rattle.ground.proofs.Logic.{and-r, and-i, cases}
@@ -95,3 +95,9 @@ gather-has n a h =
     ⊆-antisym
     (record { each = λ v k. mem (gather-∈ n (has a) k) })
     (record { each = λ v k. ∈-gather (has a) (∈-below h k) (k .holds) })
+
+-- the step of a loop that adds a set for each site, the site's own or none
+pub gather-more : (n : ℕ) (p : ℕ → Bool) → bitOr (gather n p) (cond (p n) (2 ^ n) 0) ≡ gather (n + 1) p
+gather-more n p =
+    ⊎-elim (λ e. ap (λ (b : Bool). bitOr (gather n p) (cond b (2 ^ n) 0)) e ∙ gather-took n p e)
+    (λ e. ap (λ (b : Bool). bitOr (gather n p) (cond b (2 ^ n) 0)) e ∙ or-zero-r (gather n p) ∙ gather-left n p e) (cases (p n))
