@@ -1,12 +1,12 @@
 -- Laws of reading: the length, a way out each, that a table which was read holds a quorum, and what an answer says that is no refusal.
 use Prim.Native.Nat.{ℕ, _*_, _/_, _%_, _≤_, _<_}
 use mathlib.Core.Bool.{true, false, _||_, not, or-true}
-use mathlib.Core.List.{List}
+use mathlib.Core.List.{List, _++_}
 use mathlib.Core.Logic.{⊎-elim}
 use mathlib.Core.Path.{_≡_, refl, sym, ap, _∙_}
 use native.Mathlib.Omega.{arith}
 use lib.Dec.{eqb, ltb}
-use lib.ListN.{length}
+use lib.ListN.{length, take}
 use borrow.Author.Tests.{ne-eqb, eq-eqb, eqb-true, lt-ltb, le-ltb, not-false, eqb-false, ltb-false}
 use Rattle.ground.proofs.Logic.{cases, or-none}
 use Rattle.ground.specs.Pieces.{part}
@@ -15,7 +15,7 @@ use Rattle.image.specs.Read.{quorumless, readCheck, toReading, read}
 use Rattle.image.specs.declared.Reading.{Reading}
 use Rattle.image.specs.declared.Reading.the-variants.{Sites}
 use Rattle.image.proofs.Block.{block-sound}
-use Rattle.image.proofs.Load.{length-loads, loads-site}
+use Rattle.image.proofs.Load.{length-loads, loads-site, loads-front}
 use Rattle.masks.specs.Mask.{allBelow}
 use Rattle.refusals.proofs.First.{orElse-sound, first-all, first-sound, missed}
 use Rattle.refusals.specs.declared.Check.{Check}
@@ -73,6 +73,14 @@ loads-table n image p q h = checked-sites (loads n image) n (length-loads n imag
 pub some-quorum : (n : ℕ) (t : List ℕ) → Table t n → quorumless n t ≡ false
 unfolding quorumless
 some-quorum n t s = ne-eqb (largest (slicesOf t .inside) n (allBelow n)) 0 (table-some-quorum t n s)
+
+-- the same of the table that a room begins with once all blocks were loaded into it
+module _ (n : ℕ) (image d m : List ℕ) (e : m ≡ loads n image ++ d) (p : 1 ≤ n) (q : n ≤ 64) (h : blocksCheck n image ≡ Sound) where
+  pub room-table : Table (take (63 * n) m) n
+  room-table = rw (e, loads-front n image d) (loads-table n image p q h)
+
+  pub room-quorum : (w : ℕ) → w ≡ allBelow n → largest (slicesOf (take (63 * n) m) .inside) n w ≡ 0 → ⊥
+  room-quorum w ew z = table-some-quorum (take (63 * n) m) n room-table (rw ew at z)
 
 -- the ways out
 

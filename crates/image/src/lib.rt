@@ -89,6 +89,36 @@ fn load_blocks(image: &[u8], n: usize, room: &mut [u64])
     }
 }
 
+// Reads an image into the room. All blocks are checked before a number of the room changes.
+pub fn read(image: &[u8], room: &mut [u64]) -> Reading
+    ensures answer { λ r. ⌜ r ≡ read (now (image .entry)) (length (now (room .entry))) ⌝ }
+    ensures memory { λ r. ⌜ now (room .exit) ≡ readInto r (now (image .entry)) (now (room .entry)) ⌝ }
+{
+    let n = image.len() / 512;
+    if n == 0 {
+        return Reading::Refused(Refusal::Length);
+    }
+    if image.len() % 512 != 0 {
+        return Reading::Refused(Refusal::Length);
+    }
+    if 64 < n {
+        return Reading::Refused(Refusal::Length);
+    }
+    if room.len() < 63 * n {
+        return Reading::Refused(Refusal::Room);
+    }
+    let q = check_blocks(image, n);
+    if let Check::Refused(r) = q {
+        return Reading::Refused(r);
+    }
+    load_blocks(image, n, room);
+    let l = sets::largest(&room[..63 * n], n, masks::all_below(n as u64));
+    if l.set == 0 {
+        return Reading::Refused(Refusal::NoQuorum);
+    }
+    Reading::Sites(n as u64)
+}
+
 // Bytes 0 to 7 of a block.
 fn put_head(b: &mut [u8], i: u16, n: u16, many: u16)
     requires { ⌜ length (now b) ≡ 512 ⌝ }

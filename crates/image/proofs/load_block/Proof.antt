@@ -1,3 +1,4 @@
+-- `load_block` meets its contract: after k turns the room holds the count and the first k places of the block.
 use Prim.Native.Nat.{_+_, _≤_, _-_}
 use mathlib.Core.List.{_++_}
 use mathlib.Core.Path.{_≡_}
@@ -15,19 +16,6 @@ Inv-loop b m₀ k₀ m k = (k ≤ 62) × (length m₀ ≡ 63) × (length m ≡ 6
 abbrev μ-loop : tie.MeasureT-loop
 μ-loop b m₀ k₀ m k = 62 - k
 
--- src/lib.rt:31:12
-get16-requires : tie.Need-get16-requires Inv-loop μ-loop
-get16-requires c κs = search needs
-
--- src/lib.rt:31:12
-cast-m : tie.Need-cast-m Inv-loop μ-loop
-cast-m c = search needs
-
--- src/lib.rt:31:5
-slice-write-m : tie.Need-slice-write-m Inv-loop μ-loop
-slice-write-m c = search needs
-
--- src/lib.rt:33:5
 loop-holds : tie.Need-loop-holds Inv-loop μ-loop
 loop-holds c =
     let a = c .before .before .before .args in (
@@ -37,39 +25,6 @@ loop-holds c =
       load-holds (now (a .b)) (now (a .m)) (c .get16 .result) (omega arith) (c .get16 .ensures),
     )
 
--- src/lib.rt:34:37
-mul-get64 : tie.Need-mul-get64 Inv-loop μ-loop
-mul-get64 c = search needs
-
--- src/lib.rt:34:33
-add-get64 : tie.Need-add-get64 Inv-loop μ-loop
-add-get64 c = search needs
-
--- src/lib.rt:34:20
-get64-requires : tie.Need-get64-requires Inv-loop μ-loop
-get64-requires c κs = search needs
-
--- src/lib.rt:34:11
-add-m : tie.Need-add-m Inv-loop μ-loop
-add-m c = search needs
-
--- src/lib.rt:34:9
-mul-m : tie.Need-mul-m Inv-loop μ-loop
-mul-m c = search needs
-
--- src/lib.rt:34:9
-slice-write-m-2 : tie.Need-slice-write-m-2 Inv-loop μ-loop
-slice-write-m-2 c = search needs
-
--- src/lib.rt:35:9
-add-k : tie.Need-add-k Inv-loop μ-loop
-add-k c = search needs
-
--- src/lib.rt:33:5
-loop-less : tie.Need-loop-less Inv-loop μ-loop
-loop-less c = search needs
-
--- src/lib.rt:33:5
 loop-again : tie.Need-loop-again Inv-loop μ-loop
 loop-again c =
     let a = c .before .before .before .before .before .before .args in
@@ -81,11 +36,6 @@ loop-again c =
           (rw (l .inv .1) (omega arith)) (l .inv .3) (c .get64 .ensures),
     )
 
--- src/lib.rt:27:1
-same-length : tie.Need-same-length Inv-loop μ-loop
-same-length c = search needs
-
--- src/lib.rt:27:1
 returns : tie.Need-returns Inv-loop μ-loop
 returns c =
     let l = c .before .loop in
@@ -98,18 +48,18 @@ load-block-spec =
     (tie.spec
     Inv-loop
     μ-loop
-    get16-requires
-    cast-m
-    slice-write-m
+    (λ c κs. search needs)
+    (λ c. search needs)
+    (λ c. search needs)
     loop-holds
-    mul-get64
-    add-get64
-    get64-requires
-    add-m
-    mul-m
-    slice-write-m-2
-    add-k
-    loop-less
+    (λ c. search needs)
+    (λ c. search needs)
+    (λ c κs. search needs)
+    (λ c. search needs)
+    (λ c. search needs)
+    (λ c. search needs)
+    (λ c. search needs)
+    (λ c. search needs)
     loop-again
-    same-length
+    (λ c. search needs)
     returns)

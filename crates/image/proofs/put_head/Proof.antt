@@ -1,3 +1,4 @@
+-- `put_head` meets its contract: four numbers of two bytes, one behind the other.
 use Prim.Native.Nat.{ℕ}
 use mathlib.Core.Path.{ap, _∙_}
 use lib.Seq.{sets}
@@ -9,27 +10,6 @@ use Rattle.le.specs.Le.{digits}
 use mathlib.Core.List.{List}
 use Rattle.image.proofs.put_head.Tie as tie
 
--- src/lib.rt:97:5
-put16-requires : tie.Need-put16-requires
-put16-requires c κs = search needs
-
--- src/lib.rt:98:5
-put16-requires-2 : tie.Need-put16-requires-2
-put16-requires-2 c κs = search needs
-
--- src/lib.rt:99:5
-put16-requires-3 : tie.Need-put16-requires-3
-put16-requires-3 c κs = search needs
-
--- src/lib.rt:100:5
-put16-requires-4 : tie.Need-put16-requires-4
-put16-requires-4 c κs = search needs
-
--- src/lib.rt:93:1
-same-length : tie.Need-same-length
-same-length c = search needs
-
--- src/lib.rt:93:1
 returns : tie.Need-returns
 returns c =
     let a = c .before .before .before .before .before .before .before .before .before .before .before .before .before .before .before .before .before .args in
@@ -43,9 +23,9 @@ pub put-head-spec : {M : Type 1} → statement M
 put-head-spec =
     tie.close
     (tie.spec
-    put16-requires
-    put16-requires-2
-    put16-requires-3
-    put16-requires-4
-    same-length
+    (λ c κs. search needs)
+    (λ c κs. search needs)
+    (λ c κs. search needs)
+    (λ c κs. search needs)
+    (λ c. search needs)
     returns)

@@ -1,3 +1,4 @@
+-- `put_sums` meets its contract: the sums look at the first 504 bytes alone.
 use Prim.Native.Nat.{ℕ}
 use mathlib.Core.Path.{ap, _∙_}
 use lib.Seq.{sets}
@@ -9,23 +10,6 @@ use Rattle.le.specs.Le.{digits}
 use mathlib.Core.List.{List}
 use Rattle.image.proofs.put_sums.Tie as tie
 
--- src/lib.rt:120:9
-sum-words-requires : tie.Need-sum-words-requires
-sum-words-requires c κs = search needs
-
--- src/lib.rt:123:5
-put32-requires : tie.Need-put32-requires
-put32-requires c κs = search needs
-
--- src/lib.rt:124:5
-put32-requires-2 : tie.Need-put32-requires-2
-put32-requires-2 c κs = search needs
-
--- src/lib.rt:116:1
-same-length : tie.Need-same-length
-same-length c = search needs
-
--- src/lib.rt:116:1
 returns : tie.Need-returns
 returns c =
     let a = c .before .before .before .before .before .before .before .before .before .before .before .args in
@@ -36,4 +20,4 @@ returns c =
 
 pub put-sums-spec : {M : Type 1} → statement M
 put-sums-spec =
-    tie.close (tie.spec sum-words-requires put32-requires put32-requires-2 same-length returns)
+    tie.close (tie.spec (λ c κs. search needs) (λ c κs. search needs) (λ c κs. search needs) (λ c. search needs) returns)

@@ -1,3 +1,4 @@
+-- `store_blocks` meets its contract: after i turns the room begins with the blocks of the first i sites, whose counts fit.
 use Prim.Native.Nat.{ℕ, _+_, _≤_, _-_, _*_}
 use mathlib.Core.List.{_++_}
 use mathlib.Core.Path.{_≡_, ap, refl, _∙_}
@@ -19,63 +20,9 @@ Inv-loop table n room₀ i₀ room i = (i ≤ n) × (length room ≡ length room
 abbrev μ-loop : tie.MeasureT-loop
 μ-loop table n room₀ i₀ room i = n - i
 
--- src/lib.rt:143:5
 loop-holds : tie.Need-loop-holds Inv-loop μ-loop
 loop-holds c = (omega arith, refl, stores-holds _ _ _)
 
--- src/lib.rt:145:20
-mul-store-block : tie.Need-mul-store-block Inv-loop μ-loop
-mul-store-block c = search needs
-
--- src/lib.rt:145:28
-mul-store-block-2 : tie.Need-mul-store-block-2 Inv-loop μ-loop
-mul-store-block-2 c = search needs
-
--- src/lib.rt:145:28
-add-store-block : tie.Need-add-store-block Inv-loop μ-loop
-add-store-block c = search needs
-
--- src/lib.rt:145:13
-mul-store-block-3 : tie.Need-mul-store-block-3 Inv-loop μ-loop
-mul-store-block-3 c = search needs
-
--- src/lib.rt:145:13
-sub-store-block : tie.Need-sub-store-block Inv-loop μ-loop
-sub-store-block c = search needs
-
--- src/lib.rt:145:13
-part-store-block-start : tie.Need-part-store-block-start Inv-loop μ-loop
-part-store-block-start c = search needs
-
--- src/lib.rt:145:13
-part-store-block-end : tie.Need-part-store-block-end Inv-loop μ-loop
-part-store-block-end c = search needs
-
--- src/lib.rt:148:23
-mul-store-block-4 : tie.Need-mul-store-block-4 Inv-loop μ-loop
-mul-store-block-4 c = search needs
-
--- src/lib.rt:148:32
-mul-store-block-5 : tie.Need-mul-store-block-5 Inv-loop μ-loop
-mul-store-block-5 c = search needs
-
--- src/lib.rt:148:32
-add-store-block-2 : tie.Need-add-store-block-2 Inv-loop μ-loop
-add-store-block-2 c = search needs
-
--- src/lib.rt:148:13
-sub-store-block-2 : tie.Need-sub-store-block-2 Inv-loop μ-loop
-sub-store-block-2 c = search needs
-
--- src/lib.rt:148:13
-part-store-block-start-2 : tie.Need-part-store-block-start-2 Inv-loop μ-loop
-part-store-block-start-2 c = search needs
-
--- src/lib.rt:148:13
-part-store-block-end-2 : tie.Need-part-store-block-end-2 Inv-loop μ-loop
-part-store-block-end-2 c = search needs
-
--- src/lib.rt:144:9
 store-block-requires : tie.Need-store-block-requires Inv-loop μ-loop
 store-block-requires c κs =
     let s = c .before .before .before .before .before .before in
@@ -90,15 +37,6 @@ store-block-requires c κs =
       omega arith,
     )
 
--- src/lib.rt:150:9
-add-i : tie.Need-add-i Inv-loop μ-loop
-add-i c = search needs
-
--- src/lib.rt:143:5
-loop-less : tie.Need-loop-less Inv-loop μ-loop
-loop-less c = search needs
-
--- src/lib.rt:143:5
 loop-again : tie.Need-loop-again Inv-loop μ-loop
 loop-again c =
     let a = c .before .before .before .before .before .before .before .before .before .args in
@@ -109,11 +47,9 @@ loop-again c =
       stores-again (a .n) (now (a .table)) (l .room) (now (a .room)) _ (l .i) (l .inv .2) (b .ensures ∙ ap (store (a .n) (l .i)) (part-cut 63 (l .i) (now (a .table)))),
     )
 
--- src/lib.rt:138:1
 same-length : tie.Need-same-length Inv-loop μ-loop
 same-length c = c .before .loop .inv .1
 
--- src/lib.rt:138:1
 returns : tie.Need-returns Inv-loop μ-loop
 returns c =
     let a = c .before .before .before .before .args in
@@ -127,22 +63,22 @@ store-blocks-spec =
     Inv-loop
     μ-loop
     loop-holds
-    mul-store-block
-    mul-store-block-2
-    add-store-block
-    mul-store-block-3
-    sub-store-block
-    part-store-block-start
-    part-store-block-end
-    mul-store-block-4
-    mul-store-block-5
-    add-store-block-2
-    sub-store-block-2
-    part-store-block-start-2
-    part-store-block-end-2
+    (λ c. search needs)
+    (λ c. search needs)
+    (λ c. search needs)
+    (λ c. search needs)
+    (λ c. search needs)
+    (λ c. search needs)
+    (λ c. search needs)
+    (λ c. search needs)
+    (λ c. search needs)
+    (λ c. search needs)
+    (λ c. search needs)
+    (λ c. search needs)
+    (λ c. search needs)
     store-block-requires
-    add-i
-    loop-less
+    (λ c. search needs)
+    (λ c. search needs)
     loop-again
     same-length
     returns)

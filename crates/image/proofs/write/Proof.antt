@@ -1,3 +1,4 @@
+-- `write` meets its contract: one law for each way out.
 use mathlib.Core.Path.{sym, refl, _∙_}
 use lib.ListN.{length}
 use borrow.Author.Needs.{needs}
@@ -8,7 +9,6 @@ use Rattle.image.proofs.write.Statement.{statement}
 use Rattle.table.proofs.Table.{odd-length, no-sites, too-many-sites, well-shaped}
 use Rattle.image.proofs.write.Tie as tie
 
--- src/lib.rt:161:9
 returns : tie.Need-returns
 unfolding writeInto
 returns c =
@@ -16,7 +16,6 @@ returns c =
     let t = now (a .table) in
     (sym (write-length t (length (now (a .room))) (odd-length (length t) (c .if1 .taken))), refl)
 
--- src/lib.rt:164:9
 returns-2 : tie.Need-returns-2
 unfolding writeInto
 returns-2 c =
@@ -24,7 +23,6 @@ returns-2 c =
     let t = now (a .table) in
     (sym (write-length t (length (now (a .room))) (no-sites (length t) (c .if2 .taken))), refl)
 
--- src/lib.rt:167:9
 returns-3 : tie.Need-returns-3
 unfolding writeInto
 returns-3 c =
@@ -32,11 +30,6 @@ returns-3 c =
     let t = now (a .table) in
     (sym (write-length t (length (now (a .room))) (too-many-sites (length t) (c .if3 .taken))), refl)
 
--- src/lib.rt:169:21
-mul-if4 : tie.Need-mul-if4
-mul-if4 c = search needs
-
--- src/lib.rt:170:9
 returns-4 : tie.Need-returns-4
 unfolding writeInto
 returns-4 c =
@@ -46,15 +39,6 @@ returns-4 c =
     let e = well-shaped (length t) (f .before .before .if1 .left) (f .before .if2 .left) (f .if3 .left) in
     (sym (write-room t (length (now (a .room))) e (c .if4 .taken)), refl)
 
--- src/lib.rt:172:9
-check-sites-requires : tie.Need-check-sites-requires
-check-sites-requires c κs = search needs
-
--- src/lib.rt:173:27
-enum-known-q : tie.Need-enum-known-q
-enum-known-q c = search needs
-
--- src/lib.rt:174:9
 returns-5 : tie.Need-returns-5
 unfolding writeInto
 returns-5 c =
@@ -64,19 +48,10 @@ returns-5 c =
     let e = well-shaped (length t) (f .before .before .if1 .left) (f .before .if2 .left) (f .if3 .left) in
     (sym (write-sites t (length (now (a .room))) e (c .before .before .before .before .if4 .left) _ (sym (c .before .before .before .check-sites .ensures) ∙ c .before .q .given .1)), refl)
 
-enum-told : tie.Need-enum-told
-enum-told c = search needs
-
--- src/lib.rt:176:5
 store-blocks-requires : tie.Need-store-blocks-requires
 store-blocks-requires c κs =
     (search needs, search needs, search needs, sym (c .before .before .before .check-sites .ensures) ∙ c .before .enum-told .given .1)
 
--- src/lib.rt:155:1
-same-length : tie.Need-same-length
-same-length c = search needs
-
--- src/lib.rt:155:1
 returns-6 : tie.Need-returns-6
 unfolding writeInto
 returns-6 c =
@@ -94,12 +69,12 @@ write-spec =
     returns
     returns-2
     returns-3
-    mul-if4
+    (λ c. search needs)
     returns-4
-    check-sites-requires
-    enum-known-q
+    (λ c κs. search needs)
+    (λ c. search needs)
     returns-5
-    enum-told
+    (λ c. search needs)
     store-blocks-requires
-    same-length
+    (λ c. search needs)
     returns-6)
