@@ -10,6 +10,7 @@ use lib.Dec.{eqb}
 use lib.ListN.{length}
 use borrow.Author.Tests.{eq-eqb, ne-eqb, eqb-true}
 use Rattle.block.specs.Block.{word, sumS, sumT, checkS, checkT, check, sealed}
+use Rattle.ground.proofs.Logic.{and-l, and-r, and-i, is-false}
 use Rattle.le.proofs.Laws.{field-front}
 use Rattle.le.specs.Le.{field}
 
@@ -81,3 +82,23 @@ says-0-inv b h = go (eqb (length b) 512) (eqb (field 4 b 504) (checkS b)) (eqb (
     go true true false e f g = let z : _≡_ {A = ℕ} 2 0 = rw (e, f, g) at h in absurd (omega arith)
     go true false r e f g = let z : _≡_ {A = ℕ} 2 0 = rw (e, f) at h in absurd (omega arith)
     go false q r e f g = let z : _≡_ {A = ℕ} 1 0 = rw e at h in absurd (omega arith)
+
+-- a sealed block holds its two sums
+pub sealed-sums : (b : List ℕ) → sealed b ≡ true → (field 4 b 504 ≡ checkS b) × (field 4 b 508 ≡ checkT b)
+unfolding sealed
+sealed-sums b h =
+    let s = eqb (field 4 b 504) (checkS b) in
+    let t = eqb (field 4 b 508) (checkT b) in
+    (eqb-true _ _ (and-l s t h), eqb-true _ _ (and-r s t h))
+
+pub sums-sealed : (b : List ℕ) → field 4 b 504 ≡ checkS b → field 4 b 508 ≡ checkT b → sealed b ≡ true
+unfolding sealed
+sums-sealed b p q = and-i (eq-eqb (field 4 b 504) (checkS b) p) (eq-eqb (field 4 b 508) (checkT b) q)
+
+-- a block of 512 bytes is sealed exactly if the answer is 0
+pub says-sealed : (b : List ℕ) → check b ≡ 0 → sealed b ≡ true
+says-sealed b h = let q = says-0-inv b h in sums-sealed b (q .1) (q .2)
+
+pub says-unsealed : (b : List ℕ) → length b ≡ 512 → (check b ≡ 0 → ⊥) → sealed b ≡ false
+unfolding check
+says-unsealed b h n = is-false (sealed b) (λ e. n (rw (eq-eqb (length b) 512 h, e) refl))

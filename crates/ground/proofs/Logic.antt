@@ -55,3 +55,9 @@ or-e false b e = inr e
 pub or-none : (a b : Bool) → a || b ≡ false → (a ≡ false) × (b ≡ false)
 or-none true b e = absurd (true≢false e)
 or-none false b e = (refl, e)
+
+-- two tests that fail together are equal
+pub fail-alike : (a b : Bool) → (a ≡ false → b ≡ false) → (b ≡ false → a ≡ false) → a ≡ b
+fail-alike true true f g = refl
+fail-alike true false f g = g refl
+fail-alike false b f g = sym (f refl)

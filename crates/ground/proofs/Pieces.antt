@@ -3,11 +3,11 @@ use Prim.Native.Nat.{ℕ, zero, suc, _+_, _*_, _-_, _≤_, _<_}
 use mathlib.Core.List.{List, _∷_, _++_, append-assoc, append-nil, []}
 use mathlib.Core.Logic.{⊎-elim}
 use mathlib.Core.Path.{_≡_, refl, sym, ap, _∙_}
-use native.Mathlib.Nat.{mul-suc, mul-zero, add-sub-cancel-left, le-trans, mul-le-mul-left, not-suc-le-zero, eq-or-lt-of-le, le-of-suc-le-suc, lt-of-lt-of-le, le-of-lt}
+use native.Mathlib.Nat.{mul-suc, mul-zero, add-sub-cancel-left, le-trans, mul-le-mul-left, not-suc-le-zero, eq-or-lt-of-le, le-of-suc-le-suc, lt-of-lt-of-le, le-of-lt, le-refl}
 use native.Mathlib.Numerals.{add-one}
 use native.Mathlib.Omega.{arith}
 use lib.ListN.{length, getD, take, drop, set, length-append, length-drop}
-use lib.Seq.{drop-cons, set-at, append-snoc, take-at, drop-at, drop-drop, length-take-le, take-add, take-suc}
+use lib.Seq.{drop-cons, set-at, append-snoc, take-at, drop-at, drop-drop, length-take-le, take-add, take-suc, sets, sets-eq, getD-drop, getD-at}
 use Rattle.ground.specs.Pieces.{cat, part}
 
 -- one store of a loop that fills a list from the front
@@ -92,3 +92,29 @@ pub cat-elements : (l : List ℕ) (n : ℕ) → n ≤ length l → cat (λ k. ge
 unfolding cat
 cat-elements l zero h = refl
 cat-elements l (suc n) h = rw (cat-elements l n (omega arith)) (sym (take-suc l n 0 h))
+
+-- a run of stores behind what is written already
+pub fill-sets : (p x d : List ℕ) (j w : ℕ) → length p ≡ j → length x ≡ w → j + w ≤ length d → sets (p ++ drop j d) j x ≡ (p ++ x) ++ drop (j + w) d
+fill-sets p x d j w e ew h =
+    let l : length (p ++ drop j d) ≡ length d = length-append p (drop j d) ∙ rw (e, length-drop j d) (omega arith) in
+    let h′ : j + length x ≤ length (p ++ drop j d) = rw (l, ew) h in
+    let a : drop (j + w) (p ++ drop j d) ≡ drop (j + w) d =
+    sym (drop-drop w j (p ++ drop j d)) ∙ ap (drop w) (drop-at p (drop j d) j e) ∙ drop-drop w j d in
+    rw (sets-eq x (p ++ drop j d) j h′, ew, take-at p (drop j d) j e, a) refl
+
+-- pieces of one element each
+pub cat-at : (g : ℕ → ℕ) (n k : ℕ) → k < n → getD (cat (λ j. g j ∷ []) n) k 0 ≡ g k
+cat-at g n k l =
+    let f : ℕ → List ℕ = λ j. g j ∷ [] in
+    let s = cat-split f n k l in
+    rw (s .1) (getD-at (cat f k) (g k) (s .0) 0 k (length-cat f 1 k (λ i h. refl) ∙ omega arith))
+
+-- an element of a part is one of the list, or past the part's end 0
+take-le : (n : ℕ) (l : List ℕ) (k : ℕ) → getD (take n l) k 0 ≤ getD l k 0
+take-le zero l k = omega arith
+take-le (suc n) [] k = omega arith
+take-le (suc n) (x ∷ l) zero = le-refl x
+take-le (suc n) (x ∷ l) (suc k) = take-le n l k
+
+pub part-le : (w i : ℕ) (l : List ℕ) (k : ℕ) → getD (part w i l) k 0 ≤ getD l (w * i + k) 0
+part-le w i l k = rw (← getD-drop (w * i) l k 0) (take-le w (drop (w * i) l) k)

@@ -2,3 +2,4 @@ pub mod Image
 pub mod Read
 pub mod Write
 pub mod RoundTrip
+pub mod Inner

@@ -3,7 +3,8 @@ ghost use mathlib.Core.Path.{_≡_};
 ghost use mathlib.Core.List.{_++_};
 ghost use Prim.Native.Nat.{_*_, _≤_, _<_};
 ghost use lib.ListN.{length, take, drop};
-ghost use Rattle.image.specs.Image.{load, loads, body, store, stores, blockCheck, blocksCheck};
+ghost use Rattle.image.specs.Image.{load, loads, store, stores, blockCheck, blocksCheck};
+ghost use Rattle.image.specs.Inner.{head, places, seal};
 ghost use Rattle.image.specs.Read.{read, readInto};
 ghost use Rattle.image.specs.Write.{write, writeInto};
 ghost use Rattle.table.specs.Table.{count, sitesCheck};
@@ -121,6 +122,7 @@ pub fn read(image: &[u8], room: &mut [u64]) -> Reading
 // Bytes 0 to 7 of a block.
 fn put_head(b: &mut [u8], i: u16, n: u16, many: u16)
     requires { ⌜ length (now b) ≡ 512 ⌝ }
+    ensures { λ r. ⌜ now (b .exit) ≡ head i n many ++ drop 8 (now (b .entry)) ⌝ }
 {
     le::put16(b, 0, i);
     le::put16(b, 2, n);
@@ -131,6 +133,7 @@ fn put_head(b: &mut [u8], i: u16, n: u16, many: u16)
 // Bytes 8 to 503 of a block.
 fn put_places(b: &mut [u8], m: &[u64])
     requires { ⌜ (length (now b) ≡ 512) × (length (now m) ≡ 63) ⌝ }
+    ensures { λ r. ⌜ now (b .exit) ≡ (take 8 (now (b .entry)) ++ places (now (m .entry)) 62) ++ drop 504 (now (b .entry)) ⌝ }
 {
     let mut k: usize = 0;
     while k < 62 {
@@ -142,6 +145,7 @@ fn put_places(b: &mut [u8], m: &[u64])
 // Bytes 504 to 511 of a block.
 fn put_sums(b: &mut [u8])
     requires { ⌜ length (now b) ≡ 512 ⌝ }
+    ensures { λ r. ⌜ now (b .exit) ≡ seal (take 504 (now (b .entry))) ⌝ }
 {
     let sums = block::sum_words(b);
     let s = sums.s;

@@ -157,3 +157,19 @@ field-front w b q at h =
 pub field-at : (w : ℕ) (p x q : List ℕ) (at : ℕ) → length p ≡ at → length x ≡ w → field w (p ++ (x ++ q)) at ≡ number x
 unfolding field
 field-at w p x q at e ew = rw (drop-at p (x ++ q) at e, take-at x q w ew) refl
+
+-- a field is 0 exactly if each of its bytes is
+pub field-zeros : (w : ℕ) (b : List ℕ) (at : ℕ) → ((j : ℕ) → j < w → getD b (at + j) 0 ≡ 0) → field w b at ≡ 0
+field-zeros zero b at h = field-zero b at
+field-zeros (suc w) b at h =
+    let e : getD b at 0 ≡ 0 = rw add-zero at (h 0 (omega arith)) in
+    let r : field w b (suc at) ≡ 0 =
+    field-zeros w b (suc at) (λ j l. let k : suc at + j ≡ at + suc j = omega arith in rw k (h (suc j) (omega arith))) in
+    field-suc w b at ∙ omega arith
+
+pub zeros-field : (w : ℕ) (b : List ℕ) (at : ℕ) → field w b at ≡ 0 → (j : ℕ) → j < w → getD b (at + j) 0 ≡ 0
+zeros-field zero b at e j l = absurd (omega arith)
+zeros-field (suc w) b at e zero l = rw add-zero (omega (arith, field-suc w b at))
+zeros-field (suc w) b at e (suc j) l =
+    let k : at + suc j ≡ suc at + j = omega arith in
+    rw k (zeros-field w b (suc at) (omega (arith, field-suc w b at)) j (omega arith))
