@@ -1,6 +1,7 @@
 pub mod Examples
 pub mod Passes
 pub mod Loops
+pub mod Turns
 pub mod Order
 pub mod Calls
 pub mod Public

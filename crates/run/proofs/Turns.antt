@@ -1,0 +1,178 @@
+-- One turn of each loop of the run, and its end.
+use Prim.Native.Nat.{ℕ, suc, _+_, _*_, _≤_, _<_}
+use mathlib.Core.Bool.{Bool, true, false, _&&_, _||_, not}
+use mathlib.Core.List.{List, [], _∷_, _++_, append-nil}
+use mathlib.Core.Logic.{⊎-elim}
+use mathlib.Core.Path.{_≡_, refl, sym, ap, ap₂, subst, _∙_}
+use native.Mathlib.Nat.{eq-or-lt-of-le, le-of-suc-le-suc}
+use native.Mathlib.Numerals.{add-one}
+use native.Mathlib.Omega.{arith}
+use lib.ListN.{length, getD, take, drop, set, length-set, drop-of-length-le}
+use lib.Seq.{take-suc, length-take-le, take-all}
+use borrow.Author.Tests.{not-true, not-false}
+use Rattle.ground.proofs.Logic.{clash}
+use Rattle.ground.proofs.Pieces.{fill-one}
+use Rattle.ground.specs.Alike.{alike}
+use Rattle.refusals.specs.Refusal.{code}
+use Rattle.refusals.specs.declared.Check.{Check}
+use Rattle.run.proofs.Calls.{calls-at, calls-length}
+use Rattle.run.proofs.Loops.{quiet-still, still-quiet, iter-more, changed-few, run-unique}
+use Rattle.run.proofs.Order.{spends}
+use Rattle.run.proofs.Passes.{pass-more, answers-more, pass-inv}
+use Rattle.run.specs.Inner.{quiet, answersFrom, After, Passed, Going, Whole}
+use Rattle.run.specs.Passes.{Run, pass, iter, answersOf, run}
+use Rattle.run.specs.Run.{calls, callAt, runVotes}
+use Rattle.sets.specs.Paper.{Fbqs}
+use Rattle.sets.specs.Promises.{Questions}
+use Rattle.voting.proofs.SoundLaws.{fresh-sound}
+use Rattle.voting.proofs.State.{below-antisym}
+use Rattle.voting.proofs.Steps.{step-sound}
+use Rattle.voting.specs.Inner.{call, Works}
+use Rattle.voting.specs.Rules.{Call, answer, step}
+use Rattle.voting.specs.Sound.{Sound}
+use Rattle.voting.specs.State.{fresh}
+use Rattle.voting.specs.Theorems.{Rests}
+
+-- a call read from four bytes of the list is its call i
+pub works-at : (Q : Questions) (n F i : ℕ) (list : List ℕ) {k f v d : ℕ} {a : Check} {b : Bool} {s s₁ : List ℕ} → k ≡ getD list (4 * i) 0 →
+    f ≡ getD list (4 * i + 1) 0 → v ≡ getD list (4 * i + 2) 0 → d ≡ getD list (4 * i + 3) 0 → Works Q n F (call k f v d) s a b s₁ →
+    Works Q n F (callAt list i) s a b s₁
+works-at Q n F i list {a = a} {b} {s} {s₁} ek ef ev ed W = subst (λ (c : Call). Works Q n F c s a b s₁) (λ j. call (ek j) (ef j) (ev j) (ed j)) W
+
+and-assoc : (a b c : Bool) → a && (b && c) ≡ (a && b) && c
+and-assoc true b c = refl
+and-assoc false b c = refl
+
+and-t : (a : Bool) → a && true ≡ a
+and-t true = refl
+and-t false = refl
+
+not-and : (a b : Bool) → not a || not b ≡ not (a && b)
+not-and true b = refl
+not-and false b = refl
+
+-- one call more at the end of a quiet pass
+module _ {S C : Type 0} (step : C → S → S) (same : S → S → Bool) where
+  quiet-append : (l m : List C) (s : S) → quiet step same (l ++ m) s ≡ quiet step same l s && quiet step same m (pass step l s)
+  quiet-append [] m s = refl
+  quiet-append (c ∷ l) m s =
+      ap (λ (b : Bool). same s (step c s) && b) (quiet-append l m (step c s))
+      ∙ and-assoc (same s (step c s)) (quiet step same l (step c s)) (quiet step same m (pass step l (step c s)))
+
+  quiet-more : (l : List C) (s : S) (i : ℕ) (d : C) → i < length l
+      → quiet step same (take (suc i) l) s ≡ quiet step same (take i l) s && same (pass step (take i l) s) (step (getD l i d) (pass step (take i l) s))
+  quiet-more l s i d h =
+      ap (λ (x : List C). quiet step same x s) (take-suc l i d h) ∙ quiet-append (take i l) (getD l i d ∷ []) s
+      ∙ ap (λ (b : Bool). quiet step same (take i l) s && b) (and-t (same (pass step (take i l) s) (step (getD l i d) (pass step (take i l) s))))
+
+pub length-answers : (Q : Questions) (n F : ℕ) (l : List Call) (s : List ℕ) → length (answersFrom Q n F l s) ≡ length l
+length-answers Q n F [] s = refl
+length-answers Q n F (c ∷ l) s = ap suc (length-answers Q n F l (step Q n F c s))
+
+module _ {Σ : ℕ → Fbqs} {Q : Questions} {n : ℕ} (R : Rests Σ Q n) (F : ℕ) where
+  abbrev ans : Call → List ℕ → ℕ
+  ans c s = code (answer n F c s)
+
+  module _ (list s₀ out₀ : List ℕ) (fits : length list ≡ 4 * length out₀) where
+    pub after-none : Sound Q n F s₀ → After Q n F list s₀ out₀ 0 false s₀ out₀
+    after-none S = record { within = omega arith; long = refl; sound = S; state = refl; answers = refl; flag = refl }
+
+    pub after-more : (i a : ℕ) (x : Bool) (s out : List ℕ) {changed b : Bool} {q : Check} {s′ : List ℕ} → After Q n F list s₀ out₀ i changed s out →
+        i < length out₀ → Works Q n F (callAt list i) s q b s′ → a ≡ code q → x ≡ changed || b → After Q n F list s₀ out₀ (i + 1) x s′ (set out i a)
+    after-more i a x s out {changed} {b} {q} {s′} A h Z ea ex = record {
+      within = omega arith;
+      long = length-set out i a ∙ A .long;
+      sound = subst (Sound Q n F) (sym (Z .state)) (step-sound Σ Q n F R d s (A .sound));
+      state = Z .state ∙ ap₂ (step Q n F) (sym at) (A .state) ∙ sym (pass-more (step Q n F) (calls list) s₀ i d few)
+          ∙ ap (λ (k : ℕ). pass (step Q n F) (take k (calls list)) s₀) (sym (add-one i));
+      answers =
+          ap₂ (λ (l : List ℕ) (y : ℕ). set l i y) (A .answers) (ea ∙ ap code (Z .answers-so) ∙ ap₂ ans (sym at) (A .state))
+          ∙ fill-one (answersFrom Q n F (take i (calls list)) s₀) out₀ i (ans (getD (calls list) i d) (pass (step Q n F) (take i (calls list)) s₀))
+          (length-answers Q n F (take i (calls list)) s₀ ∙ length-take-le i (calls list) (omega (arith, few))) h
+          ∙ ap (λ (l : List ℕ). l ++ drop (i + 1) out₀) (sym (answers-more (step Q n F) ans (calls list) s₀ i d few))
+          ∙ ap (λ (k : ℕ). answersFrom Q n F (take k (calls list)) s₀ ++ drop (i + 1) out₀) (sym (add-one i));
+      flag =
+          ex
+          ∙ ap₂ _||_ (A .flag) (Z .changes ∙ ap₂ (λ (y : List ℕ) (c : Call). not (alike y (step Q n F c y))) (A .state) (sym at))
+          ∙ not-and (quiet (step Q n F) alike (take i (calls list)) s₀)
+          (alike (pass (step Q n F) (take i (calls list)) s₀) (step Q n F (getD (calls list) i d) (pass (step Q n F) (take i (calls list)) s₀)))
+          ∙ ap not (sym (quiet-more (step Q n F) alike (calls list) s₀ i d few))
+          ∙ ap (λ (k : ℕ). not (quiet (step Q n F) alike (take k (calls list)) s₀)) (sym (add-one i));
+    }
+      where
+        d : Call
+        d = callAt list i
+
+        few : i < length (calls list)
+        few = let e = calls-length list (length out₀) fits in omega arith
+
+        at : getD (calls list) i (callAt list i) ≡ callAt list i
+        at = calls-at list i (callAt list i) (omega arith)
+
+    pub after-all : (i : ℕ) (s out : List ℕ) {changed : Bool} → After Q n F list s₀ out₀ i changed s out → length out₀ ≤ i →
+        Passed Q n F (calls list) s₀ changed s out
+    after-all i s out A h =
+        let e : take i (calls list) ≡ calls list = take-all i (calls list) (omega (arith, calls-length list (length out₀) fits)) in record {
+          state = A .state ∙ ap (λ (x : List Call). pass (step Q n F) x s₀) e;
+          answers =
+              A .answers ∙ ap₂ (λ (x : List Call) (y : List ℕ). answersFrom Q n F x s₀ ++ y) e (drop-of-length-le out₀ h)
+              ∙ append-nil (answersFrom Q n F (calls list) s₀);
+          flag = A .flag ∙ ap (λ (x : List Call). not (quiet (step Q n F) alike x s₀)) e;
+        }
+
+  -- the passes
+  module _ (l : List Call) where
+    pub going-none : {s : List ℕ} → s ≡ fresh n → Going Q n F l 0 s
+    going-none e = record { state = e; sound = subst (Sound Q n F) (sym e) (fresh-sound Σ Q n F R); each = λ j h q. omega arith }
+
+    pub going-few : {k : ℕ} {s : List ℕ} → Going Q n F l k s → k ≤ length l
+    going-few {k} G = changed-few (step Q n F) alike (spends R F) ans (fresh n) (fresh-sound Σ Q n F R) l k (G .each)
+
+    passes-sound : (s : List ℕ) → Sound Q n F s → Sound Q n F (pass (step Q n F) l s)
+    passes-sound s S = pass-inv (step Q n F) alike (spends R F) l s S
+
+    pub going-more : (k : ℕ) {s s₁ out : List ℕ} {changed : Bool} → Going Q n F l k s → Passed Q n F l s changed s₁ out → changed ≡ true →
+        Going Q n F l (k + 1) s₁
+    going-more k {s} {s₁} G Z e = subst (λ (j : ℕ). Going Q n F l j s₁) (sym (add-one k)) (record {
+      state = Z .state ∙ ap (pass (step Q n F) l) (G .state) ∙ sym (iter-more (step Q n F) l k (fresh n));
+      sound = subst (Sound Q n F) (sym (Z .state)) (passes-sound s (G .sound));
+      each = λ j h. ⊎-elim (λ q. last j q) (λ m. G .each j m) (eq-or-lt-of-le (le-of-suc-le-suc h));
+    })
+      where
+        moved : pass (step Q n F) l s ≡ s → ⊥
+        moved q =
+            clash (still-quiet (step Q n F) alike (spends R F) (λ s t p q. below-antisym p q) l s (G .sound) q)
+            (not-true (quiet (step Q n F) alike l s) (sym (Z .flag) ∙ e))
+
+        last : (j : ℕ) → j ≡ k → iter (step Q n F) (suc j) l (fresh n) ≡ iter (step Q n F) j l (fresh n) → ⊥
+        last j q w =
+            moved (ap (pass (step Q n F) l) (G .state) ∙ sym (iter-more (step Q n F) l k (fresh n))
+            ∙ subst (λ (x : ℕ). iter (step Q n F) (suc x) l (fresh n) ≡ iter (step Q n F) x l (fresh n)) q w ∙ sym (G .state))
+
+    pub going-done : (k : ℕ) {s s₁ out : List ℕ} {changed : Bool} → Going Q n F l k s → Passed Q n F l s changed s₁ out → changed ≡ false →
+        Whole Q n F l (k + 1) s₁ out
+    unfolding runVotes
+    going-done k {s} {s₁} {out} G Z e = record {
+      count = add-one k ∙ sym (ap (λ (r : Run (List ℕ)). r .passes) whole);
+      state = Z .state ∙ fixed ∙ G .state ∙ sym (ap (λ (r : Run (List ℕ)). r .state) whole);
+      answers = Z .answers ∙ ap (answersFrom Q n F l) (G .state) ∙ sym (ap (λ (r : Run (List ℕ)). r .answers) whole);
+    }
+      where
+        fixed : pass (step Q n F) l s ≡ s
+        fixed =
+            quiet-still (step Q n F) alike (spends R F) (λ s t p q. below-antisym p q) l s
+            (not-false (quiet (step Q n F) alike l s) (sym (Z .flag) ∙ e))
+
+        whole : run (step Q n F) ans alike (fresh n) l
+            ≡ record { state = iter (step Q n F) k l (fresh n); passes = suc k; answers = answersOf (step Q n F) ans l (iter (step Q n F) k l (fresh n)) }
+        whole =
+            run-unique (step Q n F) alike (spends R F) ans (fresh n) (fresh-sound Σ Q n F R) l k (G .each)
+            (subst (λ (x : List ℕ). pass (step Q n F) l x ≡ x) (G .state) fixed)
+
+    pub passed-size : {k : ℕ} {s₀ s s₁ out : List ℕ} {changed : Bool} → s₀ ≡ fresh n → Going Q n F l k s → Passed Q n F l s changed s₁ out →
+        length s₁ ≡ length s₀
+    passed-size {s = s} e G Z = ap length (Z .state) ∙ passes-sound s (G .sound) .long ∙ sym (ap length e ∙ fresh-sound Σ Q n F R .long)
+
+  pub passed-long : (list : List ℕ) (k : ℕ) {s s₁ out : List ℕ} {changed : Bool} → length list ≡ 4 * k → Passed Q n F (calls list) s changed s₁ out →
+      length out ≡ k
+  passed-long list k {s} h Z = ap length (Z .answers) ∙ length-answers Q n F (calls list) s ∙ calls-length list k h
