@@ -18,8 +18,7 @@ pub step-coincide : All step-kinds.ps step-kinds.r (List ℕ) (λ κs s. now (s 
 step-coincide κs a x y s t p q = (p .0 ∙ sym (q .0), p .1 ∙ sym (q .1))
 
 pub work-coincide : All work-kinds.ps work-kinds.r (List ℕ) (λ κs s. now (s .1 .1 .1 .0)) work-reads.Post
-work-coincide κs a x y s t p q =
-    (
-      λ i. record { answer = (p .answers-so ∙ sym (q .answers-so)) i; changed = (p .changes ∙ sym (q .changes)) i },
-      p .state ∙ sym (q .state),
-    )
+work-coincide κs a x y s t p q = (
+  λ i. record { answer = (p .answers-so ∙ sym (q .answers-so)) i; changed = (p .changes ∙ sym (q .changes)) i },
+  p .state ∙ sym (q .state),
+)

@@ -5,6 +5,7 @@ use mathlib.Core.List.{List}
 use mathlib.Core.Path.{_≡_, refl, sym, ap, ap₂, _∙_, subst}
 use lib.Bits.{bitOr}
 use lib.ListN.{length}
+use borrow.Author.Tests.{not-true, not-false}
 use Rattle.masks.proofs.Laws.AllBelow.{in-all}
 use Rattle.masks.specs.Mask.{single, within, minus, allBelow}
 use Rattle.refusals.proofs.First.{orElse-sound, missed}
@@ -86,64 +87,62 @@ pub taken-way : (Q : Questions) (n : ℕ) (c : Call) (s : List ℕ) {s₁ s₂ s
 unfolding taken
 taken-way Q n c s e₁ e₂ e₃ = e₃ ∙ ap (nowConfirms Q n (c .to) (c .side)) (e₂ ∙ ap (nowAccepts Q n (c .to) (c .side)) e₁)
 
--- the public calls
-module _ (t : List ℕ) (F : ℕ) (s : List ℕ) where
-  abbrev n : ℕ
-  n = sites (length t)
-
-  -- the soundness of a state: table, 10, 18
-  pub table-refused : {r : Refusal} → check t ≡ Check.Refused r → soundCheck t F s ≡ Check.Refused r
+-- the soundness of a state: table, 10, 18
+module _ (t : List ℕ) (F : ℕ) (s : List ℕ) {q : Check} (eq : q ≡ check t) where
+  pub table-refused : {r : Refusal} → q ≡ Check.Refused r → q ≡ soundCheck t F s
   unfolding soundCheck
-  table-refused e = rw e refl
+  table-refused e = e ∙ sym (rw (sym eq ∙ e) refl)
 
-  module _ (e : check t ≡ Check.Sound) where
-    pub set-refused : within F (allBelow (sites (length t))) ≡ false → soundCheck t F s ≡ Check.Refused Set
+  module _ (e : q ≡ Check.Sound) {m : ℕ} {inside : Bool} (em : m ≡ allBelow (sites (length t))) (ei : inside ≡ within F m) where
+    among : within F (allBelow (sites (length t))) ≡ inside
+    among = ap (within F) (sym em) ∙ sym ei
+
+    pub set-refused : not inside ≡ true → Check.Refused Set ≡ soundCheck t F s
     unfolding soundCheck
-    set-refused f = rw (e, f) refl
+    set-refused f = sym (rw (sym eq ∙ e, among ∙ not-true inside f) refl)
 
-    pub state-refused : within F (allBelow (sites (length t))) ≡ true → unsound (questions t) (sites (length t)) F s ≡ true →
-        soundCheck t F s ≡ Check.Refused Unsound
-    unfolding soundCheck
-    state-refused f u = rw (e, f, u) refl
+    module _ (f : not inside ≡ false) {bad : Bool} (eb : bad ≡ unsound (questions t) (sites (length t)) F s) where
+      pub state-refused : bad ≡ true → Check.Refused Unsound ≡ soundCheck t F s
+      unfolding soundCheck
+      state-refused u = sym (rw (sym eq ∙ e, among ∙ not-false inside f, sym eb ∙ u) refl)
 
-    pub all-sound : within F (allBelow (sites (length t))) ≡ true → unsound (questions t) (sites (length t)) F s ≡ false → soundCheck t F s ≡ Check.Sound
-    unfolding soundCheck
-    all-sound f u = rw (e, f, u) refl
+      pub state-sound : bad ≡ false → Check.Sound ≡ soundCheck t F s
+      unfolding soundCheck
+      state-sound u = sym (rw (sym eq ∙ e, among ∙ not-false inside f, sym eb ∙ u) refl)
 
-  -- what is sound then
-  module _ (e : soundCheck t F s ≡ Check.Sound) where
+-- the step of a call: what the soundness refuses, or the answer of the call
+module _ (t : List ℕ) (F : ℕ) (s : List ℕ) {q : Check} (eq : q ≡ soundCheck t F s) where
+  pub step-stopped : (c : Call) {r : Refusal} → q ≡ Check.Refused r → (Stepped.Refused r ≡ toStepped (stepCheck t F c s)) × (s ≡ stepInto t F c s)
+  unfolding stepCheck stepInto
+  step-stopped c e = (sym (rw (sym eq ∙ e) refl), sym (rw (sym eq ∙ e) refl))
+
+  module _ (e : q ≡ Check.Sound) where
     pub sound-table : Table t (sites (length t))
     unfolding soundCheck
-    sound-table = checked t (orElse-sound (check t) _ e .0)
+    sound-table = checked t (orElse-sound (check t) _ (sym eq ∙ e) .0)
 
     pub sound-state : Sound (questions t) (sites (length t)) F s
     unfolding soundCheck
     sound-state =
-        let p = missed (not (within F (allBelow n))) Set (refuse (unsound (questions t) n F s) Unsound) (orElse-sound (check t) _ e .1) in
-        sound-of (questions t) n F s (missed (unsound (questions t) n F s) Unsound Check.Sound (rw (p .1) refl) .0)
+        let n = sites (length t) in
+        let bad = unsound (questions t) n F s in
+        let p = missed (not (within F (allBelow n))) Set (refuse bad Unsound) (orElse-sound (check t) _ (sym eq ∙ e) .1) in
+        sound-of (questions t) n F s (missed bad Unsound Check.Sound (rw (p .1) refl) .0)
 
-  -- the step of a call: what the soundness refuses, or the answer of the call
-  module _ (c : Call) where
-    pub step-stopped : {r : Refusal} → soundCheck t F s ≡ Check.Refused r →
-        (Stepped.Refused r ≡ toStepped (stepCheck t F c s)) × (s ≡ stepInto t F c s)
-    unfolding stepCheck stepInto
-    step-stopped e = (sym (rw e refl), sym (rw e refl))
-
-    module _ (e : soundCheck t F s ≡ Check.Sound) {a : Check} {changed : Bool} {s₁ : List ℕ}
-        (w : Works (questions t) (sites (length t)) F c s a changed s₁) where
+    module _ {c : Call} {a : Check} {changed : Bool} {s₁ : List ℕ} (w : Works (questions t) (sites (length t)) F c s a changed s₁) where
       into : s₁ ≡ stepInto t F c s
       unfolding stepInto
-      into = w .state ∙ sym (rw e refl)
+      into = w .state ∙ sym (rw (sym eq ∙ e) refl)
 
       pub step-refused : {r : Refusal} → a ≡ Check.Refused r → (Stepped.Refused r ≡ toStepped (stepCheck t F c s)) × (s₁ ≡ stepInto t F c s)
       unfolding stepCheck
-      step-refused f = (sym (rw (e, sym (w .answers-so) ∙ f) refl), into)
+      step-refused f = (sym (rw (sym eq ∙ e, sym (w .answers-so) ∙ f) refl), into)
 
       pub step-taken : a ≡ Check.Sound → (Stepped.Taken ≡ toStepped (stepCheck t F c s)) × (s₁ ≡ stepInto t F c s)
       unfolding stepCheck
-      step-taken f = (sym (rw (e, sym (w .answers-so) ∙ f) refl), into)
+      step-taken f = (sym (rw (sym eq ∙ e, sym (w .answers-so) ∙ f) refl), into)
 
--- the inner step of a call whose numbers are equal
+-- the inner step of a call whose four numbers are equal
 pub same-works : {Q : Questions} {n F kind from to side k f u d : ℕ} {s s₁ : List ℕ} {a : Check} {changed : Bool} → k ≡ kind → f ≡ from → u ≡ to →
     d ≡ side → Works Q n F (call k f u d) s a changed s₁ → Works Q n F (call kind from to side) s a changed s₁
 same-works {Q} {n} {F} {s = s} {s₁} {a} {changed} p q r h w =

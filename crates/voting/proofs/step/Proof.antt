@@ -1,5 +1,4 @@
 -- `step` meets its contract: what the soundness refuses, or the inner step.
-use mathlib.Core.Path.{sym, _∙_}
 use borrow.Author.Needs.{needs}
 use denote.Ref.{now}
 use Rattle.voting.specs.Inner.{call}
@@ -10,28 +9,30 @@ use Rattle.voting.proofs.step.Tie as tie
 returns : tie.Need-returns
 returns c =
     let a = c .before .before .before .before .before .before .before .args in
-    step-stopped (now (a .table)) (a .faulty) (now (a .state)) (call (a .kind) (a .from) (a .to) (a .side))
-    (sym (c .before .before .before .sound .ensures) ∙ c .before .q .given .1)
+    step-stopped (now (a .table)) (a .faulty) (now (a .state)) (c .before .before .before .sound .ensures) (call (a .kind) (a .from) (a .to) (a .side))
+    (c .before .q .given .1)
 
 work-requires : tie.Need-work-requires
 work-requires c κs =
-    let a = c .before .before .before .before .before .before .before .before .before .before .before .args in
-    let e = sym (c .before .before .before .before .before .before .before .sound .ensures) ∙ c .before .before .before .before .before .enum-told .given .1 in
-    (sound-table (now (a .table)) (a .faulty) (now (a .state)) e, sound-state (now (a .table)) (a .faulty) (now (a .state)) e)
+    let b = c .before .before .before .before .before in
+    let a = b .before .before .before .before .before .before .args in (
+      sound-table (now (a .table)) (a .faulty) (now (a .state)) (b .before .before .sound .ensures) (b .enum-told .given .1),
+      sound-state (now (a .table)) (a .faulty) (now (a .state)) (b .before .before .sound .ensures) (b .enum-told .given .1),
+    )
 
 returns-2 : tie.Need-returns-2
 returns-2 c =
-    let a = c .before .before .before .before .before .before .before .before .before .before .before .before .before .before .before .before .before .args in
-    let w = same-works (c .before .before .before .before .before .before .before .before .before .wide .ensures) (c .before .before .before .before .before .before .before .before .wide2 .ensures) (c .before .before .before .before .before .before .before .wide3 .ensures) (c .before .before .before .before .before .before .wide4 .ensures) (c .before .before .before .before .before .work .ensures) in
-    step-refused (now (a .table)) (a .faulty) (now (a .state)) (call (a .kind) (a .from) (a .to) (a .side))
-    (sym (c .before .before .before .before .before .before .before .before .before .before .before .before .before .sound .ensures) ∙ c .before .before .before .before .before .before .before .before .before .before .before .enum-told .given .1) w (c .before .a .given .1)
+    let b = c .before .before .before .before .before in
+    let a = b .before .before .before .before .before .before .before .before .before .before .before .before .args in
+    let w = same-works (b .before .before .before .before .wide .ensures) (b .before .before .before .wide2 .ensures) (b .before .before .wide3 .ensures) (b .before .wide4 .ensures) (b .work .ensures) in
+    step-refused (now (a .table)) (a .faulty) (now (a .state)) (b .before .before .before .before .before .before .before .before .sound .ensures) (b .before .before .before .before .before .before .enum-told .given .1) w (c .before .a .given .1)
 
 returns-3 : tie.Need-returns-3
 returns-3 c =
-    let a = c .before .before .before .before .before .before .before .before .before .before .before .before .before .before .before .before .args in
-    let w = same-works (c .before .before .before .before .before .before .before .before .wide .ensures) (c .before .before .before .before .before .before .before .wide2 .ensures) (c .before .before .before .before .before .before .wide3 .ensures) (c .before .before .before .before .before .wide4 .ensures) (c .before .before .before .before .work .ensures) in
-    step-taken (now (a .table)) (a .faulty) (now (a .state)) (call (a .kind) (a .from) (a .to) (a .side))
-    (sym (c .before .before .before .before .before .before .before .before .before .before .before .before .sound .ensures) ∙ c .before .before .before .before .before .before .before .before .before .before .enum-told .given .1) w (c .enum-told2 .given .1)
+    let b = c .before .before .before .before in
+    let a = b .before .before .before .before .before .before .before .before .before .before .before .before .args in
+    let w = same-works (b .before .before .before .before .wide .ensures) (b .before .before .before .wide2 .ensures) (b .before .before .wide3 .ensures) (b .before .wide4 .ensures) (b .work .ensures) in
+    step-taken (now (a .table)) (a .faulty) (now (a .state)) (b .before .before .before .before .before .before .before .before .sound .ensures) (b .before .before .before .before .before .before .enum-told .given .1) w (c .enum-told2 .given .1)
 
 pub step-spec : {M : Type 1} → statement M
 step-spec =

@@ -10,41 +10,35 @@ use Rattle.voting.proofs.work.Tie as tie
 
 returns : tie.Need-returns
 returns c =
-    let a = c .before .before .before .before .before .before .args in
-    works-refused (c .before .before .before .before .before .before .pre .1) (call (a .kind) (a .from) (a .to) (a .side)) (c .before .before .answer .ensures) (c .enum-told2 .given .1)
+    let b = c .before .before .before .before .before .before in
+    let a = b .args in
+    works-refused (b .pre .1) (call (a .kind) (a .from) (a .to) (a .side)) (c .before .before .answer .ensures) (c .enum-told2 .given .1)
 
 is-heard-requires : tie.Need-is-heard-requires
 is-heard-requires c κs =
-    let a = c .before .before .before .before .before .before .before .args in
-    let p = c .before .before .before .before .before .before .before .pre in
-    (
-      p .1 .long,
-      p .0 .few-sites,
-      takes (a .n) (a .faulty) (call (a .kind) (a .from) (a .to) (a .side)) (now (a .state))
-          (sym (c .before .before .before .answer .ensures) ∙ c .before .enum-told .given .1) .range,
-    )
+    let b = c .before .before .before .before .before .before .before in
+    let a = b .args in
+    let e = sym (c .before .before .before .answer .ensures) ∙ c .before .enum-told .given .1 in
+    (b .pre .1 .long, b .pre .0 .few-sites, takes (a .n) (a .faulty) (call (a .kind) (a .from) (a .to) (a .side)) (now (a .state)) e .range)
 
 returns-2 : tie.Need-returns-2
 returns-2 c =
-    let a = c .before .before .before .before .before .before .before .before .before .args in
-    works-heard (c .before .before .before .before .before .before .before .before .before .pre .1) (call (a .kind) (a .from) (a .to) (a .side)) (c .before .before .before .before .before .answer .ensures)
-    (sym (c .before .is-heard .ensures) ∙ c .if1 .taken)
+    let b = c .before .before .before .before .before .before .before .before .before in
+    let a = b .args in
+    works-heard (b .pre .1) (call (a .kind) (a .from) (a .to) (a .side)) (c .before .before .before .before .before .answer .ensures) (sym (c .before .is-heard .ensures) ∙ c .if1 .taken)
 
 take-requires : tie.Need-take-requires
 take-requires c κs =
-    let a = c .before .before .before .before .before .before .before .before .before .before .args in
-    let p = c .before .before .before .before .before .before .before .before .before .before .pre in
-    (
-      p .0,
-      p .1 .long,
-      takes (a .n) (a .faulty) (call (a .kind) (a .from) (a .to) (a .side)) (now (a .state))
-          (sym (c .before .before .before .before .before .before .answer .ensures) ∙ c .before .before .before .before .enum-told .given .1) .range,
-    )
+    let b = c .before .before .before .before .before .before .before .before .before .before in
+    let a = b .args in
+    let e = sym (c .before .before .before .before .before .before .answer .ensures) ∙ c .before .before .before .before .enum-told .given .1 in
+    (b .pre .0, b .pre .1 .long, takes (a .n) (a .faulty) (call (a .kind) (a .from) (a .to) (a .side)) (now (a .state)) e .range)
 
 returns-3 : tie.Need-returns-3
 returns-3 c =
-    let a = c .before .before .before .before .before .before .before .before .before .before .before .before .before .args in
-    works-taken (c .before .before .before .before .before .before .before .before .before .before .before .before .before .pre .1) (call (a .kind) (a .from) (a .to) (a .side)) (c .before .before .before .before .before .before .before .before .before .answer .ensures) (c .before .before .before .before .before .before .before .enum-told .given .1)
+    let b = c .before .before .before .before .before .before .before .before .before .before .before .before .before in
+    let a = b .args in
+    works-taken (b .pre .1) (call (a .kind) (a .from) (a .to) (a .side)) (c .before .before .before .before .before .before .before .before .before .answer .ensures) (c .before .before .before .before .before .before .before .enum-told .given .1)
     (sym (c .before .before .before .before .before .is-heard .ensures) ∙ c .before .before .before .before .if1 .left) (c .before .before .take .ensures)
 
 pub work-spec : {M : Type 1} → statement M
