@@ -70,8 +70,8 @@ module _ (n to side : ℕ) (s : List ℕ) where
 
 -- the receiver worked out again
 module _ (Q : Questions) (n v side : ℕ) (s : List ℕ) {b : Bool} {m : ℕ} (em : m ≡ only b v) {s₁ : List ℕ} where
-  pub accepts-way : {s₂ : List ℕ} → b ≡ accepting Q v (get s (votes side v)) (get s (accepts side v)) → s₁ ≡ add (accepted n side) m s → s₂ ≡ add (accepts side v) m s₁ →
-      s₂ ≡ nowAccepts Q n v side s
+  pub accepts-way : {s₂ : List ℕ} → b ≡ accepting Q v (get s (votes side v)) (get s (accepts side v)) → s₁ ≡ add (accepted n side) m s →
+      s₂ ≡ add (accepts side v) m s₁ → s₂ ≡ nowAccepts Q n v side s
   unfolding nowAccepts
   accepts-way eb e₁ e₂ =
       let e : m ≡ only (accepting Q v (get s (votes side v)) (get s (accepts side v))) v = em ∙ ap (λ (x : Bool). only x v) eb in
@@ -112,9 +112,10 @@ module _ (t : List ℕ) (F : ℕ) (s : List ℕ) {q : Check} (eq : q ≡ check t
 
 -- the step of a call: what the soundness refuses, or the answer of the call
 module _ (t : List ℕ) (F : ℕ) (s : List ℕ) {q : Check} (eq : q ≡ soundCheck t F s) where
-  pub step-stopped : (c : Call) {r : Refusal} → q ≡ Check.Refused r → (Stepped.Refused r ≡ toStepped (stepCheck t F c s)) × (s ≡ stepInto t F c s)
+  pub stepped-unsound : (c : Call) {r : Refusal} → q ≡ Check.Refused r →
+      (Stepped.Refused r ≡ toStepped (stepCheck t F c s)) × (s ≡ stepInto t F c s)
   unfolding stepCheck stepInto
-  step-stopped c e = (sym (rw (sym eq ∙ e) refl), sym (rw (sym eq ∙ e) refl))
+  stepped-unsound c e = (sym (rw (sym eq ∙ e) refl), sym (rw (sym eq ∙ e) refl))
 
   module _ (e : q ≡ Check.Sound) where
     pub sound-table : Table t (sites (length t))
@@ -134,13 +135,13 @@ module _ (t : List ℕ) (F : ℕ) (s : List ℕ) {q : Check} (eq : q ≡ soundCh
       unfolding stepInto
       into = w .state ∙ sym (rw (sym eq ∙ e) refl)
 
-      pub step-refused : {r : Refusal} → a ≡ Check.Refused r → (Stepped.Refused r ≡ toStepped (stepCheck t F c s)) × (s₁ ≡ stepInto t F c s)
+      pub stepped-refused : {r : Refusal} → a ≡ Check.Refused r → (Stepped.Refused r ≡ toStepped (stepCheck t F c s)) × (s₁ ≡ stepInto t F c s)
       unfolding stepCheck
-      step-refused f = (sym (rw (sym eq ∙ e, sym (w .answers-so) ∙ f) refl), into)
+      stepped-refused f = (sym (rw (sym eq ∙ e, sym (w .answers-so) ∙ f) refl), into)
 
-      pub step-taken : a ≡ Check.Sound → (Stepped.Taken ≡ toStepped (stepCheck t F c s)) × (s₁ ≡ stepInto t F c s)
+      pub stepped-taken : a ≡ Check.Sound → (Stepped.Taken ≡ toStepped (stepCheck t F c s)) × (s₁ ≡ stepInto t F c s)
       unfolding stepCheck
-      step-taken f = (sym (rw (sym eq ∙ e, sym (w .answers-so) ∙ f) refl), into)
+      stepped-taken f = (sym (rw (sym eq ∙ e, sym (w .answers-so) ∙ f) refl), into)
 
 -- the inner step of a call whose four numbers are equal
 pub same-works : {Q : Questions} {n F kind from to side k f u d : ℕ} {s s₁ : List ℕ} {a : Check} {changed : Bool} → k ≡ kind → f ≡ from → u ≡ to →

@@ -33,14 +33,16 @@ returns-3 c =
     let b = c .before .before .before .before .before in
     let a = b .before .before .before .before .before .args in
     state-refused (now (a .table)) (a .faulty) (now (a .state)) (b .before .before .check .ensures) (b .enum-told .given .1)
-    (c .before .before .before .before .all-below .ensures) (c .before .before .before .within .ensures) (c .before .before .if1 .left) (c .before .is-unsound .ensures) (c .if2 .taken)
+    (c .before .before .before .before .all-below .ensures) (c .before .before .before .within .ensures) (c .before .before .if1 .left)
+    (c .before .is-unsound .ensures) (c .if2 .taken)
 
 returns-4 : tie.Need-returns-4
 returns-4 c =
     let b = c .before .before .before .before .before in
     let a = b .before .before .before .before .before .args in
     state-sound (now (a .table)) (a .faulty) (now (a .state)) (b .before .before .check .ensures) (b .enum-told .given .1)
-    (c .before .before .before .before .all-below .ensures) (c .before .before .before .within .ensures) (c .before .before .if1 .left) (c .before .is-unsound .ensures) (c .if2 .left)
+    (c .before .before .before .before .all-below .ensures) (c .before .before .before .within .ensures) (c .before .before .if1 .left)
+    (c .before .is-unsound .ensures) (c .if2 .left)
 
 pub sound-spec : {M : Type 1} → statement M
 sound-spec =

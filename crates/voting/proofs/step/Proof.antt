@@ -2,14 +2,14 @@
 use borrow.Author.Needs.{needs}
 use denote.Ref.{now}
 use Rattle.voting.specs.Inner.{call}
-use Rattle.voting.proofs.StepWays.{step-stopped, sound-table, sound-state, step-refused, step-taken, same-works}
+use Rattle.voting.proofs.StepWays.{stepped-unsound, sound-table, sound-state, stepped-refused, stepped-taken, same-works}
 use Rattle.voting.proofs.step.Statement.{statement}
 use Rattle.voting.proofs.step.Tie as tie
 
 returns : tie.Need-returns
 returns c =
     let a = c .before .before .before .before .before .before .before .args in
-    step-stopped (now (a .table)) (a .faulty) (now (a .state)) (c .before .before .before .sound .ensures) (call (a .kind) (a .from) (a .to) (a .side))
+    stepped-unsound (now (a .table)) (a .faulty) (now (a .state)) (c .before .before .before .sound .ensures) (call (a .kind) (a .from) (a .to) (a .side))
     (c .before .q .given .1)
 
 work-requires : tie.Need-work-requires
@@ -23,16 +23,20 @@ work-requires c κs =
 returns-2 : tie.Need-returns-2
 returns-2 c =
     let b = c .before .before .before .before .before in
-    let a = b .before .before .before .before .before .before .before .before .before .before .before .before .args in
-    let w = same-works (b .before .before .before .before .wide .ensures) (b .before .before .before .wide2 .ensures) (b .before .before .wide3 .ensures) (b .before .wide4 .ensures) (b .work .ensures) in
-    step-refused (now (a .table)) (a .faulty) (now (a .state)) (b .before .before .before .before .before .before .before .before .sound .ensures) (b .before .before .before .before .before .before .enum-told .given .1) w (c .before .a .given .1)
+    let d = b .before .before .before .before in
+    let a = d .before .before .before .before .before .before .before .before .args in
+    stepped-refused (now (a .table)) (a .faulty) (now (a .state)) (d .before .before .before .before .sound .ensures) (d .before .before .enum-told .given .1)
+    (same-works (d .wide .ensures) (b .before .before .before .wide2 .ensures) (b .before .before .wide3 .ensures) (b .before .wide4 .ensures) (b .work .ensures))
+    (c .before .a .given .1)
 
 returns-3 : tie.Need-returns-3
 returns-3 c =
     let b = c .before .before .before .before in
-    let a = b .before .before .before .before .before .before .before .before .before .before .before .before .args in
-    let w = same-works (b .before .before .before .before .wide .ensures) (b .before .before .before .wide2 .ensures) (b .before .before .wide3 .ensures) (b .before .wide4 .ensures) (b .work .ensures) in
-    step-taken (now (a .table)) (a .faulty) (now (a .state)) (b .before .before .before .before .before .before .before .before .sound .ensures) (b .before .before .before .before .before .before .enum-told .given .1) w (c .enum-told2 .given .1)
+    let d = b .before .before .before .before in
+    let a = d .before .before .before .before .before .before .before .before .args in
+    stepped-taken (now (a .table)) (a .faulty) (now (a .state)) (d .before .before .before .before .sound .ensures) (d .before .before .enum-told .given .1)
+    (same-works (d .wide .ensures) (b .before .before .before .wide2 .ensures) (b .before .before .wide3 .ensures) (b .before .wide4 .ensures) (b .work .ensures))
+    (c .enum-told2 .given .1)
 
 pub step-spec : {M : Type 1} → statement M
 step-spec =

@@ -25,7 +25,8 @@ returns-2 : tie.Need-returns-2
 returns-2 c =
     let b = c .before .before .before .before .before .before .before .before .before in
     let a = b .args in
-    works-heard (b .pre .1) (call (a .kind) (a .from) (a .to) (a .side)) (c .before .before .before .before .before .answer .ensures) (sym (c .before .is-heard .ensures) ∙ c .if1 .taken)
+    works-heard (b .pre .1) (call (a .kind) (a .from) (a .to) (a .side)) (c .before .before .before .before .before .answer .ensures)
+    (sym (c .before .is-heard .ensures) ∙ c .if1 .taken)
 
 take-requires : tie.Need-take-requires
 take-requires c κs =
@@ -38,7 +39,9 @@ returns-3 : tie.Need-returns-3
 returns-3 c =
     let b = c .before .before .before .before .before .before .before .before .before .before .before .before .before in
     let a = b .args in
-    works-taken (b .pre .1) (call (a .kind) (a .from) (a .to) (a .side)) (c .before .before .before .before .before .before .before .before .before .answer .ensures) (c .before .before .before .before .before .before .before .enum-told .given .1)
+    works-taken (b .pre .1) (call (a .kind) (a .from) (a .to) (a .side))
+    (c .before .before .before .before .before .before .before .before .before .answer .ensures)
+    (c .before .before .before .before .before .before .before .enum-told .given .1)
     (sym (c .before .before .before .before .before .is-heard .ensures) ∙ c .before .before .before .before .if1 .left) (c .before .before .take .ensures)
 
 pub work-spec : {M : Type 1} → statement M

@@ -10,8 +10,10 @@ use Rattle.voting.proofs.rules.now_accepts.Tie as tie
 returns : tie.Need-returns
 returns c =
     let a = c .before .before .before .before .before .before .before .before .before .before .before .before .before .before .args in
-    accepts-way (questionsOf (slicesOf (now (a .table))) (a .n)) (a .n) (a .v) (a .side) (now (a .state)) (c .before .before .before .before .before .before .before .before .only .ensures)
-    (c .before .before .before .before .before .before .before .before .before .is-accepting .ensures) (c .before .before .before .before .before .before .put .ensures) (c .before .before .put2 .ensures)
+    accepts-way (questionsOf (slicesOf (now (a .table))) (a .n)) (a .n) (a .v) (a .side) (now (a .state))
+    (c .before .before .before .before .before .before .before .before .only .ensures)
+    (c .before .before .before .before .before .before .before .before .before .is-accepting .ensures)
+    (c .before .before .before .before .before .before .put .ensures) (c .before .before .put2 .ensures)
 
 pub now-accepts-spec : {M : Type 1} → statement M
 now-accepts-spec =

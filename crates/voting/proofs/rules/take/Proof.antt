@@ -12,7 +12,8 @@ returns : tie.Need-returns
 returns c =
     let a = c .before .before .before .before .before .before .before .before .before .before .before .before .before .before .args in
     taken-way (questionsOf (slicesOf (now (a .table))) (a .n)) (a .n) (call (a .kind) (a .from) (a .to) (a .side)) (now (a .state))
-    (c .before .before .before .before .before .before .before .before .before .before .hear .ensures) (c .before .before .before .before .before .before .now-accepts .ensures) (c .before .before .now-confirms .ensures)
+    (c .before .before .before .before .before .before .before .before .before .before .hear .ensures)
+    (c .before .before .before .before .before .before .now-accepts .ensures) (c .before .before .now-confirms .ensures)
 
 pub take-spec : {M : Type 1} → statement M
 take-spec =
