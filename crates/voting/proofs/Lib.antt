@@ -10,3 +10,5 @@ pub mod Kept
 pub mod Inner
 pub mod Steps
 pub mod Exact
+pub mod StepWays
+pub mod Coincide

@@ -1,67 +1,61 @@
+-- `work` meets its contract: a refused call and a call that is heard already change nothing, any other changes the state.
+use mathlib.Core.Path.{sym, _∙_}
 use borrow.Author.Needs.{needs}
+use denote.Ref.{now}
+use Rattle.voting.specs.Inner.{call}
+use Rattle.voting.proofs.Answer.{takes}
+use Rattle.voting.proofs.Inner.{works-refused, works-heard, works-taken}
 use Rattle.voting.proofs.work.Statement.{statement}
 use Rattle.voting.proofs.work.Tie as tie
-use Rattle.voting.proofs.work.Reads as reads
-use Rattle.voting.proofs.work.Lts as lts
-use Rattle.voting.proofs.answers.answer.Reads as answer-reads
-use Rattle.voting.proofs.answers.is_heard.Reads as is-heard-reads
-use Rattle.voting.proofs.rules.take.Reads as take-reads
 
--- src/lib.rt:43:9
-answer-requires : tie.Need-answer-requires
-answer-requires c κs = search needs
-
-enum-told : tie.Need-enum-told
-enum-told c = search needs
-
--- src/lib.rt:45:9
-enum-told-2 : tie.Need-enum-told-2
-enum-told-2 c = search needs
-
--- src/lib.rt:45:9
-same-length : tie.Need-same-length
-same-length c = search needs
-
--- src/lib.rt:45:9
 returns : tie.Need-returns
-returns c = search needs
+returns c =
+    let b = c .before .before .before .before .before .before in
+    let a = b .args in
+    works-refused (b .pre .1) (call (a .kind) (a .from) (a .to) (a .side)) (c .before .before .answer .ensures) (c .enum-told2 .given .1)
 
--- src/lib.rt:50:8
 is-heard-requires : tie.Need-is-heard-requires
-is-heard-requires c κs = search needs
+is-heard-requires c κs =
+    let b = c .before .before .before .before .before .before .before in
+    let a = b .args in
+    let e = sym (c .before .before .before .answer .ensures) ∙ c .before .enum-told .given .1 in
+    (b .pre .1 .long, b .pre .0 .few-sites, takes (a .n) (a .faulty) (call (a .kind) (a .from) (a .to) (a .side)) (now (a .state)) e .range)
 
--- src/lib.rt:51:9
-same-length-2 : tie.Need-same-length-2
-same-length-2 c = search needs
-
--- src/lib.rt:51:9
 returns-2 : tie.Need-returns-2
-returns-2 c = search needs
+returns-2 c =
+    let b = c .before .before .before .before .before .before .before .before .before in
+    let a = b .args in
+    works-heard (b .pre .1) (call (a .kind) (a .from) (a .to) (a .side)) (c .before .before .before .before .before .answer .ensures)
+    (sym (c .before .is-heard .ensures) ∙ c .if1 .taken)
 
--- src/lib.rt:56:5
 take-requires : tie.Need-take-requires
-take-requires c κs = search needs
+take-requires c κs =
+    let b = c .before .before .before .before .before .before .before .before .before .before in
+    let a = b .args in
+    let e = sym (c .before .before .before .before .before .before .answer .ensures) ∙ c .before .before .before .before .enum-told .given .1 in
+    (b .pre .0, b .pre .1 .long, takes (a .n) (a .faulty) (call (a .kind) (a .from) (a .to) (a .side)) (now (a .state)) e .range)
 
--- src/lib.rt:30:1
-same-length-3 : tie.Need-same-length-3
-same-length-3 c = search needs
-
--- src/lib.rt:30:1
 returns-3 : tie.Need-returns-3
-returns-3 c = search needs
+returns-3 c =
+    let b = c .before .before .before .before .before .before .before .before .before .before .before .before .before in
+    let a = b .args in
+    works-taken (b .pre .1) (call (a .kind) (a .from) (a .to) (a .side))
+    (c .before .before .before .before .before .before .before .before .before .answer .ensures)
+    (c .before .before .before .before .before .before .before .enum-told .given .1)
+    (sym (c .before .before .before .before .before .is-heard .ensures) ∙ c .before .before .before .before .if1 .left) (c .before .before .take .ensures)
 
 pub work-spec : {M : Type 1} → statement M
 work-spec =
     tie.close
     (tie.spec
-    answer-requires
-    enum-told
-    enum-told-2
-    same-length
+    (λ c κs. search needs)
+    (λ c. search needs)
+    (λ c. search needs)
+    (λ c. search needs)
     returns
     is-heard-requires
-    same-length-2
+    (λ c. search needs)
     returns-2
     take-requires
-    same-length-3
+    (λ c. search needs)
     returns-3)

@@ -1,22 +1,15 @@
+-- `in_quorum` meets its contract: it asks for the site in the largest quorum.
+use Prim.Native.Nat.{ℕ}
+use mathlib.Core.Path.{ap, _∙_}
 use borrow.Author.Needs.{needs}
+use Rattle.masks.specs.Mask.{has}
+use Rattle.sets.specs.Promises.{questionsOf}
 use Rattle.voting.proofs.rules.in_quorum.Statement.{statement}
 use Rattle.voting.proofs.rules.in_quorum.Tie as tie
-use Rattle.voting.proofs.rules.in_quorum.Reads as reads
-use Rattle.voting.proofs.rules.in_quorum.Lts as lts
-use Rattle.masks.proofs.has.Reads as has-reads
-use Rattle.sets.proofs.largest.Reads as largest-reads
 
--- src/rules.rt:28:9
-largest-requires : tie.Need-largest-requires
-largest-requires c κs = search needs
-
--- src/rules.rt:29:5
-has-requires : tie.Need-has-requires
-has-requires c κs = search needs
-
--- src/rules.rt:24:1
 returns : tie.Need-returns
-returns c = search needs
+unfolding questionsOf
+returns c = c .has .ensures ∙ ap (λ (x : ℕ). has x (c .before .before .before .args .v)) (c .before .largest .ensures .0)
 
 pub in-quorum-spec : {M : Type 1} → statement M
-in-quorum-spec = tie.close (tie.spec largest-requires has-requires returns)
+in-quorum-spec = tie.close (tie.spec (λ c κs. search needs) (λ c κs. search needs) returns)

@@ -1,0 +1,60 @@
+-- `step` meets its contract: what the soundness refuses, or the inner step.
+use borrow.Author.Needs.{needs}
+use denote.Ref.{now}
+use Rattle.voting.specs.Inner.{call}
+use Rattle.voting.proofs.StepWays.{stepped-unsound, sound-table, sound-state, stepped-refused, stepped-taken, same-works}
+use Rattle.voting.proofs.step.Statement.{statement}
+use Rattle.voting.proofs.step.Tie as tie
+
+returns : tie.Need-returns
+returns c =
+    let a = c .before .before .before .before .before .before .before .args in
+    stepped-unsound (now (a .table)) (a .faulty) (now (a .state)) (c .before .before .before .sound .ensures) (call (a .kind) (a .from) (a .to) (a .side))
+    (c .before .q .given .1)
+
+work-requires : tie.Need-work-requires
+work-requires c κs =
+    let b = c .before .before .before .before .before in
+    let a = b .before .before .before .before .before .before .args in (
+      sound-table (now (a .table)) (a .faulty) (now (a .state)) (b .before .before .sound .ensures) (b .enum-told .given .1),
+      sound-state (now (a .table)) (a .faulty) (now (a .state)) (b .before .before .sound .ensures) (b .enum-told .given .1),
+    )
+
+returns-2 : tie.Need-returns-2
+returns-2 c =
+    let b = c .before .before .before .before .before in
+    let d = b .before .before .before .before in
+    let a = d .before .before .before .before .before .before .before .before .args in
+    stepped-refused (now (a .table)) (a .faulty) (now (a .state)) (d .before .before .before .before .sound .ensures) (d .before .before .enum-told .given .1)
+    (same-works (d .wide .ensures) (b .before .before .before .wide2 .ensures) (b .before .before .wide3 .ensures) (b .before .wide4 .ensures) (b .work .ensures))
+    (c .before .a .given .1)
+
+returns-3 : tie.Need-returns-3
+returns-3 c =
+    let b = c .before .before .before .before in
+    let d = b .before .before .before .before in
+    let a = d .before .before .before .before .before .before .before .before .args in
+    stepped-taken (now (a .table)) (a .faulty) (now (a .state)) (d .before .before .before .before .sound .ensures) (d .before .before .enum-told .given .1)
+    (same-works (d .wide .ensures) (b .before .before .before .wide2 .ensures) (b .before .before .wide3 .ensures) (b .before .wide4 .ensures) (b .work .ensures))
+    (c .enum-told2 .given .1)
+
+pub step-spec : {M : Type 1} → statement M
+step-spec =
+    tie.close
+    (tie.spec
+    (λ c κs. search needs)
+    (λ c. search needs)
+    (λ c. search needs)
+    returns
+    (λ c. search needs)
+    (λ c κs. search needs)
+    (λ c κs. search needs)
+    (λ c κs. search needs)
+    (λ c κs. search needs)
+    work-requires
+    (λ c. search needs)
+    (λ c. search needs)
+    returns-2
+    (λ c. search needs)
+    (λ c. search needs)
+    returns-3)
