@@ -12,3 +12,4 @@ pub mod Steps
 pub mod Exact
 pub mod StepWays
 pub mod Coincide
+pub mod Ways

@@ -1,16 +1,18 @@
+-- `is_crooked` meets its contract: only a proposal can be crooked.
 use borrow.Author.Needs.{needs}
+use Rattle.voting.proofs.Ways.{crooked-proposal, crooked-other}
 use Rattle.voting.proofs.answers.is_crooked.Statement.{statement}
 use Rattle.voting.proofs.answers.is_crooked.Tie as tie
-use Rattle.voting.proofs.answers.is_crooked.Reads as reads
-use Rattle.voting.proofs.answers.is_crooked.Lts as lts
 
--- src/answers.rt:32:9
 returns : tie.Need-returns
-returns c = search needs
+returns c = crooked-proposal _ (c .if1 .taken)
 
--- src/answers.rt:28:1
 returns-2 : tie.Need-returns-2
-returns-2 c = search needs
+returns-2 c = crooked-other _ (c .if1 .left)
 
 pub is-crooked-spec : {M : Type 1} → statement M
-is-crooked-spec = tie.close (tie.spec returns returns-2)
+is-crooked-spec =
+    tie.close
+    (tie.spec
+    returns
+    returns-2)

@@ -1,52 +1,30 @@
+-- `is_not_own` meets its contract: the vote, then the accept.
+use mathlib.Core.Path.{sym, _∙_}
 use borrow.Author.Needs.{needs}
+use Rattle.voting.proofs.Ways.{own-vote, own-accept}
 use Rattle.voting.proofs.soundness.is_not_own.Statement.{statement}
 use Rattle.voting.proofs.soundness.is_not_own.Tie as tie
-use Rattle.voting.proofs.soundness.is_not_own.Reads as reads
-use Rattle.voting.proofs.soundness.is_not_own.Lts as lts
-use Rattle.masks.proofs.has.Reads as has-reads
-use Rattle.voting.proofs.soundness.differ.Reads as differ-reads
 
--- src/soundness.rt:57:15
-has-requires : tie.Need-has-requires
-has-requires c κs = search needs
-
--- src/soundness.rt:57:44
-has-requires-2 : tie.Need-has-requires-2
-has-requires-2 c κs = search needs
-
--- src/soundness.rt:57:8
-differ-requires : tie.Need-differ-requires
-differ-requires c κs = search needs
-
--- src/soundness.rt:58:9
 returns : tie.Need-returns
-returns c = search needs
+returns c =
+    let e = rw (c .before .before .before .has .ensures, c .before .before .has2 .ensures) at (c .before .differ .ensures) in
+    own-vote _ _ _ _ _ (sym e ∙ c .if1 .taken)
 
--- src/soundness.rt:61:9
-has-requires-3 : tie.Need-has-requires-3
-has-requires-3 c κs = search needs
-
--- src/soundness.rt:62:9
-has-requires-4 : tie.Need-has-requires-4
-has-requires-4 c κs = search needs
-
--- src/soundness.rt:60:5
-differ-requires-2 : tie.Need-differ-requires-2
-differ-requires-2 c κs = search needs
-
--- src/soundness.rt:53:1
 returns-2 : tie.Need-returns-2
-returns-2 c = search needs
+returns-2 c =
+    let e = rw (c .before .before .before .before .before .before .has .ensures, c .before .before .before .before .before .has2 .ensures) at (c .before .before .before .before .differ .ensures) in
+    let f = rw (c .before .before .has3 .ensures, c .before .has4 .ensures) at (c .differ2 .ensures) in
+    f ∙ own-accept _ _ _ _ _ (sym e ∙ c .before .before .before .if1 .left)
 
 pub is-not-own-spec : {M : Type 1} → statement M
 is-not-own-spec =
     tie.close
     (tie.spec
-    has-requires
-    has-requires-2
-    differ-requires
+    (λ c κs. search needs)
+    (λ c κs. search needs)
+    (λ c κs. search needs)
     returns
-    has-requires-3
-    has-requires-4
-    differ-requires-2
+    (λ c κs. search needs)
+    (λ c κs. search needs)
+    (λ c κs. search needs)
     returns-2)

@@ -1,41 +1,29 @@
+-- `is_not_zero` meets its contract: the tests in the order of its definition.
+use mathlib.Core.Path.{sym, _∙_}
 use borrow.Author.Needs.{needs}
+use Rattle.voting.proofs.Ways.{zero-votes, zero-accepts, zero-voted, zero-accepted, zero-confirmed}
 use Rattle.voting.proofs.soundness.is_not_zero.Statement.{statement}
 use Rattle.voting.proofs.soundness.is_not_zero.Tie as tie
-use Rattle.voting.proofs.soundness.is_not_zero.Reads as reads
-use Rattle.voting.proofs.soundness.is_not_zero.Lts as lts
-use Rattle.masks.proofs.has.Reads as has-reads
 
--- src/soundness.rt:38:9
 returns : tie.Need-returns
-returns c = search needs
+returns c = zero-votes _ _ _ _ _ _ (c .if1 .taken)
 
--- src/soundness.rt:41:9
 returns-2 : tie.Need-returns-2
-returns-2 c = search needs
+returns-2 c = zero-accepts _ _ _ _ _ _ (c .before .if1 .left) (c .if2 .taken)
 
--- src/soundness.rt:43:8
-has-requires : tie.Need-has-requires
-has-requires c κs = search needs
-
--- src/soundness.rt:44:9
 returns-3 : tie.Need-returns-3
-returns-3 c = search needs
+returns-3 c = zero-voted _ _ _ _ _ _ (c .before .before .before .if1 .left) (c .before .before .if2 .left) (sym (c .before .has .ensures) ∙ c .if3 .taken)
 
--- src/soundness.rt:46:8
-has-requires-2 : tie.Need-has-requires-2
-has-requires-2 c κs = search needs
-
--- src/soundness.rt:47:9
 returns-4 : tie.Need-returns-4
-returns-4 c = search needs
+returns-4 c =
+    let d = sym (c .before .before .before .has .ensures) ∙ c .before .before .if3 .left in
+    zero-accepted _ _ _ _ _ _ (c .before .before .before .before .before .if1 .left) (c .before .before .before .before .if2 .left) d (sym (c .before .has2 .ensures) ∙ c .if4 .taken)
 
--- src/soundness.rt:49:5
-has-requires-3 : tie.Need-has-requires-3
-has-requires-3 c κs = search needs
-
--- src/soundness.rt:26:1
 returns-5 : tie.Need-returns-5
-returns-5 c = search needs
+returns-5 c =
+    let d = sym (c .before .before .before .before .has .ensures) ∙ c .before .before .before .if3 .left in
+    let e = sym (c .before .before .has2 .ensures) ∙ c .before .if4 .left in
+    c .has3 .ensures ∙ zero-confirmed _ _ _ _ _ _ (c .before .before .before .before .before .before .if1 .left) (c .before .before .before .before .before .if2 .left) d e
 
 pub is-not-zero-spec : {M : Type 1} → statement M
 is-not-zero-spec =
@@ -43,9 +31,9 @@ is-not-zero-spec =
     (tie.spec
     returns
     returns-2
-    has-requires
+    (λ c κs. search needs)
     returns-3
-    has-requires-2
+    (λ c κs. search needs)
     returns-4
-    has-requires-3
+    (λ c κs. search needs)
     returns-5)

@@ -1,43 +1,34 @@
+-- `some_bad_site` meets its contract: no site before v is bad.
+use Prim.Native.Nat.{ℕ, _-_, _≤_}
+use mathlib.Core.Bool.{false}
+use mathlib.Core.Path.{_≡_, sym, ap, _∙_}
+use native.Mathlib.Omega.{arith}
 use borrow.Author.Needs.{needs}
+use Rattle.ground.proofs.Search.{some-of, some-more, some-none}
+use Rattle.ground.specs.Search.{some}
+use Rattle.sets.specs.Promises.{questionsOf}
+use Rattle.sets.specs.Slices.{slicesOf}
+use Rattle.voting.specs.Sound.{badSite}
 use Rattle.voting.proofs.soundness.some_bad_site.Statement.{statement}
 use Rattle.voting.proofs.soundness.some_bad_site.Tie as tie
-use Rattle.voting.proofs.soundness.some_bad_site.Reads as reads
-use Rattle.voting.proofs.soundness.some_bad_site.Lts as lts
-use Rattle.voting.proofs.soundness.is_bad_site.Reads as is-bad-site-reads
 
 abbrev Inv-loop : tie.InvT-loop
-Inv-loop table n faulty state v₀ v = ?
+Inv-loop table n faulty state v₀ v = (v ≤ n) × (some v (badSite (questionsOf (slicesOf table) n) n faulty state) ≡ false)
 
 abbrev μ-loop : tie.MeasureT-loop
-μ-loop table n faulty state v₀ v = ?
+μ-loop table n faulty state v₀ v = n - v
 
--- src/soundness.rt:140:5
 loop-holds : tie.Need-loop-holds Inv-loop μ-loop
-loop-holds c = search needs
+loop-holds c = (search needs, some-none _)
 
--- src/soundness.rt:141:12
-is-bad-site-requires : tie.Need-is-bad-site-requires Inv-loop μ-loop
-is-bad-site-requires c κs = search needs
-
--- src/soundness.rt:142:13
 returns : tie.Need-returns Inv-loop μ-loop
-returns c = search needs
+returns c = sym (some-of _ _ (c .before .before .loop-test .taken) (sym (c .before .is-bad-site .ensures) ∙ c .if1 .taken))
 
--- src/soundness.rt:144:9
-add-v : tie.Need-add-v Inv-loop μ-loop
-add-v c = search needs
-
--- src/soundness.rt:140:5
-loop-less : tie.Need-loop-less Inv-loop μ-loop
-loop-less c = search needs
-
--- src/soundness.rt:140:5
 loop-again : tie.Need-loop-again Inv-loop μ-loop
-loop-again c = search needs
+loop-again c = (search needs, some-more _ _ (c .before .before .before .loop .inv .1) (sym (c .before .is-bad-site .ensures) ∙ c .if1 .left))
 
--- src/soundness.rt:135:1
 returns-2 : tie.Need-returns-2 Inv-loop μ-loop
-returns-2 c = search needs
+returns-2 c = let e : c .before .loop .v ≡ c .before .before .before .before .args .n = omega arith in sym (rw e at (c .before .loop .inv .1))
 
 pub some-bad-site-spec : {M : Type 1} → statement M
 some-bad-site-spec =
@@ -46,9 +37,9 @@ some-bad-site-spec =
     Inv-loop
     μ-loop
     loop-holds
-    is-bad-site-requires
+    (λ c κs. search needs)
     returns
-    add-v
-    loop-less
+    (λ c. search needs)
+    (λ c. search needs)
     loop-again
     returns-2)

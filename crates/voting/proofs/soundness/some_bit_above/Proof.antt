@@ -1,56 +1,38 @@
+-- `some_bit_above` meets its contract: no number before i has a bit at or above n.
+use Prim.Native.Nat.{ℕ, _-_, _≤_}
+use mathlib.Core.Bool.{false, not}
+use mathlib.Core.Path.{_≡_, sym, ap, _∙_}
+use native.Mathlib.Omega.{arith}
+use lib.ListN.{length}
 use borrow.Author.Needs.{needs}
+use Rattle.ground.proofs.Search.{some-of, some-more, some-none}
+use Rattle.ground.specs.Search.{some}
+use Rattle.masks.specs.Mask.{within, allBelow}
+use Rattle.voting.specs.State.{get}
 use Rattle.voting.proofs.soundness.some_bit_above.Statement.{statement}
 use Rattle.voting.proofs.soundness.some_bit_above.Tie as tie
-use Rattle.voting.proofs.soundness.some_bit_above.Reads as reads
-use Rattle.voting.proofs.soundness.some_bit_above.Lts as lts
-use Rattle.masks.proofs.all_below.Reads as all-below-reads
-use Rattle.masks.proofs.within.Reads as within-reads
 
 abbrev Inv-loop : tie.InvT-loop
-Inv-loop n state all i₀ i = ?
+Inv-loop n state all i₀ i = (i ≤ length state) × (some i (λ j. not (within (get state j) (allBelow n))) ≡ false)
 
 abbrev μ-loop : tie.MeasureT-loop
-μ-loop n state all i₀ i = ?
+μ-loop n state all i₀ i = length state - i
 
--- src/soundness.rt:154:9
-all-below-requires : tie.Need-all-below-requires Inv-loop μ-loop
-all-below-requires c κs = search needs
-
--- src/soundness.rt:156:5
 loop-holds : tie.Need-loop-holds Inv-loop μ-loop
-loop-holds c = search needs
+loop-holds c = (search needs, some-none _)
 
--- src/soundness.rt:157:27
-mul-within : tie.Need-mul-within Inv-loop μ-loop
-mul-within c = search needs
-
--- src/soundness.rt:157:27
-shared-slice-read-within : tie.Need-shared-slice-read-within Inv-loop μ-loop
-shared-slice-read-within c = search needs
-
--- src/soundness.rt:157:13
-within-requires : tie.Need-within-requires Inv-loop μ-loop
-within-requires c κs = search needs
-
--- src/soundness.rt:158:13
 returns : tie.Need-returns Inv-loop μ-loop
-returns c = search needs
+returns c =
+    let e = rw (c .before .before .before .before .before .all-below .ensures) at (c .before .within .ensures) in
+    sym (some-of _ _ (c .before .before .before .loop-test .taken) (ap not (sym e) ∙ c .if1 .taken))
 
--- src/soundness.rt:160:9
-add-i : tie.Need-add-i Inv-loop μ-loop
-add-i c = search needs
-
--- src/soundness.rt:156:5
-loop-less : tie.Need-loop-less Inv-loop μ-loop
-loop-less c = search needs
-
--- src/soundness.rt:156:5
 loop-again : tie.Need-loop-again Inv-loop μ-loop
-loop-again c = search needs
+loop-again c =
+    let e = rw (c .before .before .before .before .before .all-below .ensures) at (c .before .within .ensures) in
+    (search needs, some-more _ _ (c .before .before .before .before .loop .inv .1) (ap not (sym e) ∙ c .if1 .left))
 
--- src/soundness.rt:150:1
 returns-2 : tie.Need-returns-2 Inv-loop μ-loop
-returns-2 c = search needs
+returns-2 c = let e : c .before .loop .i ≡ length (c .before .before .before .before .args .state .now) = omega arith in sym (rw e at (c .before .loop .inv .1))
 
 pub some-bit-above-spec : {M : Type 1} → statement M
 some-bit-above-spec =
@@ -58,13 +40,13 @@ some-bit-above-spec =
     (tie.spec
     Inv-loop
     μ-loop
-    all-below-requires
+    (λ c κs. search needs)
     loop-holds
-    mul-within
-    shared-slice-read-within
-    within-requires
+    (λ c. search needs)
+    (λ c. search needs)
+    (λ c κs. search needs)
     returns
-    add-i
-    loop-less
+    (λ c. search needs)
+    (λ c. search needs)
     loop-again
     returns-2)
