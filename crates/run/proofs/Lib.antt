@@ -2,6 +2,7 @@ pub mod Examples
 pub mod Passes
 pub mod Loops
 pub mod Turns
+pub mod RunWays
 pub mod Order
 pub mod Calls
 pub mod Public
