@@ -106,7 +106,7 @@ module _ (t : List ℕ) (F : ℕ) (list state answers : List ℕ) where
       × (b ++ drop (length list / 4) answers ≡ answersInto (Passes p) t F list answers)
   unfolding ran stateInto answersInto
   ran-passes {p} {s} {b} e W = (
-      rw e (ap Passes (W .count)),
-      ap (λ (x : List ℕ). x ++ drop (size (sites (length t))) state) (W .state),
-      ap (λ (x : List ℕ). x ++ drop (length list / 4) answers) (W .answers),
-    )
+    rw e (ap Passes (W .count)),
+    ap (λ (x : List ℕ). x ++ drop (size (sites (length t))) state) (W .state),
+    ap (λ (x : List ℕ). x ++ drop (length list / 4) answers) (W .answers),
+  )

@@ -1,0 +1,101 @@
+-- `run` meets its contract: the refusal leaves both rooms; else the run stands in front of each.
+use Prim.Native.Nat.{ℕ, _+_, _*_, _/_, _≤_}
+use mathlib.Core.Path.{_≡_, sym, ap, subst, _∙_}
+use native.Mathlib.Omega.{arith}
+use borrow.Author.Needs.{needs}
+use denote.Ref.{now}
+use lib.ListN.{length}
+use lib.Seq.{length-take-le, length-front}
+use Rattle.run.proofs.RunWays.{Fits, fits, ran-refused, ran-passes}
+use Rattle.table.specs.Table.{sites}
+use Rattle.run.proofs.run.Statement.{statement}
+use Rattle.run.proofs.run.Tie as tie
+
+returns : tie.Need-returns
+returns c =
+    let a = c .before .before .before .before .before .before .before .before .args in
+    let x = ran-refused (now (a .table)) (a .faulty) (now (a .list)) (now (a .state)) (now (a .answers)) _ (sym (c .before .before .before .check .ensures) ∙ c .before .q .given .1) in
+    (x .0, (x .1, x .2))
+
+mul-size : tie.Need-mul-size
+mul-size c =
+    let a = c .before .before .before .before .before .before .before .args in
+    let f = fits (now (a .table)) (a .faulty) (length (now (a .list))) (length (now (a .state))) (length (now (a .answers))) (sym (c .before .before .check .ensures) ∙ c .enum-told .given .1) in
+    omega (arith, f .table .few-sites)
+
+add-size : tie.Need-add-size
+add-size c =
+    let a = c .before .before .before .before .before .before .before .args in
+    let f = fits (now (a .table)) (a .faulty) (length (now (a .list))) (length (now (a .state))) (length (now (a .answers))) (sym (c .before .before .check .ensures) ∙ c .enum-told .given .1) in
+    omega (arith, f .table .few-sites)
+
+slice-relend-prefix-run-cleared : tie.Need-slice-relend-prefix-run-cleared
+slice-relend-prefix-run-cleared c =
+    let a = c .before .before .before .before .before .before .before .args in
+    let f = fits (now (a .table)) (a .faulty) (length (now (a .list))) (length (now (a .state))) (length (now (a .answers))) (sym (c .before .before .check .ensures) ∙ c .enum-told .given .1) in
+    omega (arith, f .states)
+
+slice-aggregate-run-cleared : tie.Need-slice-aggregate-run-cleared
+slice-aggregate-run-cleared c =
+    let a = c .before .before .before .before .before .before .before .before .args in
+    let f = fits (now (a .table)) (a .faulty) (length (now (a .list))) (length (now (a .state))) (length (now (a .answers))) (sym (c .before .before .before .check .ensures) ∙ c .before .enum-told .given .1) in
+    sym (length-take-le (4 * sites (length (now (a .table))) + 6) (now (a .state)) (f .states))
+
+slice-relend-prefix-run-cleared-2 : tie.Need-slice-relend-prefix-run-cleared-2
+slice-relend-prefix-run-cleared-2 c =
+    let a = c .before .before .before .before .before .before .before .before .args in
+    let f = fits (now (a .table)) (a .faulty) (length (now (a .list))) (length (now (a .state))) (length (now (a .answers))) (sym (c .before .before .before .check .ensures) ∙ c .before .enum-told .given .1) in
+    omega (arith, f .many)
+
+slice-aggregate-run-cleared-2 : tie.Need-slice-aggregate-run-cleared-2
+slice-aggregate-run-cleared-2 c =
+    let a = c .before .before .before .before .before .before .before .before .before .args in
+    let f = fits (now (a .table)) (a .faulty) (length (now (a .list))) (length (now (a .state))) (length (now (a .answers))) (sym (c .before .before .before .before .check .ensures) ∙ c .before .before .enum-told .given .1) in
+    sym (length-take-le (length (now (a .list)) / 4) (now (a .answers)) (f .many))
+
+run-cleared-requires : tie.Need-run-cleared-requires
+run-cleared-requires c κs =
+    let a = c .before .before .before .before .before .before .before .before .before .args in
+    let f = fits (now (a .table)) (a .faulty) (length (now (a .list))) (length (now (a .state))) (length (now (a .answers))) (sym (c .before .before .before .before .check .ensures) ∙ c .before .before .enum-told .given .1) in
+    let q = length-take-le (length (now (a .list)) / 4) (now (a .answers)) (f .many) in (
+      f .table,
+      length-take-le (4 * sites (length (now (a .table))) + 6) (now (a .state)) (f .states),
+      f .four ∙ ap (λ (k : ℕ). 4 * k) (sym q),
+      subst (λ (k : ℕ). k ≤ 4096) (sym q) (f .few),
+    )
+
+same-length : tie.Need-same-length
+same-length c =
+    let a = c .before .before .before .before .before .before .before .before .before .before .before .before .before .before .args in
+    length-front (now (a .state)) (c .before .before .before .before .run-cleared .last .1 .1 .1 .1 .0) (4 * sites (length (now (a .table))) + 6) (c .before .before .before .before .run-cleared .kept .1 .1 .1 .1 .0)
+
+same-length-2 : tie.Need-same-length-2
+same-length-2 c =
+    let a = c .before .before .before .before .before .before .before .before .before .before .before .before .before .before .args in
+    length-front (now (a .answers)) (c .before .before .before .before .run-cleared .last .1 .1 .1 .1 .1 .0) (length (now (a .list)) / 4) (c .before .before .before .before .run-cleared .kept .1 .1 .1 .1 .1 .0)
+
+returns-2 : tie.Need-returns-2
+returns-2 c =
+    let a = c .before .before .before .before .before .before .before .before .before .before .before .before .before .before .args in
+    let x = ran-passes (now (a .table)) (a .faulty) (now (a .list)) (now (a .state)) (now (a .answers)) (sym (c .before .before .before .before .before .before .before .before .before .check .ensures) ∙ c .before .before .before .before .before .before .before .enum-told .given .1)
+    (c .before .before .before .before .run-cleared .ensures) in
+    (x .0, (x .1, x .2))
+
+pub run-spec : {M : Type 1} → statement M
+run-spec =
+    tie.close
+    (tie.spec
+    (λ c κs. search needs)
+    (λ c. search needs)
+    returns
+    (λ c. search needs)
+    mul-size
+    add-size
+    slice-relend-prefix-run-cleared
+    slice-aggregate-run-cleared
+    slice-relend-prefix-run-cleared-2
+    slice-aggregate-run-cleared-2
+    run-cleared-requires
+    same-length
+    same-length-2
+    returns-2)
