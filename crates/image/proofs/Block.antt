@@ -1,17 +1,17 @@
 -- Laws of one block's check: a way out each, and that a block is refused for its slices and filler as its 63 numbers are.
-use Prim.Native.Nat.{ℕ, _+_, _*_, _-_, _/_, _%_, _≤_, _<_, zero, suc}
+use Prim.Native.Nat.{ℕ, zero, suc, _+_, _-_, _*_, _/_, _%_, _≤_, _<_}
 use mathlib.Core.Bool.{Bool, true, false, _||_, not, or-true}
 use mathlib.Core.List.{List}
 use mathlib.Core.Logic.{⊎-elim}
-use mathlib.Core.Path.{_≡_, ap, _∙_, sym, refl}
+use mathlib.Core.Path.{_≡_, refl, sym, ap, _∙_}
 use native.Mathlib.Omega.{arith}
 use lib.Dec.{eqb, ltb}
 use lib.ListN.{getD}
-use borrow.Author.Tests.{eq-eqb, eqb-true, not-false, ne-eqb, ltb-false, ltb-true}
+use borrow.Author.Tests.{eqb-true, eq-eqb, ne-eqb, ltb-true, ltb-false, not-false}
 use Rattle.block.specs.Block.{sealed}
 use Rattle.ground.proofs.Logic.{fail-alike, cases, or-none}
 use Rattle.ground.proofs.Search.{none-each, each-none}
-use Rattle.image.specs.Image.{countField, sliceField, unfilled, load, siteField, sitesField, zeroField, misheaded, blockCheck}
+use Rattle.image.specs.Image.{siteField, sitesField, countField, zeroField, sliceField, misheaded, unfilled, blockCheck, load}
 use Rattle.image.proofs.Load.{load-slice}
 use Rattle.le.proofs.Laws.{field-zeros, zeros-field}
 use Rattle.refusals.proofs.First.{missed, passed}

@@ -1,5 +1,5 @@
 -- Laws of loading: the 63 numbers of a block, the loops that fill a list with them, and the sites of what was loaded.
-use Prim.Native.Nat.{ℕ, _+_, _*_, _<_, suc, _-_}
+use Prim.Native.Nat.{ℕ, suc, _+_, _-_, _*_, _<_}
 use mathlib.Core.List.{List, [], _∷_, _++_, append-nil}
 use mathlib.Core.Path.{_≡_, refl, _∙_}
 use native.Mathlib.Omega.{arith}

@@ -1,11 +1,11 @@
 -- One site there and back: its block is read as its 63 numbers, and a block that passes is written again as it was.
-use Prim.Native.Nat.{ℕ, _+_, _*_, _^_, _≤_, _<_, suc}
+use Prim.Native.Nat.{ℕ, suc, _+_, _*_, _^_, _≤_, _<_}
 use mathlib.Core.Bool.{true}
 use mathlib.Core.List.{List, [], _∷_, _++_, append-assoc, append-nil}
 use mathlib.Core.Path.{_≡_, refl, sym, ap, ap₂, _∙_}
 use native.Mathlib.Omega.{arith}
-use lib.ListN.{length, take, drop, getD, take-append-drop, length-append}
-use lib.Seq.{length-take-le, drop-drop, take-all, take-add}
+use lib.ListN.{length, getD, take, drop, length-append, take-append-drop}
+use lib.Seq.{take-all, take-add, drop-drop, length-take-le}
 use Rattle.block.proofs.Laws.{checkS-front, checkT-front, checkS-lt, checkT-lt, sealed-sums, sums-sealed}
 use Rattle.block.specs.Block.{checkS, checkT, sealed}
 use Rattle.ground.proofs.Pieces.{length-cat, cat-ext, cat-split, cat-parts, cat-elements}

@@ -7,10 +7,10 @@ use mathlib.Core.Path.{_≡_, refl, sym, ap, _∙_}
 use native.Mathlib.Omega.{arith}
 use lib.Dec.{eqb, ltb}
 use lib.ListN.{length, take}
-use borrow.Author.Tests.{ne-eqb, eq-eqb, eqb-true, lt-ltb, le-ltb, not-false, eqb-false, ltb-false}
+use borrow.Author.Tests.{eqb-true, eqb-false, eq-eqb, ne-eqb, ltb-false, lt-ltb, le-ltb, not-false}
 use Rattle.ground.proofs.Logic.{cases, or-none}
 use Rattle.ground.specs.Pieces.{part}
-use Rattle.image.specs.Image.{misshapen, blocksCheck, loads, blockCheck}
+use Rattle.image.specs.Image.{misshapen, blockCheck, blocksCheck, loads}
 use Rattle.image.specs.Read.{quorumless, readCheck, toReading, read}
 use Rattle.image.specs.declared.Reading.{Reading}
 use Rattle.image.specs.declared.Reading.the-variants.{Sites}

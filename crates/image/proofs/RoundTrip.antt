@@ -1,5 +1,5 @@
 -- Tables survive reading and writing unchanged, either one first.
-use Prim.Native.Nat.{ℕ, _*_, _≤_, _<_, _+_}
+use Prim.Native.Nat.{ℕ, _+_, _*_, _≤_, _<_}
 use mathlib.Core.List.{List, _++_}
 use mathlib.Core.Path.{_≡_, ap, _∙_}
 use native.Mathlib.Nat.{le-refl, lt-of-le-of-lt}
@@ -9,7 +9,7 @@ use lib.Seq.{take-all}
 use Rattle.ground.proofs.Pieces.{length-part, cat-ext, cat-parts, part-le}
 use Rattle.ground.specs.Pieces.{part}
 use Rattle.image.specs.Image.{blockCheck, blocksCheck, load, loads, store, stores}
-use Rattle.image.specs.Read.{readInto, read}
+use Rattle.image.specs.Read.{read, readInto}
 use Rattle.image.specs.RoundTrip.{Words, ReadThenWrite, WriteThenRead}
 use Rattle.image.specs.Write.{write, writeInto}
 use Rattle.image.proofs.Block.{block-sound}

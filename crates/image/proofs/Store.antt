@@ -1,10 +1,10 @@
 -- Laws of the functions that write a block, part by part, and of the loop that writes all blocks.
-use Prim.Native.Nat.{ℕ, _+_, _*_, _-_, _≤_, _<_}
+use Prim.Native.Nat.{ℕ, _+_, _-_, _*_, _≤_, _<_}
 use mathlib.Core.List.{List, [], _++_, append-assoc, append-nil}
 use mathlib.Core.Path.{_≡_, refl, sym, ap, _∙_}
 use native.Mathlib.Omega.{arith}
-use lib.ListN.{length, take, drop, take-append-drop, length-append}
-use lib.Seq.{sets, take-at, length-take-le, drop-length}
+use lib.ListN.{length, take, drop, length-append, take-append-drop}
+use lib.Seq.{sets, take-at, drop-length, length-take-le}
 use Rattle.block.proofs.Laws.{checkS-front, checkT-front}
 use Rattle.block.specs.Block.{checkS, checkT}
 use Rattle.ground.proofs.Pieces.{cat-more, length-cat, fill-part, part-cat, fill-sets}

@@ -1,6 +1,6 @@
 -- `check_blocks` meets its contract: the blocks before i are sound, and a refusal is the first.
-use Prim.Native.Nat.{ℕ, _≤_, _-_}
-use mathlib.Core.Path.{_≡_, sym, ap, refl, _∙_}
+use Prim.Native.Nat.{ℕ, _-_, _≤_}
+use mathlib.Core.Path.{_≡_, refl, sym, ap, _∙_}
 use native.Mathlib.Omega.{arith}
 use Rattle.refusals.specs.declared.Check.the-variants.{Sound}
 use borrow.Author.Needs.{needs}

@@ -1,9 +1,9 @@
 -- `load_block` meets its contract: after k turns the room holds the count and the first k places of the block.
-use Prim.Native.Nat.{_+_, _≤_, _-_}
+use Prim.Native.Nat.{_+_, _-_, _≤_}
 use mathlib.Core.List.{_++_}
 use mathlib.Core.Path.{_≡_}
 use native.Mathlib.Omega.{arith}
-use lib.ListN.{length, drop, length-set, set}
+use lib.ListN.{length, drop, set, length-set}
 use borrow.Author.Needs.{needs}
 use denote.Ref.{now}
 use Rattle.image.proofs.Load.{loadTo, load-holds, load-again, load-done}

@@ -1,7 +1,7 @@
 -- `load_blocks` meets its contract: after i turns the room begins with the sites of the first i blocks.
-use Prim.Native.Nat.{ℕ, _+_, _≤_, _-_, _*_}
+use Prim.Native.Nat.{ℕ, _+_, _-_, _*_, _≤_}
 use mathlib.Core.List.{_++_}
-use mathlib.Core.Path.{_≡_, ap, refl, _∙_}
+use mathlib.Core.Path.{_≡_, refl, ap, _∙_}
 use native.Mathlib.Omega.{arith}
 use lib.ListN.{length, drop}
 use borrow.Author.Needs.{needs}

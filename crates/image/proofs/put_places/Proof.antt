@@ -1,5 +1,5 @@
 -- `put_places` meets its contract: after k turns the first k places stand behind byte 7.
-use Prim.Native.Nat.{_+_, _≤_, _-_, _*_}
+use Prim.Native.Nat.{_+_, _-_, _*_, _≤_}
 use mathlib.Core.List.{_++_}
 use mathlib.Core.Path.{_≡_, sym, _∙_}
 use native.Mathlib.Omega.{arith}

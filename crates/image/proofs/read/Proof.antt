@@ -1,6 +1,6 @@
 -- `read` meets its contract: one law for each way out; that no quorum is found contradicts the check of the blocks.
-use Prim.Native.Nat.{_≤_, _*_, _/_}
-use mathlib.Core.Path.{sym, refl, _∙_}
+use Prim.Native.Nat.{_*_, _/_, _≤_}
+use mathlib.Core.Path.{refl, sym, _∙_}
 use native.Mathlib.Omega.{arith}
 use lib.ListN.{length}
 use lib.Seq.{length-take-le}

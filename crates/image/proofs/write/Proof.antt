@@ -1,5 +1,5 @@
 -- `write` meets its contract: one law for each way out.
-use mathlib.Core.Path.{sym, refl, _∙_}
+use mathlib.Core.Path.{refl, sym, _∙_}
 use lib.ListN.{length}
 use borrow.Author.Needs.{needs}
 use denote.Ref.{now}

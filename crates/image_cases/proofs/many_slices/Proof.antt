@@ -1,0 +1,35 @@
+-- `many_slices` is safe and ends: the array keeps its length.
+use Prim.Native.Nat.{_≤_, _-_}
+use mathlib.Core.Path.{_≡_}
+use native.Mathlib.Omega.{arith}
+use lib.ListN.{length, length-set}
+use borrow.Author.Needs.{needs}
+use Rattle.image_cases.proofs.many_slices.Statement.{statement}
+use Rattle.image_cases.proofs.many_slices.Tie as tie
+
+abbrev Inv-loop : tie.InvT-loop
+Inv-loop t₀ k₀ t k = (k ≤ 62) × (length t ≡ 4032)
+
+abbrev μ-loop : tie.MeasureT-loop
+μ-loop t₀ k₀ t k = 62 - k
+
+loop-again : tie.Need-loop-again Inv-loop μ-loop
+loop-again c = (omega arith, simp length-set (omega arith))
+
+pub many-slices-spec : {M : Type 1} → statement M
+many-slices-spec =
+    tie.close
+    (tie.spec
+    Inv-loop
+    μ-loop
+    (λ c κs. search needs)
+    (λ c. search needs)
+    (λ c. search needs)
+    (λ c. search needs)
+    (λ c. search needs)
+    (λ c. search needs)
+    (λ c. search needs)
+    (λ c. search needs)
+    (λ c. search needs)
+    loop-again
+    (λ c. search needs))
