@@ -11,50 +11,61 @@ returns c = sym (refused _ _ _ _ (range (sym (c .before .is-out-of-range .ensure
 
 returns-2 : tie.Need-returns-2
 returns-2 c =
-    let a = sym (c .before .before .before .is-out-of-range .ensures) ∙ c .before .before .if1 .left in
-    sym (refused _ _ _ _ (proposal a (sym (c .before .is-crooked .ensures) ∙ c .if2 .taken)))
+    let first = c .before .before in
+    sym (refused _ _ _ _ (proposal (sym (first .before .is-out-of-range .ensures) ∙ first .if1 .left) (sym (c .before .is-crooked .ensures) ∙ c .if2 .taken)))
 
 has-requires : tie.Need-has-requires
-has-requires c κs = let r = in-range (sym (c .before .before .before .is-out-of-range .ensures) ∙ c .before .before .if1 .left) in omega (arith, r .to-in)
+has-requires c κs =
+    let first = c .before .before in
+    let r = in-range (sym (first .before .is-out-of-range .ensures) ∙ first .if1 .left) in
+    omega (arith, r .to-in)
 
 returns-3 : tie.Need-returns-3
 returns-3 c =
-    let a = sym (c .before .before .before .before .before .is-out-of-range .ensures) ∙ c .before .before .before .before .if1 .left in
-    let b = sym (c .before .before .before .is-crooked .ensures) ∙ c .before .before .if2 .left in
-    sym (refused _ _ _ _ (receiver a b (sym (c .before .has .ensures) ∙ c .if3 .taken)))
+    let second = c .before .before in
+    let first = second .before .before in
+    sym (refused _ _ _ _ (receiver (sym (first .before .is-out-of-range .ensures) ∙ first .if1 .left) (sym (second .before .is-crooked .ensures) ∙ second .if2 .left)
+    (sym (c .before .has .ensures) ∙ c .if3 .taken)))
 
 is-against-requires : tie.Need-is-against-requires
 is-against-requires c κs =
-    let r = in-range (sym (c .before .before .before .before .before .is-out-of-range .ensures) ∙ c .before .before .before .before .if1 .left) in
-    (c .before .before .before .before .before .before .before .pre .0, c .before .before .before .before .before .before .before .pre .1, r)
+    let first = c .before .before .before .before in
+    let p = first .before .before .before .pre in
+    (p .0, p .1, in-range (sym (first .before .is-out-of-range .ensures) ∙ first .if1 .left))
 
 returns-4 : tie.Need-returns-4
 returns-4 c =
-    let a = sym (c .before .before .before .before .before .before .before .is-out-of-range .ensures) ∙ c .before .before .before .before .before .before .if1 .left in
-    let b = sym (c .before .before .before .before .before .is-crooked .ensures) ∙ c .before .before .before .before .if2 .left in
-    let d = sym (c .before .before .before .has .ensures) ∙ c .before .before .if3 .left in
-    sym (refused _ _ _ _ (voted-other a b d (sym (c .before .is-against .ensures) ∙ c .if4 .taken)))
+    let third = c .before .before in
+    let second = third .before .before in
+    let first = second .before .before in
+    sym (refused _ _ _ _ (voted-other (sym (first .before .is-out-of-range .ensures) ∙ first .if1 .left) (sym (second .before .is-crooked .ensures) ∙ second .if2 .left)
+    (sym (third .before .has .ensures) ∙ third .if3 .left) (sym (c .before .is-against .ensures) ∙ c .if4 .taken)))
 
 is-unsent-requires : tie.Need-is-unsent-requires
 is-unsent-requires c κs =
-    let r = in-range (sym (c .before .before .before .before .before .before .before .is-out-of-range .ensures) ∙ c .before .before .before .before .before .before .if1 .left) in
-    (c .before .before .before .before .before .before .before .before .before .pre .0, c .before .before .before .before .before .before .before .before .before .pre .1, r)
+    let first = c .before .before .before .before .before .before in
+    let p = first .before .before .before .pre in
+    (p .0, p .1, in-range (sym (first .before .is-out-of-range .ensures) ∙ first .if1 .left))
 
 returns-5 : tie.Need-returns-5
 returns-5 c =
-    let a = sym (c .before .before .before .before .before .before .before .before .before .is-out-of-range .ensures) ∙ c .before .before .before .before .before .before .before .before .if1 .left in
-    let b = sym (c .before .before .before .before .before .before .before .is-crooked .ensures) ∙ c .before .before .before .before .before .before .if2 .left in
-    let d = sym (c .before .before .before .before .before .has .ensures) ∙ c .before .before .before .before .if3 .left in
-    let e = sym (c .before .before .before .is-against .ensures) ∙ c .before .before .if4 .left in
-    sym (refused _ _ _ _ (not-sent a b d e (sym (c .before .is-unsent .ensures) ∙ c .if5 .taken)))
+    let fourth = c .before .before in
+    let third = fourth .before .before in
+    let second = third .before .before in
+    let first = second .before .before in
+    sym (refused _ _ _ _ (not-sent (sym (first .before .is-out-of-range .ensures) ∙ first .if1 .left) (sym (second .before .is-crooked .ensures) ∙ second .if2 .left)
+    (sym (third .before .has .ensures) ∙ third .if3 .left) (sym (fourth .before .is-against .ensures) ∙ fourth .if4 .left)
+    (sym (c .before .is-unsent .ensures) ∙ c .if5 .taken)))
 
 returns-6 : tie.Need-returns-6
 returns-6 c =
-    let a = sym (c .before .before .before .before .before .before .before .before .before .is-out-of-range .ensures) ∙ c .before .before .before .before .before .before .before .before .if1 .left in
-    let b = sym (c .before .before .before .before .before .before .before .is-crooked .ensures) ∙ c .before .before .before .before .before .before .if2 .left in
-    let d = sym (c .before .before .before .before .before .has .ensures) ∙ c .before .before .before .before .if3 .left in
-    let e = sym (c .before .before .before .is-against .ensures) ∙ c .before .before .if4 .left in
-    sym (passes _ _ _ _ a b d e (sym (c .before .is-unsent .ensures) ∙ c .if5 .left))
+    let fourth = c .before .before in
+    let third = fourth .before .before in
+    let second = third .before .before in
+    let first = second .before .before in
+    sym (passes _ _ _ _ (sym (first .before .is-out-of-range .ensures) ∙ first .if1 .left) (sym (second .before .is-crooked .ensures) ∙ second .if2 .left)
+    (sym (third .before .has .ensures) ∙ third .if3 .left) (sym (fourth .before .is-against .ensures) ∙ fourth .if4 .left)
+    (sym (c .before .is-unsent .ensures) ∙ c .if5 .left))
 
 pub answer-spec : {M : Type 1} → statement M
 answer-spec =

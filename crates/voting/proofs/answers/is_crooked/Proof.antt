@@ -1,5 +1,4 @@
 -- `is_crooked` meets its contract: only a proposal can be crooked.
-use borrow.Author.Needs.{needs}
 use Rattle.voting.proofs.Ways.{crooked-proposal, crooked-other}
 use Rattle.voting.proofs.answers.is_crooked.Statement.{statement}
 use Rattle.voting.proofs.answers.is_crooked.Tie as tie

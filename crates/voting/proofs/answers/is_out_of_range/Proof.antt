@@ -1,6 +1,5 @@
 -- `is_out_of_range` meets its contract: the tests of 11 in the order of its definition.
 use borrow.Author.Needs.{needs}
-use native.Mathlib.Omega.{arith}
 use Rattle.voting.proofs.Ways.{range-from, range-to, range-kind, range-side}
 use Rattle.voting.proofs.answers.is_out_of_range.Statement.{statement}
 use Rattle.voting.proofs.answers.is_out_of_range.Tie as tie

@@ -12,9 +12,10 @@ returns c =
 
 returns-2 : tie.Need-returns-2
 returns-2 c =
-    let e = rw (c .before .before .before .before .before .before .has .ensures, c .before .before .before .before .before .is-accepting .ensures) at (c .before .before .before .before .differ .ensures) in
+    let first = c .before .before .before in
+    let e = rw (first .before .before .before .has .ensures, first .before .before .is-accepting .ensures) at (first .before .differ .ensures) in
     let f = rw (c .before .before .has2 .ensures, c .before .is-confirming .ensures) at (c .differ2 .ensures) in
-    f ∙ rule-confirmed _ _ _ _ _ _ (sym e ∙ c .before .before .before .if1 .left)
+    f ∙ rule-confirmed _ _ _ _ _ _ (sym e ∙ first .if1 .left)
 
 pub is-not-rule-spec : {M : Type 1} → statement M
 is-not-rule-spec =

@@ -12,18 +12,25 @@ returns-2 : tie.Need-returns-2
 returns-2 c = zero-accepts _ _ _ _ _ _ (c .before .if1 .left) (c .if2 .taken)
 
 returns-3 : tie.Need-returns-3
-returns-3 c = zero-voted _ _ _ _ _ _ (c .before .before .before .if1 .left) (c .before .before .if2 .left) (sym (c .before .has .ensures) ∙ c .if3 .taken)
+returns-3 c =
+    let second = c .before .before in
+    zero-voted _ _ _ _ _ _ (second .before .if1 .left) (second .if2 .left) (sym (c .before .has .ensures) ∙ c .if3 .taken)
 
 returns-4 : tie.Need-returns-4
 returns-4 c =
-    let d = sym (c .before .before .before .has .ensures) ∙ c .before .before .if3 .left in
-    zero-accepted _ _ _ _ _ _ (c .before .before .before .before .before .if1 .left) (c .before .before .before .before .if2 .left) d (sym (c .before .has2 .ensures) ∙ c .if4 .taken)
+    let third = c .before .before in
+    let second = third .before .before in
+    zero-accepted _ _ _ _ _ _ (second .before .if1 .left) (second .if2 .left) (sym (third .before .has .ensures) ∙ third .if3 .left)
+    (sym (c .before .has2 .ensures) ∙ c .if4 .taken)
 
 returns-5 : tie.Need-returns-5
 returns-5 c =
-    let d = sym (c .before .before .before .before .has .ensures) ∙ c .before .before .before .if3 .left in
-    let e = sym (c .before .before .has2 .ensures) ∙ c .before .if4 .left in
-    c .has3 .ensures ∙ zero-confirmed _ _ _ _ _ _ (c .before .before .before .before .before .before .if1 .left) (c .before .before .before .before .before .if2 .left) d e
+    let fourth = c .before in
+    let third = fourth .before .before in
+    let second = third .before .before in
+    c .has3 .ensures
+    ∙ zero-confirmed _ _ _ _ _ _ (second .before .if1 .left) (second .if2 .left) (sym (third .before .has .ensures) ∙ third .if3 .left)
+    (sym (fourth .before .has2 .ensures) ∙ fourth .if4 .left)
 
 pub is-not-zero-spec : {M : Type 1} → statement M
 is-not-zero-spec =

@@ -1,6 +1,5 @@
 -- `is_unsound` meets its contract: the length, the bits at or above n, the sites that voted both sides, then site by site.
 use mathlib.Core.Path.{sym, _∙_}
-use native.Mathlib.Omega.{arith}
 use borrow.Author.Needs.{needs}
 use Rattle.voting.proofs.Ways.{unsound-length, unsound-bit, unsound-both, unsound-site}
 use Rattle.voting.proofs.soundness.is_unsound.Statement.{statement}
@@ -21,7 +20,9 @@ returns-3 c =
     unsound-both _ _ _ _ (c .before .before .before .before .before .if1 .left) e (c .if3 .taken)
 
 some-bad-site-requires : tie.Need-some-bad-site-requires
-some-bad-site-requires c κs = (c .before .before .before .before .before .before .before .before .pre, c .before .before .before .before .before .if1 .left)
+some-bad-site-requires c κs =
+    let long = c .before .before .before .before .before in
+    (long .before .before .before .pre, long .if1 .left)
 
 returns-4 : tie.Need-returns-4
 returns-4 c =

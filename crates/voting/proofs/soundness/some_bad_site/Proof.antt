@@ -1,7 +1,7 @@
 -- `some_bad_site` meets its contract: no site before v is bad.
-use Prim.Native.Nat.{ℕ, _-_, _≤_}
+use Prim.Native.Nat.{_-_, _≤_}
 use mathlib.Core.Bool.{false}
-use mathlib.Core.Path.{_≡_, sym, ap, _∙_}
+use mathlib.Core.Path.{_≡_, sym, _∙_}
 use native.Mathlib.Omega.{arith}
 use borrow.Author.Needs.{needs}
 use Rattle.ground.proofs.Search.{some-of, some-more, some-none}
@@ -28,7 +28,9 @@ loop-again : tie.Need-loop-again Inv-loop μ-loop
 loop-again c = (search needs, some-more _ _ (c .before .before .before .loop .inv .1) (sym (c .before .is-bad-site .ensures) ∙ c .if1 .left))
 
 returns-2 : tie.Need-returns-2 Inv-loop μ-loop
-returns-2 c = let e : c .before .loop .v ≡ c .before .before .before .before .args .n = omega arith in sym (rw e at (c .before .loop .inv .1))
+returns-2 c =
+    let e : c .before .loop .v ≡ c .before .before .before .before .args .n = omega arith in
+    sym (rw e at (c .before .loop .inv .1))
 
 pub some-bad-site-spec : {M : Type 1} → statement M
 some-bad-site-spec =

@@ -1,10 +1,11 @@
 -- `some_bit_above` meets its contract: no number before i has a bit at or above n.
-use Prim.Native.Nat.{ℕ, _-_, _≤_}
+use Prim.Native.Nat.{_-_, _≤_}
 use mathlib.Core.Bool.{false, not}
 use mathlib.Core.Path.{_≡_, sym, ap, _∙_}
 use native.Mathlib.Omega.{arith}
 use lib.ListN.{length}
 use borrow.Author.Needs.{needs}
+use denote.Ref.{now}
 use Rattle.ground.proofs.Search.{some-of, some-more, some-none}
 use Rattle.ground.specs.Search.{some}
 use Rattle.masks.specs.Mask.{within, allBelow}
@@ -32,7 +33,9 @@ loop-again c =
     (search needs, some-more _ _ (c .before .before .before .before .loop .inv .1) (ap not (sym e) ∙ c .if1 .left))
 
 returns-2 : tie.Need-returns-2 Inv-loop μ-loop
-returns-2 c = let e : c .before .loop .i ≡ length (c .before .before .before .before .args .state .now) = omega arith in sym (rw e at (c .before .loop .inv .1))
+returns-2 c =
+    let e : c .before .loop .i ≡ length (now (c .before .before .before .before .args .state)) = omega arith in
+    sym (rw e at (c .before .loop .inv .1))
 
 pub some-bit-above-spec : {M : Type 1} → statement M
 some-bit-above-spec =
