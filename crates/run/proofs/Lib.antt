@@ -12,3 +12,4 @@ pub mod Bound
 pub mod Chain
 pub mod Stages
 pub mod Reached
+pub mod Coincide

@@ -1,37 +1,24 @@
 -- The theorems of the public run: what it leaves in its rooms is the run of the rules, so what is true of the one is true of the other.
-use Prim.Native.Nat.{ℕ, suc, _+_, _*_, _/_, _%_, _≤_, _<_}
-use mathlib.Core.Bool.{Bool, true, false, not, _||_}
-use mathlib.Core.List.{List, [], _∷_}
-use mathlib.Core.Path.{_≡_, refl, sym, ap, ap₂, subst, _∙_}
+use Prim.Native.Nat.{ℕ, suc, _/_, _≤_, _<_}
+use mathlib.Core.List.{List}
+use mathlib.Core.Path.{_≡_, refl, sym, ap, subst, _∙_}
 use native.Mathlib.Omega.{arith}
-use lib.Dec.{eqb, ltb}
-use lib.ListN.{length, getD, take, drop}
+use lib.ListN.{length, getD, drop}
 use lib.Seq.{take-at}
-use borrow.Author.Tests.{eqb-true, not-false}
-use Rattle.ground.proofs.Logic.{or-none}
-use Rattle.masks.proofs.Laws.AllBelow.{in-all}
-use Rattle.masks.specs.Mask.{within, allBelow}
-use Rattle.refusals.proofs.First.{orElse-sound, missed}
-use Rattle.refusals.specs.First.{orElse, refuse}
-use Rattle.refusals.specs.Refusal.{code}
 use Rattle.refusals.specs.declared.Check.{Check}
 use Rattle.refusals.specs.declared.Check.the-variants.{Sound, Refused}
-use Rattle.refusals.specs.declared.Refusal as Refusal
-use Rattle.refusals.specs.declared.Refusal.the-variants.{Room, Set}
+use Rattle.run.specs.Run.{calls, callAt, runCheck, runOf, toRan, ran, stateInto, answersInto}
+use Rattle.run.specs.Theorems.{Taken, endState, endAnswers, OrderFree, FewPasses, IsRun, TheRun, FewerBelow}
+use Rattle.run.specs.declared.Ran.the-variants.{Passes}
 use Rattle.run.proofs.Calls.{calls-at, calls-length}
 use Rattle.run.proofs.Order.{run-is, few-passes, same-end, same-answers, fewer-below}
-use Rattle.run.specs.Passes.{Run, answersOf}
-use Rattle.run.specs.Run.{calls, callAt, runVotes, misshapen, roomless, runCheck, runOf, toRan, ran, stateInto, answersInto}
-use Rattle.run.specs.Theorems.{Taken, endState, endAnswers, OrderFree, FewPasses, IsRun, TheRun, FewerBelow}
-use Rattle.run.specs.declared.Ran.{Ran}
-use Rattle.run.specs.declared.Ran.the-variants.{Passes}
-use Rattle.sets.proofs.Promises.{table-promises}
-use Rattle.sets.specs.Promises.{Questions}
+use Rattle.run.proofs.RunWays.{Fits, fits}
+use Rattle.run.proofs.Turns.{length-answers}
 use Rattle.sets.specs.Slices.{fbqsOf}
-use Rattle.table.proofs.Exact.{checked}
-use Rattle.table.specs.Table.{sites, check, Table}
-use Rattle.voting.specs.Rules.{Call, answer, step}
-use Rattle.voting.specs.State.{size, fresh, Below}
+use Rattle.table.specs.Table.{sites}
+use Rattle.voting.proofs.StepWays.{table-rests}
+use Rattle.voting.specs.Rules.{Call}
+use Rattle.voting.specs.State.{size}
 use Rattle.voting.specs.Step.{questions}
 use Rattle.voting.specs.Theorems.{Rests}
 
@@ -39,37 +26,20 @@ taken-inv : (q : Check) (k p : ℕ) → toRan q k ≡ Passes p → (q ≡ Sound)
 taken-inv Sound k p e = (refl, cc)
 taken-inv (Refused r) k p e = let z : _≡_ {A = ℕ} 0 1 = cc in absurd (omega arith)
 
--- one answer a call
-answers-length : (Q : Questions) (n F : ℕ) (l : List Call) (s : List ℕ) → length (answersOf (step Q n F) (λ c s. code (answer n F c s)) l s) ≡ length l
-answers-length Q n F [] s = refl
-answers-length Q n F (c ∷ l) s = ap suc (answers-length Q n F l (step Q n F c s))
-
 -- what a taken run has shown of its table and its list
 module _ {t : List ℕ} {F : ℕ} {list state answers : List ℕ} {p : ℕ} (T : Taken t F list state answers p) where
   checks : (runCheck t F (length list) (length state) (length answers) ≡ Sound) × (runOf t F list .passes ≡ p)
   unfolding ran
   checks = taken-inv (runCheck t F (length list) (length state) (length answers)) (runOf t F list .passes) p (T .took)
 
-  sound-table : Table t (sites (length t))
-  unfolding runCheck
-  sound-table = checked t (orElse-sound (check t) _ (checks .0) .0)
+  fit : Fits t (length list) (length state) (length answers)
+  fit = fits t F (length list) (length state) (length answers) (checks .0)
 
   pub rests : Rests (λ v. fbqsOf t (sites (length t))) (questions t) (sites (length t))
-  rests = record { promises = table-promises t (sites (length t)) sound-table; sites = λ v l. in-all l }
-
-  four : length list % 4 ≡ 0
-  unfolding runCheck misshapen
-  four =
-      let n = sites (length t) in
-      let roomed = refuse (roomless n (length list) (length state) (length answers)) Room in
-      let listed = orElse (refuse (misshapen (length list)) Refusal.Refusal.List) roomed in
-      let past = orElse-sound (check t) (orElse (refuse (not (within F (allBelow n))) Set) listed) (checks .0) .1 in
-      let whole = missed (misshapen (length list)) Refusal.Refusal.List roomed (missed (not (within F (allBelow n))) Set listed past .1) .0 in
-      eqb-true (length list % 4) 0
-      (not-false (eqb (length list % 4) 0) (or-none (not (eqb (length list % 4) 0)) (ltb 16384 (length list)) whole .0))
+  rests = table-rests (fit .table)
 
   call-count : length (calls list) ≡ length list / 4
-  call-count = let z = four in calls-length list (length list / 4) (omega arith)
+  call-count = calls-length list (length list / 4) (fit .four)
 
   -- the front of the state room is the state of the run, the front of the answer room its answers
   pub state-is-run : endState t F list state p ≡ runOf t F list .state
@@ -81,14 +51,14 @@ module _ {t : List ℕ} {F : ℕ} {list state answers : List ℕ} {p : ℕ} (T :
   answers-are-run =
       take-at (runOf t F list .answers) (drop (length list / 4) answers) (length list / 4)
       (ap length (run-is rests F (calls list) .last-answers)
-      ∙ answers-length (questions t) (sites (length t)) F (calls list) (runOf t F list .state)
+      ∙ length-answers (questions t) (sites (length t)) F (calls list) (runOf t F list .state)
       ∙ call-count)
 
   pub passes-are-run : runOf t F list .passes ≡ p
   passes-are-run = checks .1
 
   at-call : (i : ℕ) (d : Call) → i < length list / 4 → getD (calls list) i d ≡ callAt list i
-  at-call i d h = let z = four in calls-at list i d (omega arith)
+  at-call i d h = calls-at list i d (omega (arith, fit .four))
 
 pub few : FewPasses
 few t F list state answers p T =
