@@ -48,15 +48,23 @@ fn sound(name: &[u8], table: &[u64], faulty: u64, state: &[u64]) {
     }
 }
 
+// Number i of a state.
+fn at(state: &[u64], i: usize) {
+    if i < state.len() {
+        number(state[i]);
+    }
+}
+
 // The six masks of a state of n sites: voted, accepted, confirmed, drill and live.
 fn masks_of(state: &[u64], n: u32) {
     say(b"masks");
     let from = 4 * (n as usize);
-    for i in 0..6 {
-        if from + i < state.len() {
-            number(state[from + i]);
-        }
-    }
+    at(state, from);
+    at(state, from + 1);
+    at(state, from + 2);
+    at(state, from + 3);
+    at(state, from + 4);
+    at(state, from + 5);
     say(b"\n");
 }
 
@@ -84,12 +92,15 @@ fn make_b(table: &mut [u64]) {
     three(table, 3, 11, 13, 14);
 }
 
-// Site 3 is faulty: proposals, votes not yet cast, votes, an accept by quorum.
-fn vote_by_quorum(table: &[u64], state: &mut [u64]) {
+// Site 3 is faulty: proposals, a vote not yet cast; then votes, and an accept by quorum.
+fn proposals(table: &[u64], state: &mut [u64]) {
     step(table, 8, state, 0, 0, 0, 0);
     step(table, 8, state, 0, 0, 0, 1);
     step(table, 8, state, 0, 0, 0, 0);
     step(table, 8, state, 1, 1, 0, 0);
+}
+
+fn votes_of_others(table: &[u64], state: &mut [u64]) {
     step(table, 8, state, 0, 1, 1, 0);
     step(table, 8, state, 0, 2, 2, 0);
     step(table, 8, state, 1, 1, 0, 0);
@@ -98,12 +109,15 @@ fn vote_by_quorum(table: &[u64], state: &mut [u64]) {
     masks_of(state, 4);
 }
 
-// An accept by blocking, with the word of the faulty site, and a confirm with the own accept; and the faulty site says both sides.
-fn vote_by_blocking(table: &[u64], state: &mut [u64]) {
+// An accept by blocking, with the word of the faulty site, and a confirm with the own accept; then the faulty site says both sides.
+fn accept_by_blocking(table: &[u64], state: &mut [u64]) {
     step(table, 8, state, 2, 0, 1, 0);
     masks_of(state, 4);
     step(table, 8, state, 2, 3, 1, 0);
     masks_of(state, 4);
+}
+
+fn words_of_the_faulty(table: &[u64], state: &mut [u64]) {
     step(table, 8, state, 1, 3, 0, 0);
     step(table, 8, state, 1, 3, 0, 1);
     step(table, 8, state, 2, 3, 2, 1);
@@ -118,10 +132,16 @@ fn refuse_calls(table: &[u64], state: &mut [u64]) {
     step(table, 8, state, 0, 4, 4, 0);
     step(table, 8, state, 1, 0, 4, 0);
     step(table, 8, state, 1, 0, 1, 2);
+}
+
+fn refuse_later(table: &[u64], state: &mut [u64]) {
     step(table, 8, state, 0, 0, 3, 0);
     step(table, 8, state, 0, 3, 3, 0);
     step(table, 8, state, 1, 0, 3, 0);
     step(table, 8, state, 0, 1, 1, 1);
+}
+
+fn refuse_before(table: &[u64], state: &mut [u64]) {
     step(table, 16, state, 9, 9, 9, 9);
     step(table, 0, state, 9, 9, 9, 9);
 }
@@ -140,6 +160,9 @@ fn planted_first(table: &[u64], state: &mut [u64]) {
         state,
     );
     put(state, 0, 0);
+}
+
+fn planted_faulty(table: &[u64], state: &mut [u64]) {
     put(state, 12, 1);
     sound(b"faulty receiver heard a vote", table, 9, state);
     put(state, 12, 0);
@@ -153,11 +176,17 @@ fn planted_second(table: &[u64], state: &mut [u64]) {
     sound(b"voted and own vote not heard", table, 0, state);
     put(state, 0, 1);
     sound(b"voted and own vote heard", table, 0, state);
+}
+
+fn planted_both(table: &[u64], state: &mut [u64]) {
     put(state, 1, 1);
     put(state, 17, 1);
     sound(b"voted both sides", table, 0, state);
     put(state, 1, 0);
     put(state, 17, 0);
+}
+
+fn planted_confirmed(table: &[u64], state: &mut [u64]) {
     put(state, 20, 1);
     sound(b"confirmed without the rule", table, 0, state);
     put(state, 20, 0);
@@ -168,36 +197,59 @@ fn planted_third(table: &[u64], state: &mut [u64]) {
     sound(b"accepted and own accept not heard", table, 0, state);
     put(state, 2, 1);
     sound(b"accepted by its own accept alone", table, 0, state);
+}
+
+fn planted_accepts(table: &[u64], state: &mut [u64]) {
     put(state, 0, 7);
     put(state, 4, 2);
     put(state, 8, 4);
     put(state, 16, 7);
     sound(b"accepted by quorum", table, 0, state);
+}
+
+fn planted_denied(table: &[u64], state: &mut [u64]) {
     put(state, 2, 0);
     put(state, 18, 0);
     sound(b"not accepted where the rule accepts", table, 0, state);
 }
 
 // Sites 0, 1 and 2 hold each other's accepts for both sides, and nobody has voted: sound, though no run reaches it.
+fn make_circular(state: &mut [u64]) {
+    put(state, 2, 7);
+    put(state, 3, 7);
+    put(state, 6, 7);
+    put(state, 7, 7);
+    put(state, 10, 7);
+    put(state, 11, 7);
+}
+
+fn make_circular_masks(state: &mut [u64]) {
+    put(state, 18, 7);
+    put(state, 19, 7);
+    put(state, 20, 7);
+    put(state, 21, 7);
+}
+
 fn circular(table: &[u64], state: &mut [u64]) {
-    for v in 0..3 {
-        put(state, 4 * v + 2, 7);
-        put(state, 4 * v + 3, 7);
-    }
-    for i in 18..22 {
-        put(state, i, 7);
-    }
+    make_circular(state);
+    make_circular_masks(state);
     sound(b"circular", table, 0, state);
     step(table, 0, state, 0, 3, 3, 1);
     masks_of(state, 4);
+}
+
+// Site v has the one slice q.
+fn one(table: &mut [u64], v: u32, q: u64) {
+    let at = 63 * (v as usize);
+    put(table, at, 1);
+    put(table, at + 1, q);
 }
 
 // Sixty-four sites that trust themselves alone.
 fn make_alone(table: &mut [u64]) {
     let mut q = 1u64;
     for v in 0..64 {
-        put(table, 63 * v, 1);
-        put(table, 63 * v + 1, q);
+        one(table, v, q);
         q = 2 * (q % 9223372036854775808);
     }
 }
@@ -209,24 +261,49 @@ fn vote_alone(table: &[u64], state: &mut [u64]) {
     step(table, 9223372036854775808, state, 0, 62, 62, 0);
 }
 
+fn vote_on_b(table: &[u64], state: &mut [u64]) {
+    proposals(table, state);
+    votes_of_others(table, state);
+    accept_by_blocking(table, state);
+    words_of_the_faulty(table, state);
+}
+
+fn refuse_on_b(table: &[u64], state: &mut [u64]) {
+    refuse_calls(table, state);
+    refuse_later(table, state);
+    refuse_before(table, state);
+}
+
 fn on_b() {
     let mut table = [0u64; 252];
     make_b(&mut table);
     let mut state = [0u64; 22];
-    vote_by_quorum(&table, &mut state);
-    vote_by_blocking(&table, &mut state);
-    refuse_calls(&table, &mut state);
+    vote_on_b(&table, &mut state);
+    refuse_on_b(&table, &mut state);
     let short = [0u64; 21];
     sound(b"short", &table, 8, &short);
+}
+
+fn planted_votes(table: &[u64], state: &mut [u64]) {
+    planted_first(table, state);
+    planted_faulty(table, state);
+    planted_second(table, state);
+    planted_both(table, state);
+}
+
+fn planted_masks(table: &[u64], state: &mut [u64]) {
+    planted_confirmed(table, state);
+    planted_third(table, state);
+    planted_accepts(table, state);
+    planted_denied(table, state);
 }
 
 fn planted() {
     let mut table = [0u64; 252];
     make_b(&mut table);
     let mut state = [0u64; 22];
-    planted_first(&table, &mut state);
-    planted_second(&table, &mut state);
-    planted_third(&table, &mut state);
+    planted_votes(&table, &mut state);
+    planted_masks(&table, &mut state);
     let mut round = [0u64; 22];
     circular(&table, &mut round);
 }
