@@ -1,9 +1,9 @@
-//! The rules of the siren voting once more, in plain Rust: every answer is worked out by its definition, and nothing is saved on.
-//! It is written from the written rules alone, and shares no line with the library that it is compared with.
+//! The rules of the siren voting once more, in plain Rust: every answer is worked out by its definition, and nothing is
+//! saved on. It is written from the written rules alone, and shares no line with the library that it is compared with.
 //!
-//! Each public function is one public call of the library. It answers the number of the refusal (0 if there is none), the place that the
-//! refusal carries, and the values of the answer, unused ones 0. On refusal no lent memory changes. The comment at each function is the
-//! sentence of the rules that the function states.
+//! Each public function is one public call of the library. It answers the number of the refusal (0 if there is none),
+//! the place that the refusal carries, and the values of the answer, unused ones 0. On refusal no lent memory changes.
+//! The comment at each function is the sentence of the rules that the function states.
 
 #![allow(dead_code)]
 
@@ -36,7 +36,7 @@ pub struct Answer {
     pub values: [u64; 3],
 }
 
-/// "A refusal gives its number, and the block where there is one": the place is 0 where there is none.
+/// The number of a refusal and the place that it carries, 0 where it carries none.
 #[derive(Clone, Copy, Debug, PartialEq, Eq)]
 pub struct Refusal {
     pub number: u64,
@@ -91,8 +91,8 @@ fn number(bytes: &[u8]) -> u64 {
     bytes.iter().rev().fold(0, |value, byte| value * 256 + u64::from(*byte))
 }
 
-/// "The block's check is two sums modulo 2^32 over the first 126 four-byte words: both start at 0; for each word w, s becomes s + w, then t
-/// becomes t + s."
+/// "The block's check is two sums modulo 2^32 over the first 126 four-byte words: both start at 0; for each word w, s
+/// becomes s + w, then t becomes t + s."
 pub fn block_sums(block: &[u8]) -> (u64, u64) {
     let modulus = 1 << 32;
     let (mut s, mut t) = (0, 0);
@@ -122,7 +122,8 @@ pub fn block_check(block: &[u8]) -> Answer {
 
 // ---- Tables
 
-/// A table of groups: the sites that there are, and of each its slices. A table with sites deleted keeps the numbers of the others.
+/// A table of groups: the sites that there are, and of each its slices. A table with sites deleted keeps the numbers of
+/// the others.
 #[derive(Clone, Debug, PartialEq, Eq)]
 pub struct Table {
     pub sites: u64,
@@ -141,7 +142,8 @@ impl Table {
     }
 }
 
-/// "each slice 5 then 6": 5 is "a slice lacks its owner or names a site at or above n", 6 "a slice not above the one before".
+/// "each slice 5 then 6": 5 is "a slice lacks its owner or names a site at or above n", 6 "a slice not above the one
+/// before".
 fn check_slices(slices: &[u64], owner: usize, n: usize) -> Result<(), Refusal> {
     let sites = all_sites(n);
     for (i, slice) in slices.iter().enumerate() {
@@ -158,7 +160,7 @@ fn check_slices(slices: &[u64], owner: usize, n: usize) -> Result<(), Refusal> {
 /// 1: "memory table not 63 numbers times 1 to 64". The number of sites if it is.
 fn memory_sites(memory: &[u64]) -> Result<usize, Refusal> {
     let n = memory.len() / ROW;
-    if memory.len() % ROW != 0 || n < 1 || n > MOST_SITES {
+    if !memory.len().is_multiple_of(ROW) || !(1..=MOST_SITES).contains(&n) {
         return refused(1);
     }
     Ok(n)
@@ -181,8 +183,8 @@ fn memory_rows(memory: &[u64], n: usize) -> Result<Table, Refusal> {
     Ok(Table { sites: all_sites(n), slices: rows })
 }
 
-/// "A table in memory is refused with 1, 4, 5, 6 or 8 by every public call that takes one." "a table in memory elsewhere is checked alike,
-/// without 9"
+/// "A table in memory is refused with 1, 4, 5, 6 or 8 by every public call that takes one." "a table in memory
+/// elsewhere is checked alike, without 9"
 pub fn table_in_memory(memory: &[u64]) -> Result<Table, Refusal> {
     let n = memory_sites(memory)?;
     memory_rows(memory, n)
@@ -201,8 +203,8 @@ pub fn row_in_memory(slices: &[u64]) -> Vec<u64> {
     row
 }
 
-/// "Bytes 0 to 1 site, 2 to 3 n, 4 to 5 slice count, 6 to 7 zero, then the slices of 8 bytes, zeros up to byte 503." "Bytes 504 to 507 hold
-/// s, 508 to 511 hold t."
+/// "Bytes 0 to 1 site, 2 to 3 n, 4 to 5 slice count, 6 to 7 zero, then the slices of 8 bytes, zeros up to byte 503."
+/// "Bytes 504 to 507 hold s, 508 to 511 hold t."
 pub fn block_on_file(site: usize, n: usize, slices: &[u64]) -> Vec<u8> {
     let mut block = Vec::new();
     block.extend((site as u16).to_le_bytes());
@@ -217,7 +219,8 @@ pub fn block_on_file(site: usize, n: usize, slices: &[u64]) -> Vec<u8> {
     block
 }
 
-/// One block of an image of n blocks, at its place: "block by block 2, 3, 4, each slice 5 then 6, then 8". Its slices, if none holds.
+/// One block of an image of n blocks, at its place: "block by block 2, 3, 4, each slice 5 then 6, then 8". Its slices,
+/// if none holds.
 fn block_slices(block: &[u8], place: usize, n: usize) -> Result<Vec<u64>, Refusal> {
     if block_check_differs(block) {
         return refused_at(2, place);
@@ -240,11 +243,12 @@ fn block_slices(block: &[u8], place: usize, n: usize) -> Result<Vec<u64>, Refusa
     Ok(slices)
 }
 
-/// "Order, reading: 1, 9, then block by block 2, 3, 4, each slice 5 then 6, then 8; after all blocks 7." 1 is "image length zero, not a
-/// multiple of 512, or over 32,768", 9 "room lent too short", 7 "the table holds no quorum". "room beyond them is kept"
+/// "Order, reading: 1, 9, then block by block 2, 3, 4, each slice 5 then 6, then 8; after all blocks 7." 1 is "image
+/// length zero, not a multiple of 512, or over 32,768", 9 "room lent too short", 7 "the table holds no quorum". "room
+/// beyond them is kept"
 fn read(image: &[u8], room: &mut [u64]) -> Result<usize, Refusal> {
     let n = image.len() / BLOCK;
-    if image.is_empty() || image.len() % BLOCK != 0 || image.len() > 32768 {
+    if image.is_empty() || !image.len().is_multiple_of(BLOCK) || image.len() > 32768 {
         return refused(1);
     }
     if room.len() < ROW * n {
@@ -299,8 +303,9 @@ pub fn is_quorum(table: &Table, set: u64) -> bool {
     set != 0 && inside(set, table.sites) && table.members(set).all(|site| has_slice_inside(table, site, set))
 }
 
-/// "The largest quorum inside W: start with W; each round drops, all together, the members with no slice inside the set as it stood before
-/// the round; stop when a round drops nobody. The answer is the set left (0 if none) and the number of rounds that dropped somebody".
+/// "The largest quorum inside W: start with W; each round drops, all together, the members with no slice inside the set
+/// as it stood before the round; stop when a round drops nobody. The answer is the set left (0 if none) and the number
+/// of rounds that dropped somebody".
 pub fn largest_inside(table: &Table, w: u64) -> (u64, u64) {
     let (mut set, mut rounds) = (w, 0);
     loop {
@@ -318,8 +323,8 @@ pub fn blocks_site(table: &Table, set: u64, site: usize) -> bool {
     table.slices[site].iter().all(|slice| slice & set != 0)
 }
 
-/// "the table meets if every two quorums have a common site. If not, the answer is the quorum P with the smallest mask that has a quorum in
-/// its complement, then the largest quorum in that complement." Nothing, if the table meets.
+/// "the table meets if every two quorums have a common site. If not, the answer is the quorum P with the smallest mask
+/// that has a quorum in its complement, then the largest quorum in that complement." Nothing, if the table meets.
 pub fn apart(table: &Table) -> Option<(u64, u64)> {
     for p in 1..=all_sites(table.n()) {
         if is_quorum(table, p) {
@@ -341,13 +346,14 @@ pub fn deleted(table: &Table, b: u64) -> Table {
     Table { sites: table.sites & !b, slices }
 }
 
-/// "B is dispensable if the deleted table meets and either the sites outside B form a quorum of the original table or B is all sites."
+/// "B is dispensable if the deleted table meets and either the sites outside B form a quorum of the original table or B
+/// is all sites."
 pub fn dispensable(table: &Table, b: u64) -> bool {
     (is_quorum(table, table.sites & !b) || b == table.sites) && apart(&deleted(table, b)).is_none()
 }
 
-/// "Given the faulty set F, site v is intact if some dispensable B contains F and not v; otherwise befouled. This holds as written also for
-/// tables that do not meet." The set of the intact sites.
+/// "Given the faulty set F, site v is intact if some dispensable B contains F and not v; otherwise befouled. This holds
+/// as written also for tables that do not meet." The set of the intact sites.
 pub fn intact_sites(table: &Table, faulty: u64) -> u64 {
     let candidates = (0..=table.sites).filter(|b| inside(faulty, *b));
     let dispensable: Vec<u64> = candidates.filter(|b| dispensable(table, *b)).collect();
@@ -357,17 +363,29 @@ pub fn intact_sites(table: &Table, faulty: u64) -> u64 {
 
 /// 10: "a set names a site at or above n"
 fn check_set(table: &Table, set: u64) -> Result<(), Refusal> {
-    if inside(set, table.sites) { Ok(()) } else { refused(10) }
+    if inside(set, table.sites) {
+        Ok(())
+    } else {
+        refused(10)
+    }
 }
 
 /// 11: "site at or above n"
 fn check_site(table: &Table, site: u64) -> Result<usize, Refusal> {
-    if site < table.n() as u64 { Ok(site as usize) } else { refused(11) }
+    if site < table.n() as u64 {
+        Ok(site as usize)
+    } else {
+        refused(11)
+    }
 }
 
 /// 16: "n over 12 where a verdict needs at most 12"
 fn check_verdict(table: &Table) -> Result<(), Refusal> {
-    if table.n() <= MOST_SITES_OF_A_VERDICT { Ok(()) } else { refused(16) }
+    if table.n() <= MOST_SITES_OF_A_VERDICT {
+        Ok(())
+    } else {
+        refused(16)
+    }
 }
 
 /// "Set questions: table, 10, 11, 16." Is the set a quorum? Answers 0 or 1.
@@ -430,8 +448,8 @@ pub fn state_length(n: usize) -> usize {
     4 * n + 6
 }
 
-/// "per site the votes heard for drill, votes for live, accepts for drill, accepts for live; then the masks voted drill, voted live, accepted
-/// drill, accepted live, confirmed drill, confirmed live": where each stands.
+/// "per site the votes heard for drill, votes for live, accepts for drill, accepts for live; then the masks voted
+/// drill, voted live, accepted drill, accepted live, confirmed drill, confirmed live": where each stands.
 pub fn votes_at(site: usize, side: usize) -> usize {
     4 * site + side
 }
@@ -452,22 +470,24 @@ pub fn confirmed_at(n: usize, side: usize) -> usize {
     4 * n + 4 + side
 }
 
-/// "It accepts if it belongs to the largest quorum inside the sites it heard a vote or an accept from, its own accept not counted; or if the
-/// accepts heard from others block it."
+/// "It accepts if it belongs to the largest quorum inside the sites it heard a vote or an accept from, its own accept
+/// not counted; or if the accepts heard from others block it."
 pub fn accepts(table: &Table, state: &[u64], site: usize, side: usize) -> bool {
     let votes = state[votes_at(site, side)];
     let others = state[accepts_at(site, side)] & !only(site);
     contains(largest_inside(table, votes | others).0, site) || blocks_site(table, others, site)
 }
 
-/// "It then confirms if it belongs to the largest quorum inside the sites it heard an accept from, its own now counted."
+/// "It then confirms if it belongs to the largest quorum inside the sites it heard an accept from, its own now
+/// counted."
 pub fn confirms(table: &Table, state: &[u64], site: usize, side: usize) -> bool {
     contains(largest_inside(table, state[accepts_at(site, side)]).0, site)
 }
 
-/// "18 means: length not 4n + 6; a bit at or above n; anything but zero for a faulty receiver; a site voting both sides; own vote bit and
-/// voted mask differing; own accept bit and accepted mask differing; accepted or confirmed other than the rules above give from what was
-/// heard; a vote or accept heard from a correct site that has not sent it."
+/// "18 means: length not 4n + 6; a bit at or above n; anything but zero for a faulty receiver; a site voting both
+/// sides; own vote bit and voted mask differing; own accept bit and accepted mask differing; accepted or confirmed
+/// other than the rules above give from what was heard; a vote or accept heard from a correct site that has not sent
+/// it."
 pub fn is_sound(table: &Table, faulty: u64, state: &[u64]) -> bool {
     let n = table.n();
     if state.len() != state_length(n) || state.iter().any(|mask| !inside(*mask, table.sites)) {
@@ -501,8 +521,8 @@ pub fn is_sound(table: &Table, faulty: u64, state: &[u64]) -> bool {
 
 /// The refusal of a call in a sound state, 0 if it is taken: "11, 13, 12, 14, 15".
 ///
-/// 11 is "site at or above n ..., kind over 2, side over 1"; 13 "a proposal whose from and to differ"; 12 "the receiver is faulty"; 14 "the
-/// site has voted for the other side"; 15 "a correct sender has not sent this".
+/// 11 is "site at or above n ..., kind over 2, side over 1"; 13 "a proposal whose from and to differ"; 12 "the receiver
+/// is faulty"; 14 "the site has voted for the other side"; 15 "a correct sender has not sent this".
 pub fn refusal(table: &Table, faulty: u64, state: &[u64], call: [u8; 4]) -> u64 {
     let n = table.n();
     let [kind, from, to, side] = call;
@@ -528,8 +548,9 @@ pub fn refusal(table: &Table, faulty: u64, state: &[u64], call: [u8; 4]) -> u64 
     0
 }
 
-/// One call on a sound state, its number answered. "A proposal makes the site vote for that side". "Its own vote and accept are heard by
-/// itself at once." "After a taken call, the receiver alone is worked out again, for the call's side." "A taken call answers 0."
+/// One call on a sound state, its number answered. "A proposal makes the site vote for that side". "Its own vote and
+/// accept are heard by itself at once." "After a taken call, the receiver alone is worked out again, for the call's
+/// side." "A taken call answers 0."
 pub fn take(table: &Table, faulty: u64, state: &mut [u64], call: [u8; 4]) -> u64 {
     let refusal = refusal(table, faulty, state, call);
     if refusal != 0 {
@@ -582,8 +603,9 @@ pub fn step(memory: &[u64], faulty: u64, state: &mut [u64], call: [u8; 4]) -> An
 
 // ---- The run
 
-/// "from a fresh state, in passes from first to last until a pass changes nothing (that pass counts). A call refused in a pass is tried again
-/// in the next. The answer is the state, the number of passes, and one byte a call with its answer in the last pass."
+/// "from a fresh state, in passes from first to last until a pass changes nothing (that pass counts). A call refused in
+/// a pass is tried again in the next. The answer is the state, the number of passes, and one byte a call with its
+/// answer in the last pass."
 pub fn passes(table: &Table, faulty: u64, calls: &[[u8; 4]]) -> (Vec<u64>, u64, Vec<u8>) {
     let mut state = vec![0; state_length(table.n())];
     let mut count = 0;
@@ -604,7 +626,8 @@ fn check_run(memory: &[u64], faulty: u64) -> Result<Table, Refusal> {
     Ok(table)
 }
 
-/// The run itself, over a list that is not too long: 9, then the passes. "on success only the named cells change, room beyond them is kept"
+/// The run itself, over a list that is not too long: 9, then the passes. "on success only the named cells change, room
+/// beyond them is kept"
 fn run_into(
     table: &Table,
     faulty: u64,
@@ -626,7 +649,7 @@ fn run_into(
 pub fn run(memory: &[u64], faulty: u64, calls: &[u8], state: &mut [u64], answers: &mut [u8]) -> Answer {
     let mut ask = || {
         let table = check_run(memory, faulty)?;
-        if calls.len() % 4 != 0 || calls.len() > 4 * MOST_CALLS {
+        if !calls.len().is_multiple_of(4) || calls.len() > 4 * MOST_CALLS {
             return refused(17);
         }
         let list: Vec<[u8; 4]> = calls.chunks(4).map(|call| [call[0], call[1], call[2], call[3]]).collect();
@@ -635,7 +658,8 @@ pub fn run(memory: &[u64], faulty: u64, calls: &[u8], state: &mut [u64], answers
     ask().into()
 }
 
-/// "the same run also takes its calls as a list of records of four byte values, with equal answers." 17: over "4,096 records".
+/// "the same run also takes its calls as a list of records of four byte values, with equal answers." 17: over "4,096
+/// records".
 pub fn run_records(memory: &[u64], faulty: u64, calls: &[[u8; 4]], state: &mut [u64], answers: &mut [u8]) -> Answer {
     let mut ask = || {
         let table = check_run(memory, faulty)?;
@@ -649,8 +673,8 @@ pub fn run_records(memory: &[u64], faulty: u64, calls: &[[u8; 4]], state: &mut [
 
 // ---- The mark
 
-/// "The mark of a site is 1 (drill) exactly if it has confirmed drill and not live; else 0 (live). It is worked from a site number and the two
-/// confirmed masks, for sites 0 to 63." "Mark: 11."
+/// "The mark of a site is 1 (drill) exactly if it has confirmed drill and not live; else 0 (live). It is worked from a
+/// site number and the two confirmed masks, for sites 0 to 63." "Mark: 11."
 pub fn mark(site: u64, confirmed_drill: u64, confirmed_live: u64) -> Answer {
     let result = if site > 63 {
         refused(11)
@@ -663,8 +687,9 @@ pub fn mark(site: u64, confirmed_drill: u64, confirmed_live: u64) -> Answer {
 
 // ---- The verdict program
 
-/// "Standard input: the faulty mask, 8 bytes little-endian, then a table image. Under 8 bytes, or over 32,776, it is refusal 1. Table first,
-/// then 10, then 16." "In order: n; F; `yes` or `no` for shared sites; intact set; befouled set; largest quorum outside F; its rounds."
+/// "Standard input: the faulty mask, 8 bytes little-endian, then a table image. Under 8 bytes, or over 32,776, it is
+/// refusal 1. Table first, then 10, then 16." "In order: n; F; `yes` or `no` for shared sites; intact set; befouled
+/// set; largest quorum outside F; its rounds."
 fn verdict_lines(input: &[u8]) -> Result<String, Refusal> {
     if input.len() < 8 || input.len() > 32776 {
         return refused(1);
@@ -681,11 +706,13 @@ fn verdict_lines(input: &[u8]) -> Result<String, Refusal> {
     let befouled = table.sites & !intact;
     let (quorum, rounds) = largest_inside(&table, table.sites & !faulty);
     Ok(format!(
-        "sites {n}\nfaulty {faulty:016x}\nmeet {meet}\nintact {intact:016x}\nbefouled {befouled:016x}\nquorum {quorum:016x}\nrounds {rounds}\n"
+        "sites {n}\nfaulty {faulty:016x}\nmeet {meet}\nintact {intact:016x}\nbefouled {befouled:016x}\n\
+         quorum {quorum:016x}\nrounds {rounds}\n"
     ))
 }
 
-/// What the verdict program prints. "A refusal prints the single line `refused N K`, K the block or 0." "every line ends with a newline"
+/// What the verdict program prints. "A refusal prints the single line `refused N K`, K the block or 0." "every line
+/// ends with a newline"
 pub fn verdict(input: &[u8]) -> String {
     verdict_lines(input).unwrap_or_else(|Refusal { number, place }| format!("refused {number} {place}\n"))
 }

@@ -197,7 +197,8 @@ fn order_of_refusals_in_reading() {
     // 512 zero bytes have a right check.
     assert_eq!(ask(&[0; 512], 63), (3, 0));
 
-    // One fault after the other is put into block 3, the last in the order first; the first in the order is the answer each time.
+    // One fault after the other is put into block 3, the last in the order first; the first in the order is the answer
+    // each time.
     let mut bad = good.clone();
     let at = 3 * BLOCK;
     bad[at + 503] = 1;
@@ -411,6 +412,82 @@ fn order_of_refusals_in_a_run() {
     assert_eq!(refusal_of(run(&b, 8, &[0; 8], &mut state[..21], &mut answers)), (9, 0));
     assert_eq!(refusal_of(run(&b, 8, &[0; 8], &mut state, &mut answers[..1])), (9, 0));
     assert!(state.iter().all(|cell| *cell == JUNK) && answers == [7, 7]);
+}
+
+/// Numbers that are the same in each run.
+struct Rng(u64);
+
+impl Rng {
+    fn below(&mut self, end: u64) -> u64 {
+        self.0 ^= self.0 << 13;
+        self.0 ^= self.0 >> 7;
+        self.0 ^= self.0 << 17;
+        (self.0 >> 16) % end
+    }
+}
+
+#[test]
+fn order_and_repeats_do_not_matter() {
+    let mut rng = Rng(88172645463325252);
+    let mut most_passes = 0;
+    for _ in 0..2000 {
+        let n = 1 + rng.below(5) as usize;
+        let mut row = |site| {
+            let mut slices: Vec<u64> = (0..=rng.below(3)).map(|_| rng.below(1 << n) | only(site)).collect();
+            slices.sort();
+            slices.dedup();
+            slices
+        };
+        let slices: Vec<Vec<u64>> = (0..n).map(&mut row).collect();
+        let table = Table { sites: all_sites(n), slices };
+        let faulty = rng.below(1 << n) & rng.below(1 << n);
+        // No site is proposed both sides; the other calls are any.
+        let mut calls: Vec<[u8; 4]> = (0..n as u8).map(|site| [PROPOSE, site, site, rng.below(4) as u8 / 3]).collect();
+        for _ in 0..rng.below(40) {
+            let (from, to) = (rng.below(n as u64) as u8, rng.below(n as u64) as u8);
+            calls.push([1 + rng.below(2) as u8, from, to, rng.below(4) as u8 / 3]);
+        }
+        let mut other = calls.clone();
+        for _ in 0..rng.below(8) {
+            other.push(calls[rng.below(calls.len() as u64) as usize]);
+        }
+        for i in (1..other.len()).rev() {
+            other.swap(i, rng.below(i as u64 + 1) as usize);
+        }
+
+        let (state, count, answers) = passes(&table, faulty, &calls);
+        let (other_state, other_count, other_answers) = passes(&table, faulty, &other);
+        assert_eq!(state, other_state);
+        for (call, answer) in other.iter().zip(other_answers) {
+            let first = calls.iter().position(|one| one == call).unwrap();
+            assert_eq!(answer, answers[first]);
+        }
+        // The passes do not exceed the calls by more than one; nor the correct sites by more than three.
+        let correct = (table.sites & !faulty).count_ones() as usize;
+        for (count, calls) in [(count, &calls), (other_count, &other)] {
+            assert!(count as usize <= calls.len() + 1 && count as usize <= correct + 3);
+            most_passes = most_passes.max(count);
+        }
+        assert!(is_sound(&table, faulty, &state));
+    }
+    assert!(most_passes >= 5, "lists of more than a few passes were among them");
+}
+
+#[test]
+fn steps_lead_from_sound_states_to_sound_states() {
+    let mut rng = Rng(4711);
+    for rows in [&A[..], &B[..], &PAIRS[..]] {
+        let table = table(rows);
+        let n = table.n() as u64;
+        for faulty in 0..1 << n {
+            let mut state = vec![0; state_length(table.n())];
+            for _ in 0..60 {
+                let call = [rng.below(3), rng.below(n), rng.below(n), rng.below(2)].map(|byte| byte as u8);
+                take(&table, faulty, &mut state, call);
+                assert!(is_sound(&table, faulty, &state));
+            }
+        }
+    }
 }
 
 // ---- The mark and the program
