@@ -26,17 +26,20 @@ const MOST_REPETITIONS: usize = 400;
 const FEWEST_REPETITIONS: usize = 10;
 const ENOUGH: f64 = 4e7;
 
-/// One side of a row.
-struct Side<'a> {
-    call: Box<dyn FnMut() -> Answer + 'a>,
-}
+/// One side of a row. Both are called in the same way, so that neither grows into the loop that times it.
+type Side<'a> = &'a mut dyn FnMut() -> Answer;
 
-fn side<'a>(call: impl FnMut() -> Answer + 'a) -> Side<'a> {
-    Side { call: Box::new(call) }
+/// The nanoseconds of one call, over a number of calls.
+fn time(side: Side, calls: usize) -> f64 {
+    let start = Instant::now();
+    for _ in 0..calls {
+        black_box(side());
+    }
+    start.elapsed().as_nanos() as f64 / calls as f64
 }
 
 /// A number of calls that fills a repetition, and a number of repetitions.
-fn plan(side: &mut Side) -> (usize, usize) {
+fn plan(side: Side) -> (usize, usize) {
     let mut calls = 1;
     loop {
         let time = time(side, calls) * calls as f64;
@@ -45,15 +48,6 @@ fn plan(side: &mut Side) -> (usize, usize) {
         }
         calls *= 2;
     }
-}
-
-/// The nanoseconds of one call, over a number of calls.
-fn time(side: &mut Side, calls: usize) -> f64 {
-    let start = Instant::now();
-    for _ in 0..calls {
-        black_box((side.call)());
-    }
-    start.elapsed().as_nanos() as f64 / calls as f64
 }
 
 struct Bench {
@@ -66,17 +60,21 @@ impl Bench {
     }
 
     /// Compares the two sides, and with the model's answer if there is one; then times them in turn and prints the row.
-    fn row(&self, name: &str, model: Option<Answer>, mut library: Side, mut rust: Side) {
-        let answer = (library.call)();
-        assert_eq!(answer, (rust.call)(), "{name}: the library and the best Rust differ");
+    fn row(&self, name: &str, model: Option<Answer>, library: Side, rust: Side) {
+        let answer = library();
+        assert_eq!(answer, rust(), "{name}: the library and the best Rust differ");
         if let Some(model) = model {
             assert_eq!(answer, model, "{name}: both differ from the model");
         }
-        let (calls, repetitions) = plan(&mut rust);
+        let ((library_calls, library_times), (rust_calls, rust_times)) = (plan(library), plan(rust));
         let (mut best_library, mut best_rust) = (f64::INFINITY, f64::INFINITY);
-        for _ in 0..repetitions {
-            best_library = best_library.min(time(&mut library, calls));
-            best_rust = best_rust.min(time(&mut rust, calls));
+        for repetition in 0..library_times.max(rust_times) {
+            if repetition < library_times {
+                best_library = best_library.min(time(library, library_calls));
+            }
+            if repetition < rust_times {
+                best_rust = best_rust.min(time(rust, rust_calls));
+            }
         }
         println!("| {name:<50} | {best_library:>13.1} | {best_rust:>13.1} | {:>6.2} |", best_library / best_rust);
     }
@@ -112,41 +110,41 @@ fn blocks_and_images(bench: &Bench) {
     let block = &image[512..1024];
 
     // SAFETY (here and below): each pointer goes with the length of what it points to.
-    let library_block = || only_number(unsafe { siren_block_check(black_box(block).as_ptr(), block.len()) });
+    let mut library_block = || only_number(unsafe { siren_block_check(black_box(block).as_ptr(), block.len()) });
     let model_block = Some(model::block_check(block));
     if bench.wants("block check") {
-        let rust = || only_number(fast::block_check(black_box(block)));
-        bench.row("block check", model_block, side(library_block), side(rust));
-        let rust = || only_number(fast::block_check_in_order(black_box(block)));
-        bench.row("block check, the Rust adding in order", model_block, side(library_block), side(rust));
+        let mut rust = || only_number(fast::block_check(black_box(block)));
+        bench.row("block check", model_block, &mut library_block, &mut rust);
+        let mut rust = || only_number(fast::block_check_in_order(black_box(block)));
+        bench.row("block check, the Rust adding in order", model_block, &mut library_block, &mut rust);
     }
 
     if bench.wants("read of 64 blocks") {
         let (mut one, mut other) = (vec![1; 63 * 64], vec![2; 63 * 64]);
-        let library =
+        let mut library =
             || answer(|out| unsafe { siren_image_read(image.as_ptr(), image.len(), one.as_mut_ptr(), one.len(), out) });
-        let rust = || fast::image_read(black_box(&image), &mut other);
+        let mut rust = || fast::image_read(black_box(&image), &mut other);
         let expected = model::image_read(&image, &mut vec![0; 63 * 64]);
-        bench.row("read of 64 blocks", Some(expected), side(library), side(rust));
+        bench.row("read of 64 blocks", Some(expected), &mut library, &mut rust);
         assert!(one == table && other == table, "read of 64 blocks: the rooms differ");
     }
 
     if bench.wants("write of 64 blocks") {
         let (mut one, mut other) = (vec![1; 512 * 64], vec![2; 512 * 64]);
-        let library = || {
+        let mut library = || {
             answer(|out| unsafe { siren_image_write(table.as_ptr(), table.len(), one.as_mut_ptr(), one.len(), out) })
         };
-        let rust = || fast::image_write(black_box(&table), &mut other);
+        let mut rust = || fast::image_write(black_box(&table), &mut other);
         let expected = model::image_write(&table, &mut vec![0; 512 * 64]);
-        bench.row("write of 64 blocks", Some(expected), side(library), side(rust));
+        bench.row("write of 64 blocks", Some(expected), &mut library, &mut rust);
         assert!(one == image && other == image, "write of 64 blocks: the rooms differ");
     }
 
     if bench.wants("memory check of 64 sites, 62 slices") {
-        let library = || answer(|out| unsafe { siren_table_check(table.as_ptr(), table.len(), out) });
-        let rust = || fast::table_check(black_box(&table));
+        let mut library = || answer(|out| unsafe { siren_table_check(table.as_ptr(), table.len(), out) });
+        let mut rust = || fast::table_check(black_box(&table));
         let expected = model::table_check(&table);
-        bench.row("memory check of 64 sites, 62 slices", Some(expected), side(library), side(rust));
+        bench.row("memory check of 64 sites, 62 slices", Some(expected), &mut library, &mut rust);
     }
 }
 
@@ -159,9 +157,10 @@ fn set_questions(bench: &Bench) {
     ];
     for (name, table, set) in &questions {
         if bench.wants(name) {
-            let library = || answer(|out| unsafe { siren_largest(table.as_ptr(), table.len(), black_box(*set), out) });
-            let rust = || fast::largest(black_box(table), black_box(*set));
-            bench.row(name, Some(model::largest(table, *set)), side(library), side(rust));
+            let mut library =
+                || answer(|out| unsafe { siren_largest(table.as_ptr(), table.len(), black_box(*set), out) });
+            let mut rust = || fast::largest(black_box(table), black_box(*set));
+            bench.row(name, Some(model::largest(table, *set)), &mut library, &mut rust);
         }
     }
 }
@@ -177,13 +176,13 @@ fn states_and_steps(bench: &Bench) {
 
         let row = format!("soundness, {name}");
         if bench.wants(&row) {
-            let library = || {
+            let mut library = || {
                 answer(|out| unsafe {
                     siren_sound(memory.as_ptr(), memory.len(), faulty, state.as_ptr(), state.len(), out)
                 })
             };
-            let rust = || fast::sound(black_box(&memory), faulty, &state);
-            bench.row(&row, Some(fits), side(library), side(rust));
+            let mut rust = || fast::sound(black_box(&memory), faulty, &state);
+            bench.row(&row, Some(fits), &mut library, &mut rust);
         }
 
         // The step starts from the same state each time; the last call of the list has been heard, so one more is asked
@@ -194,18 +193,18 @@ fn states_and_steps(bench: &Bench) {
             let [kind, from, to, on] = call;
             let (mut one, mut other, mut third) = (state.clone(), state.clone(), state.clone());
             let expected = model::step(&memory, faulty, &mut third, call);
-            let library = || {
+            let mut library = || {
                 one.copy_from_slice(&state);
                 answer(|out| unsafe {
                     let (cells, length) = (one.as_mut_ptr(), one.len());
                     siren_step(memory.as_ptr(), memory.len(), faulty, cells, length, kind, from, to, on, out)
                 })
             };
-            let rust = || {
+            let mut rust = || {
                 other.copy_from_slice(&state);
                 fast::step(black_box(&memory), faulty, &mut other, call)
             };
-            bench.row(&row, Some(expected), side(library), side(rust));
+            bench.row(&row, Some(expected), &mut library, &mut rust);
             assert!(one == third && other == third, "{row}: the states differ");
         }
     }
@@ -220,7 +219,7 @@ fn runs(bench: &Bench) {
         let (memory, bytes) = (memory(&table), calls.concat());
         let rooms = || (vec![7; 4 * table.len() + 6], vec![7; calls.len()]);
         let ((mut state, mut answers), (mut other_state, mut other_answers)) = (rooms(), rooms());
-        let library = || {
+        let mut library = || {
             answer(|out| unsafe {
                 let (cells, cells_length) = (state.as_mut_ptr(), state.len());
                 let (room, room_length) = (answers.as_mut_ptr(), answers.len());
@@ -239,10 +238,10 @@ fn runs(bench: &Bench) {
                 )
             })
         };
-        let rust = || fast::run(black_box(&memory), faulty, &bytes, &mut other_state, &mut other_answers);
+        let mut rust = || fast::run(black_box(&memory), faulty, &bytes, &mut other_state, &mut other_answers);
         let (mut model_state, mut model_answers) = rooms();
         let expected = by_model.then(|| model::run(&memory, faulty, &bytes, &mut model_state, &mut model_answers));
-        bench.row(&row, expected, side(library), side(rust));
+        bench.row(&row, expected, &mut library, &mut rust);
         assert!(state == other_state && answers == other_answers, "{row}: the rooms differ");
         if by_model {
             assert!(state == model_state && answers == model_answers, "{row}: the rooms differ from the model's");
@@ -255,21 +254,21 @@ fn verdicts(bench: &Bench) {
         let table = memory(&table);
         let row = format!("shared, {name}");
         if faulty == 0 && bench.wants(&row) {
-            let library = || answer(|out| unsafe { siren_shared(table.as_ptr(), table.len(), out) });
+            let mut library = || answer(|out| unsafe { siren_shared(table.as_ptr(), table.len(), out) });
             let expected = Some(model::shared(&table));
-            let rust = || fast::shared(black_box(&table));
-            bench.row(&row, expected, side(library), side(rust));
-            let rust = || fast::shared_by_search(black_box(&table));
-            bench.row(&format!("{row}, searching"), expected, side(library), side(rust));
+            let mut rust = || fast::shared(black_box(&table));
+            bench.row(&row, expected, &mut library, &mut rust);
+            let mut rust = || fast::shared_by_search(black_box(&table));
+            bench.row(&format!("{row}, searching"), expected, &mut library, &mut rust);
         }
         let row = format!("intact, {name}, {} faulty", faulty.count_ones());
         if bench.wants(&row) {
-            let library = || answer(|out| unsafe { siren_intact(table.as_ptr(), table.len(), faulty, out) });
+            let mut library = || answer(|out| unsafe { siren_intact(table.as_ptr(), table.len(), faulty, out) });
             let expected = Some(model::intact(&table, faulty));
-            let rust = || fast::intact(black_box(&table), faulty);
-            bench.row(&row, expected, side(library), side(rust));
-            let rust = || fast::intact_by_search(black_box(&table), faulty);
-            bench.row(&format!("{row}, searching"), expected, side(library), side(rust));
+            let mut rust = || fast::intact(black_box(&table), faulty);
+            bench.row(&row, expected, &mut library, &mut rust);
+            let mut rust = || fast::intact_by_search(black_box(&table), faulty);
+            bench.row(&format!("{row}, searching"), expected, &mut library, &mut rust);
         }
     }
 }

@@ -92,11 +92,7 @@ fn longest(n: usize) -> Rows {
 
 /// Every slice holds site `hub`; 62 slices a site, the smallest.
 fn hub(n: usize, hub: usize) -> Rows {
-    (0..n).map(|v| filled(Vec::new(), 1 << hub | 1 << v, 0, 1 << n)).map(|row| cut(row, n)).collect()
-}
-
-fn cut(row: Vec<u64>, n: usize) -> Vec<u64> {
-    row.into_iter().filter(|slice| slice & !all_sites(n) == 0).collect()
+    (0..n).map(|v| filled(Vec::new(), 1 << hub | 1 << v, 0, 1 << n)).collect()
 }
 
 /// The slices of a site are all sets of a size that contain it.

@@ -67,13 +67,14 @@ impl Comparison {
     fn same(&mut self, kind: &'static str, input: &Input) {
         let count = self.kinds.entry(kind).or_default();
         *count += 1;
-        watch::at(kind, *count);
-        let library = self.lender.ask_library(input);
+        let library = watch::over(input, || self.lender.ask_library(input));
         let model = ask_model(input);
         if library != model {
             println!("compare: DIFFERENCE in input {count} of '{kind}', seed {}", self.seed);
             println!("{}", difference(&library, &model));
-            let smallest = shrink::shrink(input, |input| self.lender.ask_library(input) != ask_model(input));
+            let smallest = shrink::shrink(input, |input| {
+                watch::over(input, || self.lender.ask_library(input)) != ask_model(input)
+            });
             println!("the smallest input found:\n{smallest}");
             println!("{}", difference(&self.lender.ask_library(&smallest), &ask_model(&smallest)));
             exit(1);
@@ -645,7 +646,6 @@ impl Comparison {
                 bytes.resize(length, 0);
             }
             *self.kinds.entry(KIND).or_default() += 1;
-            watch::at(KIND, place);
             let printed = run_program(program, &bytes);
             let expected = model::verdict(&bytes);
             if printed != expected {
