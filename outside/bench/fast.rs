@@ -1,0 +1,756 @@
+//! The library's answers as fast as plain Rust gives them: what the benchmark measures the library against. No memory
+//! is allocated, no crate is used, and no instruction is asked for that every x86-64 machine does not have.
+
+#![allow(dead_code)]
+
+use crate::model::Answer;
+
+const BLOCK: usize = 512;
+const ROW: usize = 63;
+const MOST_SITES: usize = 64;
+
+/// The number and the place of a refusal.
+type Refusal = (u64, u64);
+
+fn answer(result: Result<[u64; 3], Refusal>) -> Answer {
+    match result {
+        Ok(values) => Answer { number: 0, place: 0, values },
+        Err((number, place)) => Answer { number, place, values: [0; 3] },
+    }
+}
+
+/// The mask of the sites 0 to n - 1, for n of 1 to 64.
+#[inline(always)]
+fn all_sites(n: usize) -> u64 {
+    u64::MAX >> (64 - n)
+}
+
+/// Calls `visit` with each member of the set, from the lowest.
+#[inline(always)]
+fn each(mut set: u64, mut visit: impl FnMut(usize)) {
+    while set != 0 {
+        visit(set.trailing_zeros() as usize);
+        set &= set - 1;
+    }
+}
+
+// ---- The block's check
+
+/// The two running sums of 126 words. Four lanes run side by side, so that the sums of a lane do not wait for those of
+/// another: word 4 k + j of the first 124 is counted 124 - (4 k + j) = 4 (31 - k) - j times in t, and its lane has
+/// counted it 31 - k times.
+#[inline]
+pub fn sums(block: &[u8; BLOCK]) -> (u32, u32) {
+    let words = block.as_chunks::<4>().0;
+    let word = |i: usize| u32::from_le_bytes(words[i]);
+    let (mut s, mut t) = ([0u32; 4], [0u32; 4]);
+    for k in 0..31 {
+        for j in 0..4 {
+            s[j] = s[j].wrapping_add(word(4 * k + j));
+            t[j] = t[j].wrapping_add(s[j]);
+        }
+    }
+    let (mut sum, mut twice) = (0u32, 0u32);
+    for j in 0..4 {
+        sum = sum.wrapping_add(s[j]);
+        twice = twice.wrapping_add(t[j].wrapping_mul(4)).wrapping_sub(s[j].wrapping_mul(j as u32));
+    }
+    for i in 124..126 {
+        sum = sum.wrapping_add(word(i));
+        twice = twice.wrapping_add(sum);
+    }
+    (sum, twice)
+}
+
+/// The two running sums one word after the other, as the rules put them.
+#[inline]
+pub fn sums_in_order(block: &[u8; BLOCK]) -> (u32, u32) {
+    let (mut s, mut t) = (0u32, 0u32);
+    for word in &block.as_chunks::<4>().0[..126] {
+        s = s.wrapping_add(u32::from_le_bytes(*word));
+        t = t.wrapping_add(s);
+    }
+    (s, t)
+}
+
+#[inline(always)]
+fn check_held(block: &[u8; BLOCK], (s, t): (u32, u32)) -> bool {
+    let held = u64::from_le_bytes(*block.last_chunk::<8>().unwrap());
+    held == u64::from(s) | u64::from(t) << 32
+}
+
+pub fn block_check(block: &[u8]) -> u8 {
+    match block.try_into() {
+        Err(_) => 1,
+        Ok(block) if check_held(block, sums(block)) => 0,
+        Ok(_) => 2,
+    }
+}
+
+pub fn block_check_in_order(block: &[u8]) -> u8 {
+    match block.try_into() {
+        Err(_) => 1,
+        Ok(block) if check_held(block, sums_in_order(block)) => 0,
+        Ok(_) => 2,
+    }
+}
+
+// ---- Tables
+
+/// The first fault of a row's slices and unused places, 0 if there is none: all of them are looked at without a branch,
+/// and only a row that has a fault is walked again for which one is the first.
+#[inline(always)]
+fn slices_fault(
+    used: impl Iterator<Item = u64> + Clone,
+    unused: impl Iterator<Item = u64>,
+    site: usize,
+    sites: u64,
+) -> u64 {
+    let own = 1u64 << site;
+    let (mut every, mut some, mut ascend, mut before) = (u64::MAX, 0, true, 0);
+    for slice in used.clone() {
+        every &= slice;
+        some |= slice;
+        ascend &= slice > before;
+        before = slice;
+    }
+    let rest = unused.fold(0, |rest, place| rest | place);
+    if every & own != 0 && some & !sites == 0 && ascend && rest == 0 {
+        return 0;
+    }
+    let mut before = 0;
+    for slice in used {
+        if slice & own == 0 || slice & !sites != 0 {
+            return 5;
+        }
+        if slice <= before {
+            return 6;
+        }
+        before = slice;
+    }
+    8
+}
+
+fn memory_sites(table: &[u64]) -> Result<usize, Refusal> {
+    let n = table.len() / ROW;
+    if !table.len().is_multiple_of(ROW) || n == 0 || n > MOST_SITES {
+        Err((1, 0))
+    } else {
+        Ok(n)
+    }
+}
+
+fn memory_rows(table: &[u64], n: usize) -> Result<(), Refusal> {
+    let sites = all_sites(n);
+    for (site, row) in table.as_chunks::<ROW>().0.iter().enumerate() {
+        let count = row[0];
+        if count.wrapping_sub(1) >= 62 {
+            return Err((4, site as u64));
+        }
+        let (used, unused) = row[1..].split_at(count as usize);
+        let fault = slices_fault(used.iter().copied(), unused.iter().copied(), site, sites);
+        if fault != 0 {
+            return Err((fault, site as u64));
+        }
+    }
+    Ok(())
+}
+
+/// Checks a table in memory and gives its rows.
+#[inline]
+fn checked(table: &[u64]) -> Result<&[[u64; ROW]], Refusal> {
+    let n = memory_sites(table)?;
+    memory_rows(table, n)?;
+    Ok(table.as_chunks::<ROW>().0)
+}
+
+pub fn table_check(table: &[u64]) -> Answer {
+    answer(checked(table).map(|_| [0; 3]))
+}
+
+fn read(image: &[u8], room: &mut [u64]) -> Result<usize, Refusal> {
+    let (blocks, rest) = image.as_chunks::<BLOCK>();
+    let n = blocks.len();
+    if n == 0 || n > MOST_SITES || !rest.is_empty() {
+        return Err((1, 0));
+    }
+    if room.len() < ROW * n {
+        return Err((9, 0));
+    }
+    let sites = all_sites(n);
+    for (site, block) in blocks.iter().enumerate() {
+        let refused = |number| Err((number, site as u64));
+        if !check_held(block, sums(block)) {
+            return refused(2);
+        }
+        let head = u64::from_le_bytes(*block.first_chunk::<8>().unwrap());
+        if head & 0xffff_0000_ffff_ffff != site as u64 | (n as u64) << 16 {
+            return refused(3);
+        }
+        let count = head >> 32;
+        if count.wrapping_sub(1) >= 62 {
+            return refused(4);
+        }
+        let (used, unused) = block[8..504].as_chunks::<8>().0.split_at(count as usize);
+        let number = |bytes: &[u8; 8]| u64::from_le_bytes(*bytes);
+        let fault = slices_fault(used.iter().map(number), unused.iter().map(number), site, sites);
+        if fault != 0 {
+            return refused(fault);
+        }
+    }
+    // All sites together are a quorum: each has a slice, and no slice names another site. So there is no 7.
+    for (block, row) in blocks.iter().zip(room.as_chunks_mut::<ROW>().0) {
+        row[0] = u64::from(block[4]);
+        for (place, bytes) in row[1..].iter_mut().zip(block[8..504].as_chunks::<8>().0) {
+            *place = u64::from_le_bytes(*bytes);
+        }
+    }
+    Ok(n)
+}
+
+pub fn image_read(image: &[u8], room: &mut [u64]) -> Answer {
+    answer(read(image, room).map(|n| [n as u64, 0, 0]))
+}
+
+fn write(table: &[u64], room: &mut [u8]) -> Result<usize, Refusal> {
+    let n = memory_sites(table)?;
+    if room.len() < BLOCK * n {
+        return Err((9, 0));
+    }
+    memory_rows(table, n)?;
+    let rows = table.as_chunks::<ROW>().0;
+    for (site, (row, block)) in rows.iter().zip(room.as_chunks_mut::<BLOCK>().0).enumerate() {
+        let head = site as u64 | (n as u64) << 16 | row[0] << 32;
+        block[..8].copy_from_slice(&head.to_le_bytes());
+        for (bytes, place) in block[8..504].as_chunks_mut::<8>().0.iter_mut().zip(&row[1..]) {
+            *bytes = place.to_le_bytes();
+        }
+        let (s, t) = sums(block);
+        block[504..].copy_from_slice(&(u64::from(s) | u64::from(t) << 32).to_le_bytes());
+    }
+    Ok(n)
+}
+
+pub fn image_write(table: &[u64], room: &mut [u8]) -> Answer {
+    answer(write(table, room).map(|n| [n as u64, 0, 0]))
+}
+
+// ---- Set questions
+
+/// The used slices of a row that has been checked.
+#[inline(always)]
+fn slices(row: &[u64; ROW]) -> &[u64] {
+    &row[1..][..(row[0] as usize).min(62)]
+}
+
+/// The place of the first slice inside the set, from a place on.
+#[inline(always)]
+fn find(row: &[u64; ROW], from: usize, set: u64) -> Option<usize> {
+    slices(row)[from..].iter().position(|slice| slice & !set == 0).map(|i| from + i)
+}
+
+/// The largest quorum inside w of the table without `gone`, and the rounds. Each site keeps the place of the slice that
+/// holds it in: the slices before it were outside a larger set already, so no slice is looked at twice; and only the
+/// sites whose slice lost a member are asked again. Stops early, with whatever is left, once a site of `wanted` has
+/// dropped out. A slice cut by `gone` is inside a set exactly if the whole slice is inside the set together with
+/// `gone`.
+#[inline(always)]
+fn narrow(rows: &[[u64; ROW]], w: u64, gone: u64, wanted: u64) -> (u64, u64) {
+    let mut place = [0u8; MOST_SITES];
+    let mut held = [0u64; MOST_SITES];
+    let (mut set, mut rounds) = (w, 0);
+    let mut stay = set;
+    each(set, |v| match find(&rows[v], 0, set | gone) {
+        Some(i) => {
+            place[v] = i as u8;
+            held[v] = rows[v][1 + i];
+        }
+        None => stay &= !(1 << v),
+    });
+    while stay != set {
+        let dropped = set & !stay;
+        set = stay;
+        rounds += 1;
+        if wanted & !set != 0 {
+            break;
+        }
+        each(set, |v| {
+            if held[v] & dropped != 0 {
+                match find(&rows[v], usize::from(place[v]) + 1, set | gone) {
+                    Some(i) => {
+                        place[v] = i as u8;
+                        held[v] = rows[v][1 + i];
+                    }
+                    None => stay &= !(1 << v),
+                }
+            }
+        });
+    }
+    (set, rounds)
+}
+
+#[inline]
+fn largest_inside(rows: &[[u64; ROW]], w: u64) -> (u64, u64) {
+    narrow(rows, w, 0, 0)
+}
+
+/// Does the site belong to the largest quorum inside w? Its own slices are asked first.
+#[inline]
+fn belongs(rows: &[[u64; ROW]], w: u64, site: usize) -> bool {
+    w >> site & 1 == 1 && find(&rows[site], 0, w).is_some() && narrow(rows, w, 0, 1 << site).0 >> site & 1 == 1
+}
+
+#[inline]
+fn is_blocked(row: &[u64; ROW], set: u64) -> bool {
+    slices(row).iter().all(|slice| slice & set != 0)
+}
+
+#[inline(always)]
+fn check_set(rows: &[[u64; ROW]], set: u64) -> Result<(), Refusal> {
+    if set & !all_sites(rows.len()) != 0 {
+        Err((10, 0))
+    } else {
+        Ok(())
+    }
+}
+
+/// Is the set, not empty, a quorum of the table without `gone`?
+#[inline]
+fn is_quorum(rows: &[[u64; ROW]], set: u64, gone: u64) -> bool {
+    let mut rest = set;
+    while rest != 0 {
+        if find(&rows[rest.trailing_zeros() as usize], 0, set | gone).is_none() {
+            return false;
+        }
+        rest &= rest - 1;
+    }
+    true
+}
+
+pub fn quorum(table: &[u64], set: u64) -> Answer {
+    answer((|| {
+        let rows = checked(table)?;
+        check_set(rows, set)?;
+        Ok([u64::from(set != 0 && is_quorum(rows, set, 0)), 0, 0])
+    })())
+}
+
+pub fn largest(table: &[u64], set: u64) -> Answer {
+    answer((|| {
+        let rows = checked(table)?;
+        check_set(rows, set)?;
+        let (left, rounds) = largest_inside(rows, set);
+        Ok([left, rounds, 0])
+    })())
+}
+
+pub fn blocks(table: &[u64], set: u64, site: u64) -> Answer {
+    answer((|| {
+        let rows = checked(table)?;
+        check_set(rows, set)?;
+        if site >= rows.len() as u64 {
+            return Err((11, 0));
+        }
+        Ok([u64::from(is_blocked(&rows[site as usize], set)), 0, 0])
+    })())
+}
+
+/// What the verdicts ask of a table of at most 12 sites.
+trait Quorums {
+    /// Is the set, not empty, a quorum of the table without `gone`?
+    fn is_quorum(&self, set: u16, gone: u16) -> bool;
+
+    /// The largest quorum inside the set of the table without `gone`.
+    fn largest(&self, set: u16, gone: u16) -> u16;
+
+    /// Two quorums of the table without `gone` that have no common site, the first with the smallest mask. Of such a
+    /// pair one lacks the last site, and the sets without it come first.
+    #[inline(always)]
+    fn apart(&self, sites: u16, gone: u16) -> Option<(u16, u16)> {
+        let rest = sites & !gone;
+        let below = if rest == 0 { 0 } else { rest & !(1 << rest.ilog2()) };
+        let mut p = 0u16;
+        loop {
+            p = p.wrapping_sub(below) & below;
+            if p == 0 {
+                return None;
+            }
+            if self.is_quorum(p, gone) {
+                let q = self.largest(rest & !p, gone);
+                if q != 0 {
+                    return Some((p, q));
+                }
+            }
+        }
+    }
+
+    /// The intact sites. A set is looked at only if it leaves out a site that is not known to be intact. Two quorums
+    /// that have no common site without B have none without any larger set either, as long as something of both is
+    /// left: the pair found last is tried first.
+    #[inline(always)]
+    fn intact(&self, sites: u16, faulty: u16) -> u16 {
+        let correct = sites & !faulty;
+        let mut intact = 0;
+        let mut pair = (sites, 0, 0);
+        let mut extra = 0u16;
+        loop {
+            let b = faulty | extra;
+            let rest = sites & !b;
+            let (gone, p, q) = pair;
+            let known_apart = gone & !b == 0 && p & !b != 0 && q & !b != 0;
+            if rest & !intact != 0 && !known_apart && self.is_quorum(rest, 0) {
+                match self.apart(sites, b) {
+                    None => intact |= rest,
+                    Some((p, q)) => pair = (b, p, q),
+                }
+            }
+            extra = extra.wrapping_sub(correct) & correct;
+            if extra == 0 || intact == correct {
+                return intact;
+            }
+        }
+    }
+}
+
+/// The questions answered from the slices.
+struct Search<'a>(&'a [[u64; ROW]]);
+
+impl Quorums for Search<'_> {
+    #[inline(always)]
+    fn is_quorum(&self, set: u16, gone: u16) -> bool {
+        is_quorum(self.0, set.into(), gone.into())
+    }
+
+    #[inline(always)]
+    fn largest(&self, set: u16, gone: u16) -> u16 {
+        narrow(self.0, set.into(), gone.into(), 0).0 as u16
+    }
+}
+
+/// The questions answered from a list of all sets: of each, its members with a slice inside it.
+struct Holders([u16; 4096]);
+
+impl Holders {
+    /// A slice counts for each set that contains it: the marks are handed on from each set to those with one site more.
+    /// Four sets share a word meanwhile, in their order.
+    fn new(rows: &[[u64; ROW]]) -> Holders {
+        let mut words = [0u64; 1024];
+        for (v, row) in rows.iter().enumerate() {
+            for slice in slices(row) {
+                words[(*slice >> 2) as usize & 1023] |= 1 << (v as u64 + 16 * (slice & 3));
+            }
+        }
+        for word in &mut words {
+            *word |= (*word & 0x0000_ffff_0000_ffff) << 16;
+            *word |= *word << 32;
+        }
+        hand_on::<2>(&mut words);
+        hand_on::<4>(&mut words);
+        hand_on::<8>(&mut words);
+        hand_on::<16>(&mut words);
+        hand_on::<32>(&mut words);
+        hand_on::<64>(&mut words);
+        hand_on::<128>(&mut words);
+        hand_on::<256>(&mut words);
+        hand_on::<512>(&mut words);
+        hand_on::<1024>(&mut words);
+        let mut holders = [0; 4096];
+        for (sets, word) in holders.as_chunks_mut::<4>().0.iter_mut().zip(&words) {
+            *sets = [0, 16, 32, 48].map(|shift| (word >> shift) as u16);
+        }
+        Holders(holders)
+    }
+
+    #[inline(always)]
+    fn of(&self, set: u16) -> u16 {
+        self.0[usize::from(set) & 4095]
+    }
+}
+
+/// From the lower half of each `WORDS` words to the upper.
+fn hand_on<const WORDS: usize>(words: &mut [u64; 1024]) {
+    for part in words.as_chunks_mut::<WORDS>().0 {
+        let (without, with) = part.split_at_mut(WORDS / 2);
+        for (below, above) in without.iter().zip(with) {
+            *above |= *below;
+        }
+    }
+}
+
+impl Quorums for Holders {
+    #[inline(always)]
+    fn is_quorum(&self, set: u16, gone: u16) -> bool {
+        set & !self.of(set | gone) == 0
+    }
+
+    #[inline(always)]
+    fn largest(&self, set: u16, gone: u16) -> u16 {
+        let mut left = set;
+        loop {
+            let stay = left & self.of(left | gone);
+            if stay == left {
+                return left;
+            }
+            left = stay;
+        }
+    }
+}
+
+/// The rows of a table that has a verdict.
+fn few(table: &[u64], set: u64) -> Result<&[[u64; ROW]], Refusal> {
+    let rows = checked(table)?;
+    check_set(rows, set)?;
+    if rows.len() > 12 {
+        Err((16, 0))
+    } else {
+        Ok(rows)
+    }
+}
+
+fn shared_by(sites: u64, quorums: impl Quorums) -> [u64; 3] {
+    quorums.apart(sites as u16, 0).map_or([1, 0, 0], |(p, q)| [0, p.into(), q.into()])
+}
+
+fn intact_by(sites: u64, faulty: u64, quorums: impl Quorums) -> [u64; 3] {
+    [quorums.intact(sites as u16, faulty as u16).into(), 0, 0]
+}
+
+pub fn shared(table: &[u64]) -> Answer {
+    answer(few(table, 0).map(|rows| shared_by(all_sites(rows.len()), Holders::new(rows))))
+}
+
+pub fn shared_by_search(table: &[u64]) -> Answer {
+    answer(few(table, 0).map(|rows| shared_by(all_sites(rows.len()), Search(rows))))
+}
+
+pub fn intact(table: &[u64], faulty: u64) -> Answer {
+    answer(few(table, faulty).map(|rows| intact_by(all_sites(rows.len()), faulty, Holders::new(rows))))
+}
+
+pub fn intact_by_search(table: &[u64], faulty: u64) -> Answer {
+    answer(few(table, faulty).map(|rows| intact_by(all_sites(rows.len()), faulty, Search(rows))))
+}
+
+// ---- The voting
+
+/// The places of a state's six masks, from its end.
+const VOTED: usize = 0;
+const ACCEPTED: usize = 2;
+const CONFIRMED: usize = 4;
+
+fn is_sound(rows: &[[u64; ROW]], faulty: u64, state: &[u64]) -> bool {
+    let n = rows.len();
+    let sites = all_sites(n);
+    if state.len() != 4 * n + 6 || state.iter().fold(0, |some, mask| some | mask) & !sites != 0 {
+        return false;
+    }
+    let (heard, masks) = (state[..4 * n].as_chunks::<4>().0, &state[4 * n..][..6]);
+    if masks[VOTED] & masks[VOTED + 1] != 0 || masks.iter().fold(0, |some, mask| some | mask) & faulty != 0 {
+        return false;
+    }
+    // What needs no search comes first, for all sites.
+    for (v, row) in heard.iter().enumerate() {
+        if faulty >> v & 1 == 1 {
+            if *row != [0; 4] {
+                return false;
+            }
+            continue;
+        }
+        for side in 0..2 {
+            let (votes, accepts) = (row[side], row[2 + side]);
+            let (voted, accepted) = (masks[VOTED + side], masks[ACCEPTED + side]);
+            if (votes ^ voted) >> v & 1 != 0
+                || (accepts ^ accepted) >> v & 1 != 0
+                || votes & !faulty & !voted != 0
+                || accepts & !faulty & !accepted != 0
+            {
+                return false;
+            }
+        }
+    }
+    // The answer found last is kept: sites that heard the same need no second search.
+    let mut last = (0, 0);
+    let mut belongs = |w: u64, v: usize| {
+        if w >> v & 1 == 0 {
+            return false;
+        }
+        if w != last.0 {
+            if find(&rows[v], 0, w).is_none() {
+                return false;
+            }
+            last = (w, largest_inside(rows, w).0);
+        }
+        last.1 >> v & 1 == 1
+    };
+    for (v, row) in heard.iter().enumerate() {
+        if faulty >> v & 1 == 1 {
+            continue;
+        }
+        for side in 0..2 {
+            let (votes, accepts) = (row[side], row[2 + side]);
+            let others = accepts & !(1 << v);
+            let accepted = is_blocked(&rows[v], others) || belongs(votes | others, v);
+            if accepted != (masks[ACCEPTED + side] >> v & 1 == 1)
+                || belongs(accepts, v) != (masks[CONFIRMED + side] >> v & 1 == 1)
+            {
+                return false;
+            }
+        }
+    }
+    true
+}
+
+fn check_state<'t>(table: &'t [u64], faulty: u64, state: &[u64]) -> Result<&'t [[u64; ROW]], Refusal> {
+    let rows = checked(table)?;
+    check_set(rows, faulty)?;
+    if is_sound(rows, faulty, state) {
+        Ok(rows)
+    } else {
+        Err((18, 0))
+    }
+}
+
+pub fn sound(table: &[u64], faulty: u64, state: &[u64]) -> Answer {
+    answer(check_state(table, faulty, state).map(|_| [0; 3]))
+}
+
+/// One call on a state that is sound: its number, and whether the state changed. A call that was heard before changes
+/// nothing; a site that has accepted is not asked again whether it accepts, nor one that has confirmed whether it
+/// confirms.
+#[inline]
+fn take(rows: &[[u64; ROW]], faulty: u64, state: &mut [u64], call: [u8; 4]) -> (u8, bool) {
+    let n = rows.len();
+    let [kind, from, to, side] = call.map(usize::from);
+    if kind > 2 || from >= n || to >= n || side > 1 {
+        return (11, false);
+    }
+    if kind == 0 && from != to {
+        return (13, false);
+    }
+    if faulty >> to & 1 == 1 {
+        return (12, false);
+    }
+    let own = 1u64 << to;
+    let masks = 4 * n;
+    let heard = 4 * to + side;
+    if kind == 0 {
+        if state[masks + VOTED + (1 - side)] & own != 0 {
+            return (14, false);
+        }
+        if state[heard] & own != 0 {
+            return (0, false);
+        }
+        state[masks + VOTED + side] |= own;
+        state[heard] |= own;
+    } else {
+        let sent = state[masks + VOTED + 2 * (kind - 1) + side] | faulty;
+        if sent >> from & 1 == 0 {
+            return (15, false);
+        }
+        let cell = &mut state[heard + 2 * (kind - 1)];
+        if *cell >> from & 1 == 1 {
+            return (0, false);
+        }
+        *cell |= 1 << from;
+    }
+    let (votes, accepts) = (state[heard], state[heard + 2]);
+    // With a site more, a largest quorum grows only if the new site is in it: it must have a slice inside, as the
+    // receiver must.
+    let grows = |w: u64| find(&rows[from], 0, w).is_some() && belongs(rows, w, to);
+    if state[masks + ACCEPTED + side] & own == 0 {
+        // What blocks the site has changed only if an accept came; and its own accept is not there to be counted.
+        let blocked = kind == 2 && is_blocked(&rows[to], accepts);
+        let heard_already = (if kind == 2 { votes } else { accepts }) >> from & 1 == 1;
+        if blocked || (!heard_already && grows(votes | accepts)) {
+            state[masks + ACCEPTED + side] |= own;
+            state[heard + 2] |= own;
+            if belongs(rows, accepts | own, to) {
+                state[masks + CONFIRMED + side] |= own;
+            }
+        }
+    } else if kind == 2 && state[masks + CONFIRMED + side] & own == 0 && grows(accepts) {
+        state[masks + CONFIRMED + side] |= own;
+    }
+    (0, true)
+}
+
+pub fn step(table: &[u64], faulty: u64, state: &mut [u64], call: [u8; 4]) -> Answer {
+    answer((|| {
+        let rows = check_state(table, faulty, state)?;
+        match take(rows, faulty, state, call).0 {
+            0 => Ok([0; 3]),
+            number => Err((number.into(), 0)),
+        }
+    })())
+}
+
+/// The passes. After the first only the calls that were refused with 15 can change anything or answer otherwise: a call
+/// that was taken has been heard, and every other refusal stays.
+fn passes(rows: &[[u64; ROW]], faulty: u64, calls: &[[u8; 4]], state: &mut [u64], answers: &mut [u8]) -> u64 {
+    state.fill(0);
+    let mut waiting = [0u16; 4096];
+    let mut count = 0;
+    let mut changed = false;
+    for (i, (call, answer)) in calls.iter().zip(answers.iter_mut()).enumerate() {
+        let (number, change) = take(rows, faulty, state, *call);
+        *answer = number;
+        changed |= change;
+        if number == 15 {
+            waiting[count] = i as u16;
+            count += 1;
+        }
+    }
+    let mut passes = 1;
+    while changed {
+        passes += 1;
+        changed = false;
+        let mut left = 0;
+        for k in 0..count {
+            let i = usize::from(waiting[k]);
+            let (number, change) = take(rows, faulty, state, calls[i]);
+            changed |= change;
+            if number == 15 {
+                waiting[left] = i as u16;
+                left += 1;
+            } else {
+                answers[i] = number;
+            }
+        }
+        count = left;
+    }
+    passes
+}
+
+pub fn run_records(table: &[u64], faulty: u64, calls: &[[u8; 4]], state: &mut [u64], answers: &mut [u8]) -> Answer {
+    answer((|| {
+        let rows = checked(table)?;
+        check_set(rows, faulty)?;
+        if calls.len() > 4096 {
+            return Err((17, 0));
+        }
+        let length = 4 * rows.len() + 6;
+        if state.len() < length || answers.len() < calls.len() {
+            return Err((9, 0));
+        }
+        let passes = passes(rows, faulty, calls, &mut state[..length], &mut answers[..calls.len()]);
+        Ok([passes, 0, 0])
+    })())
+}
+
+pub fn run(table: &[u64], faulty: u64, calls: &[u8], state: &mut [u64], answers: &mut [u8]) -> Answer {
+    let (records, rest) = calls.as_chunks::<4>();
+    if rest.is_empty() {
+        return run_records(table, faulty, records, state, answers);
+    }
+    answer(checked(table).and_then(|rows| check_set(rows, faulty)).and(Err((17, 0))))
+}
+
+// ---- The mark
+
+pub fn mark(site: u64, confirmed_drill: u64, confirmed_live: u64) -> u8 {
+    if site > 63 {
+        11
+    } else {
+        ((confirmed_drill & !confirmed_live) >> site & 1) as u8
+    }
+}

@@ -1,0 +1,313 @@
+//! One input of a comparison: a public call with everything that is lent to it, asked of the library and of the model.
+
+use crate::library::*;
+use crate::model::{self, Answer};
+use crate::page::Page;
+use std::fmt;
+
+/// The public calls.
+#[derive(Clone, Copy, Debug, PartialEq, Eq, PartialOrd, Ord)]
+pub enum Question {
+    TableCheck,
+    ImageRead,
+    ImageWrite,
+    RoundTrip,
+    BlockCheck,
+    Mark,
+    Quorum,
+    Largest,
+    Blocks,
+    Shared,
+    Intact,
+    Sound,
+    Step,
+    Run,
+    RunRecords,
+}
+
+/// A public call and its arguments. A question looks at those that it has; the others are empty or zero.
+#[derive(Clone)]
+pub struct Input {
+    pub question: Question,
+    /// The table in memory.
+    pub table: Vec<u64>,
+    /// The image, the lone block or the list of calls.
+    pub bytes: Vec<u8>,
+    /// The state, lent to be read by `Sound` and to be changed by `Step`.
+    pub state: Vec<u64>,
+    /// The set that is asked about, or the faulty set.
+    pub set: u64,
+    pub site: u64,
+    /// The confirmed masks of a mark.
+    pub confirmed: [u64; 2],
+    pub call: [u8; 4],
+    /// The room lent for numbers, and for bytes.
+    pub cells_room: usize,
+    pub bytes_room: usize,
+    /// How many bytes before the forbidden page the lent bytes end.
+    pub gap: usize,
+}
+
+impl Input {
+    pub fn new(question: Question) -> Input {
+        Input {
+            question,
+            table: Vec::new(),
+            bytes: Vec::new(),
+            state: Vec::new(),
+            set: 0,
+            site: 0,
+            confirmed: [0; 2],
+            call: [0; 4],
+            cells_room: 0,
+            bytes_room: 0,
+            gap: 0,
+        }
+    }
+
+    pub fn of(question: Question, table: &[u64]) -> Input {
+        Input { table: table.to_vec(), ..Input::new(question) }
+    }
+
+    pub fn calls(&self) -> Vec<[u8; 4]> {
+        self.bytes.as_chunks().0.to_vec()
+    }
+}
+
+/// What a call did: its number, the four cells of `out` and the rooms, each with the cells before and behind that were
+/// not lent, and whether everything that was lent to be read has kept its value.
+#[derive(PartialEq)]
+pub struct Outcome {
+    pub number: u64,
+    pub out: [u64; 6],
+    pub cells: Vec<u64>,
+    pub bytes: Vec<u8>,
+    pub kept: bool,
+}
+
+/// What a cell of `out` holds before the call.
+const UNWRITTEN: u64 = 0xa5a5_a5a5_5a5a_5a5a;
+/// The cells before and behind a room. It is odd, so that a room of bytes has no alignment.
+const GUARD: usize = 5;
+
+/// Room for numbers with cells on both sides, no two alike.
+fn cells(length: usize) -> Vec<u64> {
+    (1..=(length + 2 * GUARD) as u64).map(|i| i.wrapping_mul(0x9e37_79b9_7f4a_7c15)).collect()
+}
+
+/// Room for bytes with bytes on both sides.
+fn bytes(length: usize) -> Vec<u8> {
+    (1..=length + 2 * GUARD).map(|i| (i.wrapping_mul(0x9d) >> 1) as u8 | 1).collect()
+}
+
+/// Room for numbers that holds a state.
+fn cells_with(state: &[u64]) -> Vec<u64> {
+    let mut room = cells(state.len());
+    room[GUARD..GUARD + state.len()].copy_from_slice(state);
+    room
+}
+
+/// The part of a room that is lent.
+fn lent<T>(room: &mut [T]) -> &mut [T] {
+    let end = room.len() - GUARD;
+    &mut room[GUARD..end]
+}
+
+/// The rooms that an input lends: numbers and bytes.
+fn rooms(input: &Input) -> (Vec<u64>, Vec<u8>) {
+    match input.question {
+        Question::ImageRead => (cells(input.cells_room), Vec::new()),
+        Question::ImageWrite => (Vec::new(), bytes(input.bytes_room)),
+        Question::RoundTrip => (cells(input.cells_room), bytes(input.bytes_room)),
+        Question::Step => (cells_with(&input.state), Vec::new()),
+        Question::Run | Question::RunRecords => (cells(input.cells_room), bytes(input.bytes_room)),
+        _ => (Vec::new(), Vec::new()),
+    }
+}
+
+/// The model's outcome.
+pub fn ask_model(input: &Input) -> Outcome {
+    let Input { table, bytes, state, set, site, .. } = input;
+    let (mut cells, mut room) = rooms(input);
+    let answer = match input.question {
+        Question::TableCheck => model::table_check(table),
+        Question::ImageRead => model::image_read(bytes, lent(&mut cells)),
+        Question::ImageWrite => model::image_write(table, lent(&mut room)),
+        Question::RoundTrip => {
+            let written = model::image_write(table, lent(&mut room));
+            let read = model::image_read(lent(&mut room), lent(&mut cells));
+            lent(&mut room).fill(0);
+            let again = model::image_write(lent(&mut cells), lent(&mut room));
+            Answer { values: [written.number, read.number, again.number], ..written }
+        }
+        Question::BlockCheck | Question::Mark => {
+            let number = match input.question {
+                Question::BlockCheck => model::block_check(bytes).number,
+                _ => {
+                    let answer = model::mark(*site, input.confirmed[0], input.confirmed[1]);
+                    answer.number + answer.values[0]
+                }
+            };
+            return Outcome { number, out: [UNWRITTEN; 6], cells, bytes: room, kept: true };
+        }
+        Question::Quorum => model::quorum(table, *set),
+        Question::Largest => model::largest(table, *set),
+        Question::Blocks => model::blocks(table, *set, *site),
+        Question::Shared => model::shared(table),
+        Question::Intact => model::intact(table, *set),
+        Question::Sound => model::sound(table, *set, state),
+        Question::Step => model::step(table, *set, lent(&mut cells), input.call),
+        Question::Run => model::run(table, *set, bytes, lent(&mut cells), lent(&mut room)),
+        Question::RunRecords => model::run_records(table, *set, &input.calls(), lent(&mut cells), lent(&mut room)),
+    };
+    let [first, second, third] = answer.values;
+    let out = [UNWRITTEN, answer.place, first, second, third, UNWRITTEN];
+    Outcome { number: answer.number, out, cells, bytes: room, kept: true }
+}
+
+/// The memory that is lent to the library to be read.
+pub struct Lender {
+    table: Page,
+    bytes: Page,
+    state: Page,
+}
+
+impl Lender {
+    pub fn new() -> Lender {
+        Lender { table: Page::new(), bytes: Page::new(), state: Page::new() }
+    }
+
+    /// The library's outcome.
+    pub fn ask_library(&mut self, input: &Input) -> Outcome {
+        let (mut cells, mut room) = rooms(input);
+        let mut out = [UNWRITTEN; 6];
+        let (table, length) = (self.table.put(&input.table, 0), input.table.len());
+        let (bytes, bytes_length) = (self.bytes.put(&input.bytes, input.gap), input.bytes.len());
+        let (state, state_length) = (self.state.put(&input.state, 0), input.state.len());
+        let Input { set, site, call: [kind, from, to, side], .. } = *input;
+        // SAFETY: each pointer goes with the length of what it points to, which nothing else refers to during the call.
+        let number = unsafe {
+            let out = out[1..5].as_mut_ptr();
+            let (cells, cells_length) = match cells.as_mut_slice() {
+                [] => (std::ptr::null_mut(), 0),
+                room => (lent(room).as_mut_ptr(), room.len() - 2 * GUARD),
+            };
+            let (room, room_length) = match room.as_mut_slice() {
+                [] => (std::ptr::null_mut(), 0),
+                room => (lent(room).as_mut_ptr(), room.len() - 2 * GUARD),
+            };
+            match input.question {
+                Question::TableCheck => siren_table_check(table, length, out),
+                Question::ImageRead => siren_image_read(bytes, bytes_length, cells, cells_length, out),
+                Question::ImageWrite => siren_image_write(table, length, room, room_length, out),
+                Question::RoundTrip => {
+                    let written = siren_image_write(table, length, room, room_length, out);
+                    let place = *out;
+                    let read = siren_image_read(room, room_length, cells, cells_length, out);
+                    room.write_bytes(0, room_length);
+                    let again = siren_image_write(cells, cells_length, room, room_length, out);
+                    [place, written, read, again].as_ptr().copy_to(out, 4);
+                    written
+                }
+                Question::BlockCheck => siren_block_check(bytes, bytes_length).into(),
+                Question::Mark => siren_site_mark(site, input.confirmed[0], input.confirmed[1]).into(),
+                Question::Quorum => siren_quorum(table, length, set, out),
+                Question::Largest => siren_largest(table, length, set, out),
+                Question::Blocks => siren_blocks(table, length, set, site, out),
+                Question::Shared => siren_shared(table, length, out),
+                Question::Intact => siren_intact(table, length, set, out),
+                Question::Sound => siren_sound(table, length, set, state, state_length, out),
+                Question::Step => siren_step(table, length, set, cells, cells_length, kind, from, to, side, out),
+                Question::Run => {
+                    siren_run(table, length, set, bytes, bytes_length, cells, cells_length, room, room_length, out)
+                }
+                Question::RunRecords => {
+                    let (calls, count) = (bytes.cast::<Call>(), bytes_length / 4);
+                    siren_run_records(table, length, set, calls, count, cells, cells_length, room, room_length, out)
+                }
+            }
+        };
+        let kept = self.table.holds(&input.table, 0)
+            && self.bytes.holds(&input.bytes, input.gap)
+            && self.state.holds(&input.state, 0);
+        Outcome { number, out, cells, bytes: room, kept }
+    }
+}
+
+/// How two outcomes differ, in words.
+pub fn difference(library: &Outcome, model: &Outcome) -> String {
+    if library.number != model.number {
+        return format!("the library answers {}, the model {}", library.number, model.number);
+    }
+    if library.out != model.out {
+        return format!(
+            "out (with a cell on each side) is {:x?} by the library, {:x?} by the model",
+            library.out, model.out
+        );
+    }
+    if !library.kept {
+        return "the library changed memory that was lent to be read".into();
+    }
+    if let Some(i) = (0..model.cells.len()).find(|i| library.cells[*i] != model.cells[*i]) {
+        let (library, model, at) = (library.cells[i], model.cells[i], i as isize - GUARD as isize);
+        return format!("cell {at} of the room of numbers is {library:#x} by the library, {model:#x} by the model");
+    }
+    match (0..model.bytes.len()).find(|i| library.bytes[*i] != model.bytes[*i]) {
+        Some(i) => {
+            let (library, model, at) = (library.bytes[i], model.bytes[i], i as isize - GUARD as isize);
+            format!("byte {at} of the room of bytes is {library} by the library, {model} by the model")
+        }
+        None => "no difference".into(),
+    }
+}
+
+impl fmt::Display for Input {
+    fn fmt(&self, f: &mut fmt::Formatter) -> fmt::Result {
+        writeln!(f, "question {:?}", self.question)?;
+        if !self.table.is_empty() {
+            writeln!(f, "table of {} numbers", self.table.len())?;
+            for (site, row) in self.table.chunks(model::ROW).enumerate() {
+                let used = row.iter().rposition(|cell| *cell != 0).map_or(0, |last| last + 1);
+                writeln!(f, "  row {site}: {:#x?}", Inline(&row[..used]))?;
+            }
+        }
+        match self.question {
+            Question::ImageRead | Question::BlockCheck => {
+                writeln!(f, "bytes: {}", self.bytes.len())?;
+                for (place, block) in self.bytes.chunks(model::BLOCK).enumerate() {
+                    for (at, bytes) in block.chunks(8).enumerate().filter(|(_, bytes)| bytes.iter().any(|b| *b != 0)) {
+                        writeln!(f, "  block {place} byte {}: {}", 8 * at, hexadecimal(bytes))?;
+                    }
+                }
+            }
+            Question::Run | Question::RunRecords => {
+                writeln!(f, "calls: {} bytes (kind, from, to, side)", self.bytes.len())?;
+                for call in self.bytes.chunks(4) {
+                    writeln!(f, "  {call:?}")?;
+                }
+            }
+            _ => {}
+        }
+        writeln!(f, "set {:#x}, site {}, confirmed {:#x?}", self.set, self.site, Inline(&self.confirmed))?;
+        if matches!(self.question, Question::Sound | Question::Step) {
+            writeln!(f, "state of {} numbers, call {:?}", self.state.len(), self.call)?;
+            for (at, cell) in self.state.iter().enumerate().filter(|(_, cell)| **cell != 0) {
+                writeln!(f, "  cell {at}: {cell:#x}")?;
+            }
+        }
+        write!(f, "room for {} numbers and {} bytes", self.cells_room, self.bytes_room)
+    }
+}
+
+/// Numbers in a line.
+struct Inline<'a>(&'a [u64]);
+
+impl fmt::Debug for Inline<'_> {
+    fn fmt(&self, f: &mut fmt::Formatter) -> fmt::Result {
+        self.0.iter().try_for_each(|number| write!(f, "{number:#x} "))
+    }
+}
+
+fn hexadecimal(bytes: &[u8]) -> String {
+    bytes.iter().map(|byte| format!("{byte:02x} ")).collect()
+}

@@ -1,0 +1,517 @@
+//! The examples of the rules, and the points in them that a plausible program gets wrong.
+
+use super::*;
+
+const JUNK: u64 = 0x5a5a_1234_dead_beef;
+
+fn memory(rows: &[&[u64]]) -> Vec<u64> {
+    rows.iter().flat_map(|slices| row_in_memory(slices)).collect()
+}
+
+fn table(rows: &[&[u64]]) -> Table {
+    table_in_memory(&memory(rows)).unwrap()
+}
+
+fn image(rows: &[&[u64]]) -> Vec<u8> {
+    rows.iter().enumerate().flat_map(|(site, slices)| block_on_file(site, rows.len(), slices)).collect()
+}
+
+/// Writes the right check into the block at a place.
+fn mend(image: &mut [u8], place: usize) {
+    let block = &mut image[BLOCK * place..BLOCK * (place + 1)];
+    let (s, t) = block_sums(block);
+    block[504..508].copy_from_slice(&(s as u32).to_le_bytes());
+    block[508..512].copy_from_slice(&(t as u32).to_le_bytes());
+}
+
+fn refusal_of(answer: Answer) -> (u64, u64) {
+    assert!(answer.number == 0 || answer.values == [0; 3]);
+    (answer.number, answer.place)
+}
+
+/// "Table A, slices as masks: 3; 3; 7; 11; 24."
+const A: [&[u64]; 5] = [&[3], &[3], &[7], &[11], &[24]];
+/// "Table B, four sites, all three-site sets with the owner: 7 11 13; 7 11 14; 7 13 14; 11 13 14."
+const B: [&[u64]; 4] = [&[7, 11, 13], &[7, 11, 14], &[7, 13, 14], &[11, 13, 14]];
+/// "slices 3; 3; 12; 12"
+const PAIRS: [&[u64]; 4] = [&[3], &[3], &[12], &[12]];
+
+/// Sites in a row, each with the one slice of itself.
+fn loners(n: usize) -> Vec<u64> {
+    (0..n).flat_map(|site| row_in_memory(&[only(site)])).collect()
+}
+
+// ---- The examples
+
+#[test]
+fn quorums_of_a() {
+    let a = table(&A);
+    let quorums: Vec<u64> = (0..32).filter(|set| is_quorum(&a, *set)).collect();
+    assert_eq!(quorums, [3, 7, 11, 15, 27, 31]);
+}
+
+#[test]
+fn dispensable_sets_of_a() {
+    let a = table(&A);
+    let sets: Vec<u64> = (0..32).filter(|set| dispensable(&a, *set)).collect();
+    assert_eq!(sets, [0, 4, 16, 20, 24, 28, 31]);
+}
+
+#[test]
+fn intact_sites_of_a() {
+    assert_eq!(intact(&memory(&A), 8).values, [7, 0, 0]);
+}
+
+#[test]
+fn dispensable_sets_of_b() {
+    let b = table(&B);
+    let sets: Vec<u64> = (0..16).filter(|set| dispensable(&b, *set)).collect();
+    assert_eq!(sets, [0, 1, 2, 4, 8, 15]);
+}
+
+#[test]
+fn intact_sites_of_b() {
+    assert_eq!(intact(&memory(&B), 3).values, [0, 0, 0]);
+}
+
+#[test]
+fn two_pairs_do_not_meet() {
+    assert_eq!(shared(&memory(&PAIRS)).values, [0, 3, 12]);
+    assert_eq!(shared(&memory(&A)).values, [1, 0, 0]);
+    // Intact is asked of each dispensable set, also where the table does not meet: 12 and 3 are dispensable.
+    assert_eq!(intact(&memory(&PAIRS), 0).values, [15, 0, 0]);
+}
+
+#[test]
+fn blocking_in_b() {
+    assert_eq!(blocks(&memory(&B), 6, 0).values, [1, 0, 0]);
+    assert_eq!(blocks(&memory(&B), 2, 0).values, [0, 0, 0]);
+    assert_eq!(blocks(&memory(&B), 0, 0).values, [0, 0, 0]);
+}
+
+#[test]
+fn one_site_decides_alone() {
+    let mut state = vec![0; state_length(1)];
+    assert_eq!(step(&memory(&[&[1]]), 0, &mut state, [PROPOSE, 0, 0, 0]).number, 0);
+    assert_eq!(state, [1, 0, 1, 0, 1, 0, 1, 0, 1, 0]);
+    assert_eq!(mark(0, state[confirmed_at(1, DRILL)], state[confirmed_at(1, LIVE)]).values, [1, 0, 0]);
+}
+
+#[test]
+fn three_votes_accept_and_do_not_confirm() {
+    let mut state = vec![0; state_length(4)];
+    for call in [[0, 0, 0, 0], [0, 1, 1, 0], [0, 2, 2, 0], [1, 1, 0, 0], [1, 2, 0, 0]] {
+        assert_eq!(step(&memory(&B), 8, &mut state, call).number, 0);
+    }
+    assert_eq!(state[votes_at(0, DRILL)], 7);
+    assert_eq!(state[accepts_at(0, DRILL)], 1);
+    assert_eq!(state[voted_at(4, DRILL)..], [7, 0, 1, 0, 0, 0]);
+}
+
+#[test]
+fn passes_of_short_lists() {
+    let (mut state, mut answers) = (vec![JUNK; 22], vec![9; 2]);
+    assert_eq!(run(&memory(&B), 0, &[1, 0, 1, 0, 0, 0, 0, 0], &mut state, &mut answers).values, [3, 0, 0]);
+    assert_eq!(answers, [0, 0]);
+    assert_eq!((state[votes_at(0, DRILL)], state[votes_at(1, DRILL)]), (1, 1));
+
+    // The empty list: one pass, no byte, and the state is made fresh.
+    let (mut state, mut answers) = (vec![JUNK; 24], vec![9; 1]);
+    assert_eq!(run(&memory(&B), 0, &[], &mut state, &mut answers).values, [1, 0, 0]);
+    assert!(state[..22].iter().all(|cell| *cell == 0));
+    assert_eq!((state[22], state[23], answers[0]), (JUNK, JUNK, 9));
+}
+
+#[test]
+fn sums_of_the_one_site_image() {
+    let block = block_on_file(0, 1, &[1]);
+    assert_eq!(block_sums(&block), (65538, 8257785));
+    assert_eq!(refusal_of(block_check(&block)), (0, 0));
+}
+
+#[test]
+fn limits() {
+    let slices: Vec<u64> = (0..64).map(|i| 2 * i + 1).collect();
+    let rows = |count: usize| -> Vec<Vec<u64>> {
+        (0..7).map(|site| if site == 0 { slices[..count].to_vec() } else { vec![only(site)] }).collect()
+    };
+    let most: Vec<u64> = rows(62).iter().flat_map(|row| row_in_memory(row)).collect();
+    assert_eq!(refusal_of(table_check(&most)), (0, 0));
+    let mut over = most.clone();
+    over[0] = 63;
+    assert_eq!(refusal_of(table_check(&over)), (4, 0));
+    over[0] = (1 << 32) + 1;
+    assert_eq!(refusal_of(table_check(&over)), (4, 0));
+
+    assert_eq!(shared(&loners(12)).number, 0);
+    assert_eq!(refusal_of(shared(&loners(13))), (16, 0));
+    assert_eq!(intact(&loners(12), 1).number, 0);
+    assert_eq!(refusal_of(intact(&loners(13), 1)), (16, 0));
+
+    let (mut state, mut answers) = (vec![0; 10], vec![0; 5000]);
+    let calls = vec![[0; 4]; 4097];
+    assert_eq!(run_records(&loners(1), 0, &calls[..4096], &mut state, &mut answers).values, [2, 0, 0]);
+    assert_eq!(refusal_of(run_records(&loners(1), 0, &calls, &mut state, &mut answers)), (17, 0));
+    assert_eq!(run(&loners(1), 0, &[0; 16384], &mut state, &mut answers).values, [2, 0, 0]);
+    assert_eq!(refusal_of(run(&loners(1), 0, &[0; 16388], &mut state, &mut answers)), (17, 0));
+    assert_eq!(refusal_of(run(&loners(1), 0, &[0; 7], &mut state, &mut answers)), (17, 0));
+}
+
+#[test]
+fn verdict_on_a() {
+    let mut input = 8u64.to_le_bytes().to_vec();
+    input.extend(image(&A));
+    let lines = "sites 5\nfaulty 0000000000000008\nmeet yes\nintact 0000000000000007\nbefouled 0000000000000018\n\
+                 quorum 0000000000000007\nrounds 1\n";
+    assert_eq!(verdict(&input), lines);
+}
+
+// ---- Reading and writing
+
+#[test]
+fn round_trip() {
+    for rows in [&A[..], &B[..], &PAIRS[..]] {
+        let (table, file) = (memory(rows), image(rows));
+        let (mut cells, mut bytes) = (vec![JUNK; table.len() + 2], vec![7; file.len() + 2]);
+        assert_eq!(image_read(&file, &mut cells[..table.len() + 1]).values, [rows.len() as u64, 0, 0]);
+        assert_eq!(image_write(&table, &mut bytes[..file.len() + 1]).values, [rows.len() as u64, 0, 0]);
+        assert_eq!((&cells[..table.len()], &bytes[..file.len()]), (&table[..], &file[..]));
+        assert_eq!((&cells[table.len()..], &bytes[file.len()..]), (&[JUNK, JUNK][..], &[7, 7][..]));
+    }
+}
+
+#[test]
+fn order_of_refusals_in_reading() {
+    let good = image(&A);
+    let ask = |image: &[u8], room: usize| {
+        let mut cells = vec![JUNK; room];
+        let answer = image_read(image, &mut cells);
+        assert!(answer.number == 0 || cells.iter().all(|cell| *cell == JUNK));
+        refusal_of(answer)
+    };
+    assert_eq!(ask(&good, 315), (0, 0));
+    assert_eq!(ask(&good, 314), (9, 0));
+    assert_eq!(ask(&[], 315), (1, 0));
+    assert_eq!(ask(&good[..511], 0), (1, 0));
+    assert_eq!(ask(&vec![0; 33280], 0), (1, 0));
+    // 512 zero bytes have a right check.
+    assert_eq!(ask(&[0; 512], 63), (3, 0));
+
+    // One fault after the other is put into block 3, the last in the order first; the first in the order is the answer
+    // each time.
+    let mut bad = good.clone();
+    let at = 3 * BLOCK;
+    bad[at + 503] = 1;
+    mend(&mut bad, 3);
+    assert_eq!(ask(&bad, 315), (8, 3));
+    bad[at + 4] = 3;
+    bad[at + 16..at + 32].copy_from_slice(&[11, 0, 0, 0, 0, 0, 0, 0, 16, 0, 0, 0, 0, 0, 0, 0]);
+    mend(&mut bad, 3);
+    assert_eq!(ask(&bad, 315), (6, 3), "slice 1 is not above slice 0, before slice 2 lacks its owner");
+    bad[at + 8] = 32 + 8;
+    mend(&mut bad, 3);
+    assert_eq!(ask(&bad, 315), (5, 3));
+    bad[at + 4] = 63;
+    mend(&mut bad, 3);
+    assert_eq!(ask(&bad, 315), (4, 3));
+    bad[at + 5] = 1;
+    mend(&mut bad, 3);
+    assert_eq!(ask(&bad, 315), (4, 3), "the count has two bytes");
+    bad[at + 1] = 1;
+    mend(&mut bad, 3);
+    assert_eq!(ask(&bad, 315), (3, 3), "the site has two bytes, and the refusal carries the block's place");
+    bad[at + 508] ^= 128;
+    assert_eq!(ask(&bad, 315), (2, 3));
+    assert_eq!(ask(&bad, 314), (9, 0));
+}
+
+#[test]
+fn order_of_refusals_in_writing() {
+    let mut table = memory(&A);
+    table[2 * ROW] = 0;
+    table[3 * ROW + 62] = 1;
+    let mut room = vec![7; 2560];
+    assert_eq!(refusal_of(image_write(&table, &mut room[..2559])), (9, 0));
+    assert_eq!(refusal_of(image_write(&table[..314], &mut [])), (1, 0));
+    assert_eq!(refusal_of(image_write(&table, &mut room)), (4, 2));
+    table[2 * ROW] = 1;
+    assert_eq!(refusal_of(image_write(&table, &mut room)), (8, 3));
+    assert!(room.iter().all(|byte| *byte == 7));
+}
+
+#[test]
+fn tables_in_memory() {
+    assert_eq!(refusal_of(table_check(&[])), (1, 0));
+    assert_eq!(refusal_of(table_check(&loners(64))), (0, 0));
+    assert_eq!(refusal_of(table_check(&loners(64)[..4031])), (1, 0));
+    assert_eq!(refusal_of(table_check(&vec![1; 63 * 65])), (1, 0));
+    // Room for more sites than the table has is no table.
+    let mut longer = loners(5);
+    longer.resize(64 * ROW, 0);
+    assert_eq!(refusal_of(table_check(&longer)), (4, 5));
+    // With 64 sites no mask names a site that there is not.
+    let mut full = loners(64);
+    full[63 * ROW + 1] = u64::MAX;
+    assert_eq!(refusal_of(table_check(&full)), (0, 0));
+    let mut high = loners(63);
+    high[62 * ROW + 1] = u64::MAX;
+    assert_eq!(refusal_of(table_check(&high)), (5, 62));
+}
+
+#[test]
+fn lone_blocks() {
+    assert_eq!(refusal_of(block_check(&[0; 512])), (0, 0));
+    assert_eq!(refusal_of(block_check(&[0; 511])), (1, 0));
+    assert_eq!(refusal_of(block_check(&[])), (1, 0));
+    let mut block = block_on_file(0, 1, &[1]);
+    block[511] ^= 1;
+    assert_eq!(refusal_of(block_check(&block)), (2, 0));
+}
+
+// ---- Set questions
+
+#[test]
+fn rounds_drop_all_together() {
+    // Site v needs v - 1, and site 0 is not in the set: one site goes each round.
+    let chain: Vec<u64> = (0..64).flat_map(|v| row_in_memory(&[only(v) | only(usize::max(v, 1) - 1)])).collect();
+    assert_eq!(largest(&chain, !1).values, [0, 63, 0]);
+    assert_eq!(largest(&chain, !0).values, [u64::MAX, 0, 0]);
+    assert_eq!(largest(&chain, 0).values, [0, 0, 0]);
+    // In A site 3 falls for want of 0 and 1, and site 4 only in the round after, for want of 3.
+    assert_eq!(largest(&memory(&A), 0b11000).values, [0, 2, 0]);
+    assert_eq!(largest(&memory(&A), 0b10101).values, [0, 1, 0]);
+}
+
+#[test]
+fn order_of_refusals_in_questions() {
+    let five = memory(&A);
+    assert_eq!(refusal_of(quorum(&five, 32)), (10, 0));
+    assert_eq!(refusal_of(largest(&five, 1 << 63)), (10, 0));
+    assert_eq!(refusal_of(blocks(&five, 32, 5)), (10, 0));
+    assert_eq!(refusal_of(blocks(&five, 31, 5)), (11, 0));
+    assert_eq!(refusal_of(blocks(&five, 31, 1 << 32)), (11, 0));
+    assert_eq!(refusal_of(intact(&loners(13), 1 << 20)), (10, 0));
+    assert_eq!(quorum(&five, 0).values, [0, 0, 0]);
+}
+
+// ---- The voting
+
+#[test]
+fn order_of_refusals_in_a_step() {
+    let b = memory(&B);
+    let fresh = vec![0; 22];
+    let ask = |state: &[u64], call: [u8; 4]| {
+        let mut after = state.to_vec();
+        let answer = step(&b, 8, &mut after, call);
+        assert!(answer.number == 0 || after == state);
+        refusal_of(answer).0
+    };
+    for bad in [[3, 0, 0, 0], [0, 4, 4, 0], [1, 0, 4, 0], [1, 4, 0, 0], [0, 0, 0, 2], [255, 255, 255, 255]] {
+        assert_eq!(ask(&fresh, bad), 11);
+        assert_eq!(ask(&fresh[1..], bad), 18);
+    }
+    assert_eq!(ask(&fresh, [0, 0, 3, 0]), 13, "before 12");
+    assert_eq!(ask(&fresh, [0, 3, 3, 0]), 12);
+    assert_eq!(ask(&fresh, [2, 0, 3, 0]), 12);
+    assert_eq!(ask(&fresh, [1, 1, 0, 0]), 15);
+    assert_eq!(ask(&fresh, [1, 0, 0, 0]), 15, "a site tells itself only what it has sent");
+    assert_eq!(ask(&fresh, [1, 3, 0, 1]), 0, "a faulty site may send anything");
+    let mut voted = fresh.clone();
+    take(&table(&B), 8, &mut voted, [0, 0, 0, 0]);
+    assert_eq!(ask(&voted, [0, 0, 0, 1]), 14);
+    assert_eq!(ask(&voted, [0, 0, 0, 0]), 0);
+    assert_eq!(ask(&voted, [1, 0, 0, 0]), 0);
+    assert_eq!(refusal_of(step(&b, 16, &mut voted, [9; 4])), (10, 0));
+}
+
+#[test]
+fn accepting_does_not_vote() {
+    // Sites 2 and 3 are faulty and block site 0 for drill; it may still vote live.
+    let b = table(&B);
+    let mut state = vec![0; 22];
+    for call in [[2, 2, 0, 0], [2, 3, 0, 0], [0, 0, 0, 1]] {
+        assert_eq!(take(&b, 12, &mut state, call), 0);
+    }
+    assert_eq!(state[voted_at(4, DRILL)..], [0, 1, 1, 0, 1, 0]);
+    assert!(is_sound(&b, 12, &state));
+}
+
+#[test]
+fn circular_state_is_sound() {
+    // Sites 0, 1 and 2 have accepted and confirmed both sides, each blocked by the other two, and nobody has voted.
+    let mut state = Vec::new();
+    for site in 0..4 {
+        state.extend(if site < 3 { [0, 0, 7, 7] } else { [0; 4] });
+    }
+    state.extend([0, 0, 7, 7, 7, 7]);
+    assert_eq!(refusal_of(sound(&memory(&B), 0, &state)), (0, 0));
+    state[21] = 3;
+    assert_eq!(refusal_of(sound(&memory(&B), 0, &state)), (18, 0));
+}
+
+#[test]
+fn each_unsound_kind() {
+    let b = memory(&B);
+    let end = |faulty| {
+        let (mut state, mut answers) = (vec![0; 22], vec![0; 64]);
+        let mut calls: Vec<[u8; 4]> = (0..3).map(|v| [0, v, v, 0]).collect();
+        for kind in [1, 2] {
+            calls.extend((0..9).map(|pair| [kind, pair / 3, pair % 3, 0]));
+        }
+        assert_eq!(run_records(&b, faulty, &calls, &mut state, &mut answers).number, 0);
+        state
+    };
+    let good = end(8);
+    assert_eq!(good[..4], [7, 0, 7, 0]);
+    assert_eq!(good[16..], [7, 0, 7, 0, 7, 0]);
+    let asked = |state: &[u64]| refusal_of(sound(&b, 8, state)).0;
+    assert_eq!(asked(&good), 0);
+    let changed = |cell: usize, bits: u64| {
+        let mut state = good.clone();
+        state[cell] ^= bits;
+        asked(&state)
+    };
+    assert_eq!(asked(&good[..21]), 18);
+    assert_eq!(changed(1, 16), 18, "a bit at or above n");
+    assert_eq!(changed(12, 1), 18, "a faulty receiver heard");
+    assert_eq!(changed(20, 8), 18, "a faulty receiver confirmed");
+    assert_eq!(changed(0, 1), 18, "own vote bit");
+    assert_eq!(changed(2, 1), 18, "own accept bit");
+    assert_eq!(changed(18, 1), 18, "accepted mask");
+    assert_eq!(changed(20, 1), 18, "confirmed mask");
+    assert_eq!(changed(1, 2), 18, "heard what a correct site has not sent");
+    assert_eq!(changed(1, 8), 0, "faulty sites may have sent anything");
+    let mut both = good.clone();
+    both[17] |= 1;
+    both[1] |= 1;
+    assert_eq!(asked(&both), 18, "voting both sides");
+}
+
+// ---- The run
+
+#[test]
+fn longest_run_of_two_sites() {
+    let calls = [[2, 1, 0, 0], [2, 0, 1, 0], [1, 1, 0, 0], [0, 0, 0, 0], [0, 1, 1, 0]];
+    assert_eq!(passes(&table(&[&[3], &[3]]), 0, &calls).1, 5);
+}
+
+#[test]
+fn opposite_proposals() {
+    let (state, passes, answers) = passes(&table(&B), 0, &[[0, 1, 1, 1], [0, 1, 1, 0]]);
+    assert_eq!((passes, &answers[..]), (2, &[0, 14][..]));
+    assert_eq!(state[voted_at(4, DRILL)..][..2], [0, 2]);
+}
+
+#[test]
+fn order_of_refusals_in_a_run() {
+    let b = memory(&B);
+    let (mut state, mut answers) = (vec![JUNK; 22], vec![7; 2]);
+    assert_eq!(refusal_of(run(&b[1..], 16, &[0; 3], &mut [], &mut [])), (1, 0));
+    assert_eq!(refusal_of(run(&b, 16, &[0; 3], &mut [], &mut [])), (10, 0));
+    assert_eq!(refusal_of(run(&b, 8, &[0; 3], &mut [], &mut [])), (17, 0));
+    assert_eq!(refusal_of(run(&b, 8, &[0; 8], &mut state[..21], &mut answers)), (9, 0));
+    assert_eq!(refusal_of(run(&b, 8, &[0; 8], &mut state, &mut answers[..1])), (9, 0));
+    assert!(state.iter().all(|cell| *cell == JUNK) && answers == [7, 7]);
+}
+
+/// Numbers that are the same in each run.
+struct Rng(u64);
+
+impl Rng {
+    fn below(&mut self, end: u64) -> u64 {
+        self.0 ^= self.0 << 13;
+        self.0 ^= self.0 >> 7;
+        self.0 ^= self.0 << 17;
+        (self.0 >> 16) % end
+    }
+}
+
+#[test]
+fn order_and_repeats_do_not_matter() {
+    let mut rng = Rng(88172645463325252);
+    let mut most_passes = 0;
+    for _ in 0..2000 {
+        let n = 1 + rng.below(5) as usize;
+        let mut row = |site| {
+            let mut slices: Vec<u64> = (0..=rng.below(3)).map(|_| rng.below(1 << n) | only(site)).collect();
+            slices.sort();
+            slices.dedup();
+            slices
+        };
+        let slices: Vec<Vec<u64>> = (0..n).map(&mut row).collect();
+        let table = Table { sites: all_sites(n), slices };
+        let faulty = rng.below(1 << n) & rng.below(1 << n);
+        // No site is proposed both sides; the other calls are any.
+        let mut calls: Vec<[u8; 4]> = (0..n as u8).map(|site| [PROPOSE, site, site, rng.below(4) as u8 / 3]).collect();
+        for _ in 0..rng.below(40) {
+            let (from, to) = (rng.below(n as u64) as u8, rng.below(n as u64) as u8);
+            calls.push([1 + rng.below(2) as u8, from, to, rng.below(4) as u8 / 3]);
+        }
+        let mut other = calls.clone();
+        for _ in 0..rng.below(8) {
+            other.push(calls[rng.below(calls.len() as u64) as usize]);
+        }
+        for i in (1..other.len()).rev() {
+            other.swap(i, rng.below(i as u64 + 1) as usize);
+        }
+
+        let (state, count, answers) = passes(&table, faulty, &calls);
+        let (other_state, other_count, other_answers) = passes(&table, faulty, &other);
+        assert_eq!(state, other_state);
+        for (call, answer) in other.iter().zip(other_answers) {
+            let first = calls.iter().position(|one| one == call).unwrap();
+            assert_eq!(answer, answers[first]);
+        }
+        // The passes do not exceed the calls by more than one; nor the correct sites by more than three.
+        let correct = (table.sites & !faulty).count_ones() as usize;
+        for (count, calls) in [(count, &calls), (other_count, &other)] {
+            assert!(count as usize <= calls.len() + 1 && count as usize <= correct + 3);
+            most_passes = most_passes.max(count);
+        }
+        assert!(is_sound(&table, faulty, &state));
+    }
+    assert!(most_passes >= 5, "lists of more than a few passes were among them");
+}
+
+#[test]
+fn steps_lead_from_sound_states_to_sound_states() {
+    let mut rng = Rng(4711);
+    for rows in [&A[..], &B[..], &PAIRS[..]] {
+        let table = table(rows);
+        let n = table.n() as u64;
+        for faulty in 0..1 << n {
+            let mut state = vec![0; state_length(table.n())];
+            for _ in 0..60 {
+                let call = [rng.below(3), rng.below(n), rng.below(n), rng.below(2)].map(|byte| byte as u8);
+                take(&table, faulty, &mut state, call);
+                assert!(is_sound(&table, faulty, &state));
+            }
+        }
+    }
+}
+
+// ---- The mark and the program
+
+#[test]
+fn marks() {
+    assert_eq!(mark(63, 1 << 63, 0).values[0], 1);
+    assert_eq!(mark(63, 1 << 63, 1 << 63).values[0], 0);
+    assert_eq!(mark(2, 0, 4).values[0], 0);
+    assert_eq!(refusal_of(mark(64, u64::MAX, 0)), (11, 0));
+}
+
+#[test]
+fn refusals_of_the_program() {
+    let input = |faulty: u64, image: &[u8]| [&faulty.to_le_bytes()[..], image].concat();
+    let thirteen: Vec<u8> = (0..13).flat_map(|site| block_on_file(site, 13, &[only(site)])).collect();
+    assert_eq!(verdict(&[0; 7]), "refused 1 0\n");
+    assert_eq!(verdict(&[0; 8]), "refused 1 0\n");
+    assert_eq!(verdict(&[0; 32777]), "refused 1 0\n");
+    assert_eq!(verdict(&input(1 << 20, &thirteen)), "refused 10 0\n");
+    assert_eq!(verdict(&input(1, &thirteen)), "refused 16 0\n");
+    let mut damaged = thirteen.clone();
+    damaged[5 * BLOCK + 8] ^= 1;
+    assert_eq!(verdict(&input(1 << 20, &damaged)), "refused 2 5\n");
+    let all = verdict(&input(31, &image(&A)));
+    assert!(all.ends_with("intact 0000000000000000\nbefouled 000000000000001f\nquorum 0000000000000000\nrounds 0\n"));
+}
