@@ -1,4 +1,4 @@
--- Laws of `some`, `every` and `least`.
+-- Laws of `some` and `least`.
 use Prim.Native.Nat.{ℕ, zero, suc, _+_, _≤_, _<_}
 use mathlib.Core.Bool.{Bool, true, false, _||_, false≢true, cond}
 use mathlib.Core.Logic.{⊎-elim}
