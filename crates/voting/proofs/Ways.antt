@@ -11,7 +11,6 @@ use borrow.Author.Tests.{eq-eqb, ne-eqb, lt-ltb, le-ltb}
 use Rattle.ground.specs.Search.{some}
 use Rattle.masks.specs.Mask.{has, within, minus, allBelow}
 use Rattle.sets.specs.Promises.{Questions}
-use Rattle.voting.specs.Inner.{heard}
 use Rattle.voting.specs.Rules.{Call, accepting, confirming, outOfRange, crooked, against, unsent}
 use Rattle.voting.specs.Sound.{differ, notZero, notOwn, notRule, notSent, badSide, badSite, unsound}
 use Rattle.voting.specs.State.{votes, accepts, voted, accepted, confirmed, size, get}
@@ -55,18 +54,6 @@ module _ (n : ℕ) (c : Call) (s : List ℕ) where
   pub against-other : (c .kind ≡ 0 → ⊥) → false ≡ against n c s
   unfolding against
   against-other e = rw (ne-eqb (c .kind) 0 e) refl
-
-  pub heard-proposal : c .kind ≡ 0 → has (get s (voted n (c .side))) (c .to) ≡ heard n c s
-  unfolding heard
-  heard-proposal e = rw (eq-eqb (c .kind) 0 e) refl
-
-  pub heard-vote : (c .kind ≡ 0 → ⊥) → c .kind ≡ 1 → has (get s (votes (c .side) (c .to))) (c .from) ≡ heard n c s
-  unfolding heard
-  heard-vote e f = rw (ne-eqb (c .kind) 0 e, eq-eqb (c .kind) 1 f) refl
-
-  pub heard-accept : (c .kind ≡ 0 → ⊥) → (c .kind ≡ 1 → ⊥) → has (get s (accepts (c .side) (c .to))) (c .from) ≡ heard n c s
-  unfolding heard
-  heard-accept e f = rw (ne-eqb (c .kind) 0 e, ne-eqb (c .kind) 1 f) refl
 
   module _ (F : ℕ) where
     pub unsent-proposal : c .kind ≡ 0 → false ≡ unsent n F c s
