@@ -25,7 +25,9 @@ pub struct Packed {
 fn empty() -> Packed
     ensures { λ r. ⌜ r ≡ blank ⌝ }
 {
-    Packed { bytes: [0u8; 16384] }
+    Packed {
+        bytes: [0u8; 16384],
+    }
 }
 
 // Call i put in its place; past the room nothing changes.
@@ -59,7 +61,14 @@ pub fn pack(calls: &[Call]) -> Packed
 }
 
 // The run of n calls that stand packed. A list of more than 4,096 calls is refused as one of 16,388 bytes is.
-pub fn run_packed(table: &[u64], faulty: u64, p: Packed, n: usize, state: &mut [u64], answers: &mut [u8]) -> Ran
+pub fn run_packed(
+    table: &[u64],
+    faulty: u64,
+    p: Packed,
+    n: usize,
+    state: &mut [u64],
+    answers: &mut [u8],
+) -> Ran
     ensures { λ r. ⌜ Ended (now (table .entry)) faulty (p .bytes) n (now (state .entry)) (now (answers .entry)) r (now (state .exit)) (now (answers .exit)) ⌝ }
 {
     if 4096 < n {
@@ -75,7 +84,13 @@ pub fn run_packed(table: &[u64], faulty: u64, p: Packed, n: usize, state: &mut [
 }
 
 // The run of a list of calls: equal in everything to the run of its bytes.
-pub fn run_records(table: &[u64], faulty: u64, calls: &[Call], state: &mut [u64], answers: &mut [u8]) -> Ran
+pub fn run_records(
+    table: &[u64],
+    faulty: u64,
+    calls: &[Call],
+    state: &mut [u64],
+    answers: &mut [u8],
+) -> Ran
     ensures answer { λ r. ⌜ r ≡ ran (now (table .entry)) faulty (bytesOf (now (calls .entry))) (length (now (state .entry))) (length (now (answers .entry))) ⌝ }
     ensures states { λ r. ⌜ now (state .exit) ≡ stateInto r (now (table .entry)) faulty (bytesOf (now (calls .entry))) (now (state .entry)) ⌝ }
     ensures bytes { λ r. ⌜ now (answers .exit) ≡ answersInto r (now (table .entry)) faulty (bytesOf (now (calls .entry))) (now (answers .entry)) ⌝ }
