@@ -1,2 +1,3 @@
-pub mod Packing
+pub mod Coincide
 pub mod Over
+pub mod Packing

@@ -1,10 +1,10 @@
 -- How a run of calls that stand packed ends: more calls than the room holds are refused as 16,388 bytes are, fewer run as their bytes.
 use Prim.Native.Nat.{ℕ, _*_, _%_, _≤_, _<_}
 use mathlib.Core.List.{List}
-use mathlib.Core.Path.{_≡_, refl, sym, ap, subst, _∙_}
+use mathlib.Core.Path.{_≡_, refl, ap, subst, _∙_}
 use native.Mathlib.Omega.{arith}
-use borrow.Author.Tests.{eq-eqb, lt-ltb}
 use lib.ListN.{length, take}
+use borrow.Author.Tests.{eq-eqb, lt-ltb}
 use Rattle.records.specs.Pack.{Ended}
 use Rattle.refusals.specs.declared.Check.the-variants.{Sound, Refused}
 use Rattle.refusals.specs.declared.Refusal as Refusal

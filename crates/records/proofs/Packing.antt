@@ -1,15 +1,15 @@
 -- The room that `pack` makes of a list of at most 4,096 calls begins with the list's bytes.
-use mathlib.Core.Path.{_≡_, refl, sym, ap, _∙_, subst}
 use Prim.Native.Nat.{ℕ, zero, suc, _+_, _*_, _≤_, _<_}
+use mathlib.Core.List.{List, [], _∷_, _++_, append-assoc}
+use mathlib.Core.Path.{_≡_, refl, sym, ap, _∙_}
 use native.Mathlib.Numerals.{add-one}
 use native.Mathlib.Omega.{arith}
-use mathlib.Core.List.{List, [], _∷_, _++_, append-assoc}
-use lib.ListN.{length, getD, set, take, replicate, length-set, length-replicate}
+use lib.ListN.{length, getD, set, take, length-set, length-replicate}
 use lib.Seq.{take-suc-set, take-suc, take-length}
 use borrow.Author.Tests.{lt-ltb}
+use Rattle.records.specs.Pack.{bytesOf, none, stored, putAt, packTo, blank}
 use Rattle.records.specs.declared.Call.{Call}
 use Rattle.records.specs.declared.Packed.{Packed}
-use Rattle.records.specs.Pack.{bytesOf, none, stored, putAt, packTo, blank}
 
 pub packTo-zero : (cs : List Call) → packTo cs 0 ≡ blank
 unfolding packTo

@@ -1,7 +1,7 @@
 -- `records::pack` meets its contract: a walk of its MIR, by hand, with a loop over a slice of structs. Each turn reads one struct out of the slice and calls `put_call`, which is covered.
 -- All that the proof knows of `empty` and of `put_call` is that each meets its contract. The loop's variant is t, the calls that are left: the invariant `At (n - t)` says that the first n - t calls are put.
 use mathlib.Core.Path.{_≡_, refl, sym, ap, subst, _∙_}
-use Prim.Native.Nat.{ℕ, suc, _+_, _-_, _*_, _<_, _≤_, _^_}
+use Prim.Native.Nat.{ℕ, suc, _+_, _-_, _*_, _<_, _^_}
 use native.Mathlib.Omega.{arith}
 use native.Mathlib.Numerals.{add-one}
 use mathlib.Core.Bool.{Bool, true, false}
@@ -25,7 +25,7 @@ use types.Kit.{Given, Item, Sq, runs, anyQ, atRet, prop, ‵, raw, _⊛_, ⋆, s
 use types.Part.{whole, sub, look-in}
 use types.Run.{look, look-raw, store, init, forget, stop, hop, fld, from, load, lit, of-opd, bin, and-then, no-more, assigns, assigns-last, land, first, blocks, stays, leaves-loop, exec, Below, again, loops, returns, enter, alloc1, alloc0, params1, pass1, pass0, free1, free0}
 use types.Share.{arr-parts}
-use sound.WpLaws.{FmC, fmOf, WpFn-mono}
+use sound.WpLaws.{fmOf, WpFn-mono}
 use denote.RattleType.{owns}
 use denote.Laws.{Is, shows}
 use denote.Memory.{pointee, shares}

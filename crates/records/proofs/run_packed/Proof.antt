@@ -1,9 +1,9 @@
 -- `run_packed` meets its contract: too many calls are refused as 16,388 bytes are, others run as the bytes in front of the room.
 use mathlib.Core.Path.{_≡_, sym, _∙_}
 use native.Mathlib.Omega.{arith}
+use lib.ListN.{length, length-take}
 use borrow.Author.Needs.{needs}
 use denote.Ref.{now}
-use lib.ListN.{length, length-take}
 use Rattle.records.proofs.Over.{long-unsound, over-refused, held-ends}
 use Rattle.records.proofs.run_packed.Statement.{statement}
 use Rattle.records.proofs.run_packed.Tie as tie
