@@ -1,3 +1,3 @@
 pub mod Coincide
-pub mod Over
+pub mod Ended
 pub mod Packing

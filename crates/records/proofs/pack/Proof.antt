@@ -1,5 +1,5 @@
--- `records::pack` meets its contract: a walk of its MIR, by hand, with a loop over a slice of structs. Each turn reads one struct out of the slice and calls `put_call`, which is covered.
--- All that the proof knows of `empty` and of `put_call` is that each meets its contract. The loop's variant is t, the calls that are left: the invariant `At (n - t)` says that the first n - t calls are put.
+-- `pack` meets its contract: a walk by hand. Each turn of the loop reads one call and puts it in its place; the invariant `At (n - t)`, where t calls are
+-- left, says that the first n - t calls are put.
 use mathlib.Core.Path.{_≡_, refl, sym, ap, subst, _∙_}
 use Prim.Native.Nat.{ℕ, suc, _+_, _-_, _*_, _<_, _^_}
 use native.Mathlib.Omega.{arith}

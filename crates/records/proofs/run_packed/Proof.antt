@@ -4,7 +4,7 @@ use native.Mathlib.Omega.{arith}
 use lib.ListN.{length, length-take}
 use borrow.Author.Needs.{needs}
 use denote.Ref.{now}
-use Rattle.records.proofs.Over.{long-unsound, over-refused, held-ends}
+use Rattle.records.proofs.Ended.{long-unsound, over-refused, held-ends}
 use Rattle.records.proofs.run_packed.Statement.{statement}
 use Rattle.records.proofs.run_packed.Tie as tie
 
