@@ -1,0 +1,64 @@
+-- How a run of calls that stand packed ends: more calls than the room holds are refused as 16,388 bytes are, fewer run as their bytes.
+use Prim.Native.Nat.{ℕ, _*_, _%_, _≤_, _<_}
+use mathlib.Core.List.{List}
+use mathlib.Core.Bool.{Bool, true, false}
+use mathlib.Core.Path.{_≡_, refl, sym, ap, subst, _∙_}
+use native.Mathlib.Omega.{arith}
+use lib.Dec.{ltb}
+use lib.ListN.{length, take, replicate, length-replicate}
+use lib.Seq.{length-take-le}
+use borrow.Author.Tests.{eq-eqb, lt-ltb, ltb-true, ltb-false}
+use Rattle.records.specs.Pack.{Ended}
+use Rattle.refusals.specs.declared.Check.the-variants.{Sound, Refused}
+use Rattle.refusals.specs.declared.Refusal as Refusal
+use Rattle.run.proofs.RunWays.{fits, ran-refused}
+use Rattle.run.specs.Run.{runCheck, misshapen, ran, stateInto, answersInto}
+use Rattle.run.specs.declared.Ran.{Ran}
+
+module _ (t : List ℕ) (F state answers : ℕ) where
+  -- all lists that are too long are refused alike: the table, 10, 17
+  long-alike : (n : ℕ) → 4096 < n → runCheck t F (4 * n) state answers ≡ runCheck t F 16388 state answers
+  unfolding runCheck misshapen
+  long-alike n l = rw (eq-eqb (4 * n % 4) 0 (omega arith), lt-ltb 16384 (4 * n) (omega arith)) refl
+
+  pub long-unsound : runCheck t F 16388 state answers ≡ Sound → ⊥
+  long-unsound e = omega (arith, fits t F 16388 state answers e .few)
+
+module _ (t : List ℕ) (F : ℕ) (bytes : List ℕ) (n : ℕ) (state answers : List ℕ) where
+  pub over-refused : (r : Refusal.Refusal) → 4096 < n → runCheck t F 16388 (length state) (length answers) ≡ Refused r →
+      Ended t F bytes n state answers (Ran.Refused r) state answers
+  over-refused r l e = record {
+    answer = λ list h w. ran-refused t F list state answers r (alike list h) .0;
+    states = λ list h w. ran-refused t F list state answers r (alike list h) .1;
+    answered = λ list h w. ran-refused t F list state answers r (alike list h) .2;
+  }
+    where
+      alike : (list : List ℕ) → length list ≡ 4 * n → runCheck t F (length list) (length state) (length answers) ≡ Refused r
+      alike list h = ap (λ (k : ℕ). runCheck t F k (length state) (length answers)) h ∙ long-alike t F (length state) (length answers) n l ∙ e
+
+  pub held-ends : (r : Ran) (state′ answers′ : List ℕ) → n ≤ 4096 → r ≡ ran t F (take (4 * n) bytes) (length state) (length answers) →
+      state′ ≡ stateInto r t F (take (4 * n) bytes) state → answers′ ≡ answersInto r t F (take (4 * n) bytes) answers →
+      Ended t F bytes n state answers r state′ answers′
+  held-ends r state′ answers′ l a s b = record {
+    answer = λ list h w. subst (λ (x : List ℕ). r ≡ ran t F x (length state) (length answers)) (w l) a;
+    states = λ list h w. subst (λ (x : List ℕ). state′ ≡ stateInto r t F x state) (w l) s;
+    answered = λ list h w. subst (λ (x : List ℕ). answers′ ≡ answersInto r t F x answers) (w l) b;
+  }
+
+  -- there is a list that `Ended` speaks of
+  listed : (y : Bool) → ltb 4096 n ≡ y → length bytes ≡ 16384 → (list : List ℕ) × ((length list ≡ 4 * n) × (n ≤ 4096 → take (4 * n) bytes ≡ list))
+  listed true e h = let l : 4096 < n = ltb-true 4096 n e in (replicate (4 * n) 0, (length-replicate (4 * n) 0, λ few. absurd (omega arith)))
+  listed false e h = let l : n ≤ 4096 = ltb-false 4096 n e in (take (4 * n) bytes, (length-take-le (4 * n) bytes (omega arith), λ few. refl))
+
+  -- so `Ended` leaves one answer and one content of each room
+  pub ended-alike : {r r₂ : Ran} {s s₂ a a₂ : List ℕ} → length bytes ≡ 16384 → Ended t F bytes n state answers r s a → Ended t F bytes n state answers r₂ s₂ a₂ →
+      (r ≡ r₂) × ((s ≡ s₂) × (a ≡ a₂))
+  ended-alike {r} {r₂} h p q =
+      let w = listed (ltb 4096 n) refl h in
+      let e = p .answer (w .0) (w .1 .0) (w .1 .1) ∙ sym (q .answer (w .0) (w .1 .0) (w .1 .1)) in (
+        e,
+        (
+          p .states (w .0) (w .1 .0) (w .1 .1) ∙ ap (λ (x : Ran). stateInto x t F (w .0) state) e ∙ sym (q .states (w .0) (w .1 .0) (w .1 .1)),
+          p .answered (w .0) (w .1 .0) (w .1 .1) ∙ ap (λ (x : Ran). answersInto x t F (w .0) answers) e ∙ sym (q .answered (w .0) (w .1 .0) (w .1 .1)),
+        ),
+      )

@@ -1,0 +1,94 @@
+-- The room that `pack` makes of a list of at most 4,096 calls begins with the list's bytes.
+use Prim.Native.Nat.{ℕ, zero, suc, _+_, _*_, _≤_, _<_}
+use mathlib.Core.List.{List, [], _∷_, _++_, append-assoc}
+use mathlib.Core.Path.{_≡_, refl, sym, ap, _∙_}
+use native.Mathlib.Numerals.{add-one}
+use native.Mathlib.Omega.{arith}
+use lib.ListN.{length, getD, set, take, length-set, length-replicate}
+use lib.Seq.{take-suc-set, take-suc, take-length}
+use borrow.Author.Tests.{lt-ltb}
+use Rattle.records.specs.Pack.{bytesOf, none, stored, putAt, packTo, blank}
+use Rattle.records.specs.declared.Call.{Call}
+use Rattle.records.specs.declared.Packed.{Packed}
+
+pub packTo-zero : (cs : List Call) → packTo cs 0 ≡ blank
+unfolding packTo
+packTo-zero cs = refl
+
+pub packTo-suc : (cs : List Call) (n : ℕ) → packTo cs (suc n) ≡ putAt (packTo cs n) n (getD cs n none)
+unfolding packTo
+packTo-suc cs n = refl
+
+-- one call more at the end is its four bytes more
+bytesOf-snoc : (cs : List Call) (c : Call) → bytesOf (cs ++ (c ∷ [])) ≡ bytesOf cs ++ (c .kind ∷ c .from ∷ c .to ∷ c .side ∷ [])
+unfolding bytesOf
+bytesOf-snoc [] c = refl
+bytesOf-snoc (x ∷ cs) c = ap (λ (l : List ℕ). x .kind ∷ x .from ∷ x .to ∷ x .side ∷ l) (bytesOf-snoc cs c)
+
+-- four bytes a call
+pub bytesOf-length : (cs : List Call) → length (bytesOf cs) ≡ 4 * length cs
+unfolding bytesOf
+bytesOf-length [] = refl
+bytesOf-length (c ∷ cs) = let e : length (bytesOf cs) ≡ 4 * length cs = bytesOf-length cs in omega arith
+
+-- the bytes of one call
+abbrev four : Call → List ℕ
+four c = c .kind ∷ c .from ∷ c .to ∷ c .side ∷ []
+
+-- what four stores leave of the first 4 * i + 4 bytes
+stored-take : (b : List ℕ) (i : ℕ) (c : Call) → 4 * i + 3 < length b → take (4 * suc i) (stored b i c) ≡ take (4 * i) b ++ four c
+stored-take b i c h =
+    ap (λ (k : ℕ). take k (stored b i c)) four-more
+    ∙ take-suc-set b3 (4 * i + 3) (c .side) (simp length-set h)
+    ∙ ap (λ (l : List ℕ). l ++ (c .side ∷ [])) (
+    ap (λ (k : ℕ). take k b3) (one-more (4 * i + 2) (4 * i + 3) (omega arith)) ∙ take-suc-set b2 (4 * i + 2) (c .to) (simp length-set (omega arith)) ∙ ap (λ (l : List ℕ). l ++ (c .to ∷ [])) (
+    ap (λ (k : ℕ). take k b2) (one-more (4 * i + 1) (4 * i + 2) (omega arith)) ∙ take-suc-set b1 (4 * i + 1) (c .from) (simp length-set (omega arith)) ∙ ap (λ (l : List ℕ). l ++ (c .from ∷ [])) (
+    ap (λ (k : ℕ). take k b1) (one-more (4 * i) (4 * i + 1) (omega arith)) ∙ take-suc-set b (4 * i) (c .kind) (omega arith))))
+    ∙ simp append-assoc
+  where
+    b1 : List ℕ
+    b1 = set b (4 * i) (c .kind)
+
+    b2 : List ℕ
+    b2 = set b1 (4 * i + 1) (c .from)
+
+    b3 : List ℕ
+    b3 = set b2 (4 * i + 2) (c .to)
+
+    one-more : (a k : ℕ) → k ≡ a + 1 → k ≡ suc a
+    one-more a k e = e ∙ add-one a
+
+    four-more : 4 * suc i ≡ suc (4 * i + 3)
+    four-more = omega arith
+
+stored-length : (b : List ℕ) (i : ℕ) (c : Call) → length (stored b i c) ≡ length b
+stored-length b i c = simp length-set
+
+bytes-none : bytesOf [] ≡ []
+unfolding bytesOf
+bytes-none = refl
+
+module _ (cs : List Call) where
+  abbrev bs : ℕ → List ℕ
+  bs i = packTo cs i .bytes
+
+  packed-step : (i : ℕ) → i < 4096 → bs (suc i) ≡ stored (bs i) i (getD cs i none)
+  unfolding putAt
+  packed-step i h = ap (λ (p : Packed). p .bytes) (packTo-suc cs i) ∙ simp (lt-ltb i 4096 h)
+
+  packed-length : (i : ℕ) → i ≤ 4096 → length (bs i) ≡ 16384
+  unfolding blank
+  packed-length zero h = ap (λ (p : Packed). length (p .bytes)) (packTo-zero cs) ∙ length-replicate {A = ℕ} 16384 0
+  packed-length (suc i) h = ap length (packed-step i h) ∙ stored-length (bs i) i (getD cs i none) ∙ packed-length i (omega arith)
+
+  packed-take : (i : ℕ) → i ≤ 4096 → i ≤ length cs → take (4 * i) (bs i) ≡ bytesOf (take i cs)
+  packed-take zero h l = sym bytes-none
+  packed-take (suc i) h l =
+      ap (λ (b : List ℕ). take (4 * suc i) b) (packed-step i h)
+      ∙ stored-take (bs i) i (getD cs i none) (let e : length (bs i) ≡ 16384 = packed-length i (omega arith) in omega arith)
+      ∙ ap (λ (b : List ℕ). b ++ four (getD cs i none)) (packed-take i (omega arith) (omega arith))
+      ∙ sym (bytesOf-snoc (take i cs) (getD cs i none))
+      ∙ ap bytesOf (sym (take-suc cs i none l))
+
+  pub packed : length cs ≤ 4096 → take (4 * length cs) (bs (length cs)) ≡ bytesOf cs
+  packed h = packed-take (length cs) h (omega arith) ∙ ap bytesOf (take-length cs)
