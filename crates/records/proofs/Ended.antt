@@ -1,13 +1,10 @@
 -- How a run of calls that stand packed ends: more calls than the room holds are refused as 16,388 bytes are, fewer run as their bytes.
 use Prim.Native.Nat.{ℕ, _*_, _%_, _≤_, _<_}
 use mathlib.Core.List.{List}
-use mathlib.Core.Bool.{Bool, true, false}
-use mathlib.Core.Path.{_≡_, refl, sym, ap, subst, _∙_}
+use mathlib.Core.Path.{_≡_, refl, ap, subst, _∙_}
 use native.Mathlib.Omega.{arith}
-use lib.Dec.{ltb}
-use lib.ListN.{length, take, replicate, length-replicate}
-use lib.Seq.{length-take-le}
-use borrow.Author.Tests.{eq-eqb, lt-ltb, ltb-true, ltb-false}
+use lib.ListN.{length, take}
+use borrow.Author.Tests.{eq-eqb, lt-ltb}
 use Rattle.records.specs.Pack.{Ended}
 use Rattle.refusals.specs.declared.Check.the-variants.{Sound, Refused}
 use Rattle.refusals.specs.declared.Refusal as Refusal
@@ -44,21 +41,3 @@ module _ (t : List ℕ) (F : ℕ) (bytes : List ℕ) (n : ℕ) (state answers : 
     states = λ list h w. subst (λ (x : List ℕ). state′ ≡ stateInto r t F x state) (w l) s;
     answered = λ list h w. subst (λ (x : List ℕ). answers′ ≡ answersInto r t F x answers) (w l) b;
   }
-
-  -- there is a list that `Ended` speaks of
-  listed : (y : Bool) → ltb 4096 n ≡ y → length bytes ≡ 16384 → (list : List ℕ) × ((length list ≡ 4 * n) × (n ≤ 4096 → take (4 * n) bytes ≡ list))
-  listed true e h = let l : 4096 < n = ltb-true 4096 n e in (replicate (4 * n) 0, (length-replicate (4 * n) 0, λ few. absurd (omega arith)))
-  listed false e h = let l : n ≤ 4096 = ltb-false 4096 n e in (take (4 * n) bytes, (length-take-le (4 * n) bytes (omega arith), λ few. refl))
-
-  -- so `Ended` leaves one answer and one content of each room
-  pub ended-alike : {r r₂ : Ran} {s s₂ a a₂ : List ℕ} → length bytes ≡ 16384 → Ended t F bytes n state answers r s a → Ended t F bytes n state answers r₂ s₂ a₂ →
-      (r ≡ r₂) × ((s ≡ s₂) × (a ≡ a₂))
-  ended-alike {r} {r₂} h p q =
-      let w = listed (ltb 4096 n) refl h in
-      let e = p .answer (w .0) (w .1 .0) (w .1 .1) ∙ sym (q .answer (w .0) (w .1 .0) (w .1 .1)) in (
-        e,
-        (
-          p .states (w .0) (w .1 .0) (w .1 .1) ∙ ap (λ (x : Ran). stateInto x t F (w .0) state) e ∙ sym (q .states (w .0) (w .1 .0) (w .1 .1)),
-          p .answered (w .0) (w .1 .0) (w .1 .1) ∙ ap (λ (x : Ran). answersInto x t F (w .0) answers) e ∙ sym (q .answered (w .0) (w .1 .0) (w .1 .1)),
-        ),
-      )

@@ -18,8 +18,8 @@ pub struct Call {
 }
 
 // Room for 4,096 calls, four bytes a call.
-pub struct Packed {
-    pub bytes: [u8; 16384],
+struct Packed {
+    bytes: [u8; 16384],
 }
 
 fn empty() -> Packed
@@ -48,7 +48,7 @@ fn put_call(p: Packed, i: usize, c: Call) -> Packed
 }
 
 // The calls as bytes, as far as the room goes.
-pub fn pack(calls: &[Call]) -> Packed
+fn pack(calls: &[Call]) -> Packed
     ensures { λ r. ⌜ r ≡ packTo (now (calls .entry)) (length (now (calls .entry))) ⌝ }
 {
     let mut p = empty();
@@ -61,7 +61,7 @@ pub fn pack(calls: &[Call]) -> Packed
 }
 
 // The run of n calls that stand packed. A list of more than 4,096 calls is refused as one of 16,388 bytes is.
-pub fn run_packed(
+fn run_packed(
     table: &[u64],
     faulty: u64,
     p: Packed,
