@@ -1,12 +1,12 @@
 -- The promises that the voting rests on: kept by any table that is lawful, and so by every checked table.
 use Prim.Native.Nat.{ℕ}
 use mathlib.Core.Bool.{true}
-use mathlib.Core.Path.{_≡_, subst}
+use mathlib.Core.Path.{_≡_, refl, subst}
 use lib.Bits.{and-zero-r}
 use Rattle.ground.proofs.Logic.{is-false}
 use Rattle.masks.proofs.Laws.Apart.{apart-⊆}
 use Rattle.masks.proofs.Laws.Subsets.{mem, ⊆-refl, not-in-zero}
-use Rattle.masks.specs.Mask.{_∈_, _⊆_}
+use Rattle.masks.specs.Mask.{has, _∈_, _⊆_}
 use Rattle.sets.specs.Decides.{TablePromises}
 use Rattle.sets.specs.Paper.{Fbqs, Quorum}
 use Rattle.sets.specs.Promises.{Promises, questionsOf}
@@ -48,3 +48,13 @@ module _ {S : Fbqs} {r : Slices} {n : ℕ} (lawful : Lawful S r n) where
 -- of a checked table
 pub table-promises : TablePromises
 table-promises t n table = promises (table-lawful table)
+
+-- what the code asks is what the questions say
+module _ (r : Slices) (n v w : ℕ) where
+  pub quorum-asked : has (largest (r .inside) n w) v ≡ questionsOf r n .inQuorum v w
+  unfolding questionsOf
+  quorum-asked = refl
+
+  pub blocked-asked : r .blocked v w ≡ questionsOf r n .blocked v w
+  unfolding questionsOf
+  blocked-asked = refl

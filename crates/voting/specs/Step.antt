@@ -22,7 +22,7 @@ questions t = questionsOf (slicesOf t) (sites (length t))
 
 -- table, 10 ("a set names a site at or above n"), 18
 unfoldable pub soundCheck : List ℕ → ℕ → List ℕ → Check
-unfolding check questionsOf unsound
+unfolding check unsound
 soundCheck t F s =
     orElse (check t)
     (orElse (refuse (not (within F (allBelow (sites (length t))))) Set)

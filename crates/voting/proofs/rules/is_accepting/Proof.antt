@@ -2,6 +2,7 @@
 use mathlib.Core.Path.{sym, _∙_}
 use borrow.Author.Needs.{needs}
 use denote.Ref.{now}
+use Rattle.sets.proofs.Promises.{blocked-asked}
 use Rattle.sets.specs.Promises.{questionsOf}
 use Rattle.sets.specs.Slices.{slicesOf}
 use Rattle.voting.proofs.StepWays.{accepts-by-quorum, accepts-by-blocking}
@@ -15,12 +16,12 @@ returns c =
     (c .before .before .minus .ensures) (sym (c .before .in-quorum .ensures) ∙ c .if1 .taken)
 
 returns-2 : tie.Need-returns-2
-unfolding questionsOf
 returns-2 c =
     let a = c .before .before .before .before .before .before .args in
     accepts-by-blocking (questionsOf (slicesOf (now (a .table))) (a .n)) (a .v) (a .votes) (a .accepts)
     (c .before .before .before .before .single .ensures) (c .before .before .before .minus .ensures)
-    (sym (c .before .before .in-quorum .ensures) ∙ c .before .if1 .left) (c .blocks2 .ensures)
+    (sym (c .before .before .in-quorum .ensures) ∙ c .before .if1 .left)
+    (c .blocks2 .ensures ∙ blocked-asked (slicesOf (now (a .table))) (a .n) (a .v) (c .before .before .before .minus .result))
 
 pub is-accepting-spec : {M : Type 1} → statement M
 is-accepting-spec =
