@@ -6,7 +6,7 @@ use mathlib.Core.Path.{_≡_, refl, sym, ap, ap₂, _∙_}
 use lib.Dec.{ltb}
 use borrow.Author.Tests.{eq-eqb, ne-eqb, lt-ltb, le-ltb}
 use Rattle.masks.specs.Mask.{within, allBelow}
-use Rattle.questions.specs.Answers.{sitesOf, setCheck, siteCheck, verdictCheck, quorum, largest, blocks, shared, intact}
+use Rattle.questions.specs.Answers.{sitesOf, siteCheck, verdictCheck, quorum, largest, blocks, shared, intact}
 use Rattle.questions.specs.declared.Greatest.{Greatest}
 use Rattle.questions.specs.declared.Holds.{Holds}
 use Rattle.questions.specs.declared.Sharing.{Sharing}
@@ -21,26 +21,9 @@ use Rattle.sets.specs.Quorum as Quorum
 use Rattle.sets.specs.Slices.{slicesOf}
 use Rattle.sets.specs.Verdicts as Verdicts
 use Rattle.table.proofs.Exact.{checked}
-use Rattle.table.specs.Table.{check, Table}
+use Rattle.table.specs.Table.{check, setCheck}
 
 module _ (t : List ℕ) (set : ℕ) where
-  -- the table, then 10
-  pub set-refused : (r : Refusal) → check t ≡ Refused r → setCheck t set ≡ Refused r
-  unfolding setCheck
-  set-refused r e = rw e refl
-
-  pub set-outside : check t ≡ Sound → within set (allBelow (sitesOf t)) ≡ false → setCheck t set ≡ Refused Set
-  unfolding setCheck
-  set-outside e f = rw (e, f) refl
-
-  pub set-sound : check t ≡ Sound → within set (allBelow (sitesOf t)) ≡ true → setCheck t set ≡ Sound
-  unfolding setCheck
-  set-sound e f = rw (e, f) refl
-
-  pub set-table : setCheck t set ≡ Sound → Table t (sitesOf t)
-  unfolding setCheck
-  set-table e = checked t (orElse-sound (check t) _ e .0)
-
   -- is the set a quorum
   pub quorum-refused : (r : Refusal) → setCheck t set ≡ Refused r → Holds.Refused r ≡ quorum t set
   unfolding quorum

@@ -4,7 +4,6 @@ use mathlib.Core.Bool.{Bool, true, false, not}
 use mathlib.Core.List.{List}
 use lib.Dec.{ltb}
 use lib.ListN.{length}
-use Rattle.masks.specs.Mask.{within, allBelow}
 use Rattle.questions.specs.declared.Greatest.{Greatest}
 use Rattle.questions.specs.declared.Holds.{Holds}
 use Rattle.questions.specs.declared.Holds.the-variants.{Yes, No}
@@ -15,22 +14,17 @@ use Rattle.questions.specs.declared.Standing.the-variants.{Intact}
 use Rattle.refusals.specs.First.{orElse, refuse}
 use Rattle.refusals.specs.declared.Check.{Check}
 use Rattle.refusals.specs.declared.Check.the-variants.{Sound}
-use Rattle.refusals.specs.declared.Refusal.the-variants.{Set, Range, Large}
+use Rattle.refusals.specs.declared.Refusal.the-variants.{Range, Large}
 use Rattle.sets.specs.Quorum as Quorum
 use Rattle.sets.specs.Slices.{slicesOf}
 use Rattle.sets.specs.Verdicts as Verdicts
-use Rattle.table.specs.Table.{sites, check}
+use Rattle.table.specs.Table.{sites, check, setCheck}
 
 -- the number of sites of a table
 abbrev pub sitesOf : List ℕ → ℕ
 sitesOf t = sites (length t)
 
--- the table, then 10: "a set names a site at or above n"
-unfoldable pub setCheck : List ℕ → ℕ → Check
-unfolding check
-setCheck t set = orElse (check t) (refuse (not (within set (allBelow (sitesOf t)))) Set)
-
--- then 11: "site at or above n"
+-- the table, 10, then 11: "site at or above n"
 unfoldable pub siteCheck : List ℕ → ℕ → ℕ → Check
 unfolding setCheck
 siteCheck t set site = orElse (setCheck t set) (refuse (not (ltb site (sitesOf t))) Range)

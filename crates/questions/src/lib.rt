@@ -1,6 +1,6 @@
 // The set questions as public calls: each checks table, set and site itself, in the order table, 10, 11, 16.
 ghost use mathlib.Core.Path.{_≡_};
-ghost use Rattle.questions.specs.Answers.{setCheck, quorum, largest, blocks, shared, intact};
+ghost use Rattle.questions.specs.Answers.{quorum, largest, blocks, shared, intact};
 use refusals::Check;
 use refusals::Refusal;
 
@@ -30,26 +30,11 @@ pub enum Standing {
     Refused(Refusal),
 }
 
-// The table, then 10: the set names no site at or above n.
-fn check_set(table: &[u64], set: u64) -> Check
-    ensures { λ r. ⌜ r ≡ setCheck (now (table .entry)) set ⌝ }
-{
-    let q = table::check(table);
-    let Check::Sound = q else {
-        return q;
-    };
-    let n = table.len() / 63;
-    if masks::within(set, masks::all_below(n as u64)) {
-        return Check::Sound;
-    }
-    Check::Refused(Refusal::Set)
-}
-
 // Is the set a quorum?
 pub fn quorum(table: &[u64], set: u64) -> Holds
     ensures { λ r. ⌜ r ≡ quorum (now (table .entry)) set ⌝ }
 {
-    let q = check_set(table, set);
+    let q = table::check_set(table, set);
     if let Check::Refused(r) = q {
         return Holds::Refused(r);
     }
@@ -64,7 +49,7 @@ pub fn quorum(table: &[u64], set: u64) -> Holds
 pub fn largest(table: &[u64], set: u64) -> Greatest
     ensures { λ r. ⌜ r ≡ largest (now (table .entry)) set ⌝ }
 {
-    let q = check_set(table, set);
+    let q = table::check_set(table, set);
     if let Check::Refused(r) = q {
         return Greatest::Refused(r);
     }
@@ -80,7 +65,7 @@ pub fn largest(table: &[u64], set: u64) -> Greatest
 pub fn blocks(table: &[u64], set: u64, site: u64) -> Holds
     ensures { λ r. ⌜ r ≡ blocks (now (table .entry)) set site ⌝ }
 {
-    let q = check_set(table, set);
+    let q = table::check_set(table, set);
     if let Check::Refused(r) = q {
         return Holds::Refused(r);
     }
@@ -121,7 +106,7 @@ pub fn shared(table: &[u64]) -> Sharing
 pub fn intact(table: &[u64], faulty: u64) -> Standing
     ensures { λ r. ⌜ r ≡ intact (now (table .entry)) faulty ⌝ }
 {
-    let q = check_set(table, faulty);
+    let q = table::check_set(table, faulty);
     if let Check::Refused(r) = q {
         return Standing::Refused(r);
     }

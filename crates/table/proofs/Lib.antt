@@ -2,4 +2,5 @@ pub mod Examples
 pub mod Row
 pub mod Table
 pub mod Exact
+pub mod SetCheck
 pub mod Coincide

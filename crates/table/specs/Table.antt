@@ -7,10 +7,10 @@ use lib.Dec.{eqb, ltb}
 use lib.ListN.{length, getD}
 use Rattle.ground.specs.Pieces.{part}
 use Rattle.ground.specs.Search.{some}
-use Rattle.masks.specs.Mask.{allBelow, _∈_, _⊆_}
+use Rattle.masks.specs.Mask.{within, allBelow, _∈_, _⊆_}
 use Rattle.refusals.specs.First.{orElse, refuse, first}
 use Rattle.refusals.specs.declared.Check.{Check}
-use Rattle.refusals.specs.declared.Refusal.the-variants.{Length}
+use Rattle.refusals.specs.declared.Refusal.the-variants.{Length, Set}
 use Rattle.table.specs.Row.{rowCheck}
 
 -- of the 63 numbers of a site: the count of its slices, and place i
@@ -57,6 +57,11 @@ sitesCheck n t = first (λ v. siteCheck n v (siteOf t v)) n
 unfoldable pub check : List ℕ → Check
 unfolding misshapen sitesCheck
 check t = orElse (refuse (misshapen (length t)) Length) (sitesCheck (sites (length t)) t)
+
+-- the table, then 10: "a set names a site at or above n"
+unfoldable pub setCheck : List ℕ → ℕ → Check
+unfolding check
+setCheck t set = orElse (check t) (refuse (not (within set (allBelow (sites (length t))))) Set)
 
 -- What a sound table promises: "A table has n sites, 1 to 64. Each site has 1 to 62 slices. Every slice contains its owner and names no site at
 -- or above n; a site's slices ascend strictly as numbers", and unused places are zero.

@@ -3,9 +3,10 @@ use mathlib.Core.Path.{_≡_, sym, _∙_}
 use native.Mathlib.Omega.{arith}
 use borrow.Author.Needs.{needs}
 use denote.Ref.{now}
-use Rattle.questions.proofs.Answers.{set-table, intact-refused, intact-large, intact-is}
+use Rattle.questions.proofs.Answers.{intact-refused, intact-large, intact-is}
 use Rattle.questions.proofs.intact.Statement.{statement}
 use Rattle.questions.proofs.intact.Tie as tie
+use Rattle.table.proofs.SetCheck.{set-table}
 
 returns : tie.Need-returns
 returns c =

@@ -3,9 +3,10 @@ use mathlib.Core.Path.{_≡_, sym, _∙_}
 use native.Mathlib.Omega.{arith}
 use borrow.Author.Needs.{needs}
 use denote.Ref.{now}
-use Rattle.questions.proofs.Answers.{set-table, largest-refused, largest-set}
+use Rattle.questions.proofs.Answers.{largest-refused, largest-set}
 use Rattle.questions.proofs.largest.Statement.{statement}
 use Rattle.questions.proofs.largest.Tie as tie
+use Rattle.table.proofs.SetCheck.{set-table}
 
 returns : tie.Need-returns
 returns c =

@@ -5,10 +5,10 @@ use native.Mathlib.Omega.{arith}
 use borrow.Author.Needs.{needs}
 use denote.Ref.{now}
 use Rattle.masks.specs.Mask.{within}
-use Rattle.questions.proofs.Answers.{set-refused, set-outside, set-sound}
 use Rattle.table.proofs.Exact.{checked}
-use Rattle.questions.proofs.check_set.Statement.{statement}
-use Rattle.questions.proofs.check_set.Tie as tie
+use Rattle.table.proofs.SetCheck.{set-refused, set-outside, set-sound}
+use Rattle.table.proofs.check_set.Statement.{statement}
+use Rattle.table.proofs.check_set.Tie as tie
 
 returns : tie.Need-returns
 returns c =
