@@ -1,6 +1,6 @@
 -- Laws of `alike`: it says true exactly of equal lists.
 use Prim.Native.Nat.{ℕ}
-use mathlib.Core.Bool.{true, false, not, false≢true}
+use mathlib.Core.Bool.{true, false, false≢true}
 use mathlib.Core.List.{List, [], _∷_}
 use mathlib.Core.Path.{_≡_, refl, ap₂, subst}
 use lib.Dec.{eqb}

@@ -1,26 +1,20 @@
 -- Laws of the public answers: one for each way out of a question.
 use Prim.Native.Nat.{ℕ, _^_, _≤_, _<_}
-use mathlib.Core.Bool.{Bool, true, false, not}
+use mathlib.Core.Bool.{true, false}
 use mathlib.Core.List.{List}
-use mathlib.Core.Path.{_≡_, refl, sym, ap, ap₂, _∙_}
-use lib.Dec.{ltb}
+use mathlib.Core.Path.{_≡_, refl, ap, ap₂, _∙_}
 use borrow.Author.Tests.{eq-eqb, ne-eqb, lt-ltb, le-ltb}
-use Rattle.masks.specs.Mask.{within, allBelow}
-use Rattle.questions.specs.Answers.{sitesOf, siteCheck, verdictCheck, quorum, largest, blocks, shared, intact}
+use Rattle.questions.specs.Answers.{sitesOf, siteCheck, quorum, largest, blocks, shared, intact}
 use Rattle.questions.specs.declared.Greatest.{Greatest}
 use Rattle.questions.specs.declared.Holds.{Holds}
 use Rattle.questions.specs.declared.Sharing.{Sharing}
 use Rattle.questions.specs.declared.Standing.{Standing}
-use Rattle.refusals.proofs.First.{orElse-sound}
-use Rattle.refusals.specs.First.{orElse, refuse}
-use Rattle.refusals.specs.declared.Check.{Check}
 use Rattle.refusals.specs.declared.Check.the-variants.{Sound, Refused}
 use Rattle.refusals.specs.declared.Refusal.{Refusal}
 use Rattle.refusals.specs.declared.Refusal.the-variants.{Set, Range, Large}
 use Rattle.sets.specs.Quorum as Quorum
 use Rattle.sets.specs.Slices.{slicesOf}
 use Rattle.sets.specs.Verdicts as Verdicts
-use Rattle.table.proofs.Exact.{checked}
 use Rattle.table.specs.Table.{check, setCheck}
 
 module _ (t : List ℕ) (set : ℕ) where

@@ -1,7 +1,7 @@
 // The run of a list of calls given as records: the same run, over a lent slice of call structs.
 ghost use mathlib.Core.Path.{_≡_};
-ghost use Prim.Native.Nat.{_*_, _≤_};
-ghost use lib.ListN.{length, take};
+ghost use Prim.Native.Nat.{_*_};
+ghost use lib.ListN.{length};
 ghost use Rattle.run.specs.Run.{ran, stateInto, answersInto};
 ghost use Rattle.records.specs.Pack.{bytesOf, blank, putAt, packTo, Ended};
 use refusals::Check;

@@ -51,6 +51,11 @@ unfolding first
 first-sound f zero h = refl
 first-sound f (suc n) h = rw (first-sound f n (λ i l. h i (omega arith))) (h n (omega arith))
 
+-- a test that did not refuse
+pub kept : (p : Bool) (r : Refusal) → refuse p r ≡ Sound → p ≡ false
+kept true r h = let z : _≡_ {A = ℕ} 0 1 = cc in absurd (omega arith)
+kept false r h = refl
+
 -- a test that refuses was passed
 pub missed : (p : Bool) (r : Refusal) (s : Check) → orElse (refuse p r) s ≡ Sound → (p ≡ false) × (s ≡ Sound)
 missed true r s h = let z : _≡_ {A = ℕ} 0 1 = cc in absurd (omega arith)

@@ -1,7 +1,7 @@
 -- Two results that meet a contract of this crate coincide: the answer, the state room and the answer room.
 use Prim.Native.Nat.{ℕ}
 use mathlib.Core.List.{List}
-use mathlib.Core.Path.{_≡_, sym, ap, _∙_}
+use mathlib.Core.Path.{sym, ap, _∙_}
 use denote.Ref.{now}
 use Rattle.ground.specs.Coincide.{Answers, All}
 use Rattle.run.specs.Run.{stateInto, answersInto}

@@ -1,14 +1,14 @@
 -- What the loops over the calls and the passes need: a flag in place of a copy of the state, and that so many changing passes and then a still one are the run.
 use mathlib.Core.Path.{_≡_, refl, sym, ap, subst, _∙_}
 use mathlib.Core.List.{List, [], _∷_}
-use mathlib.Core.Bool.{Bool, true, _&&_}
+use mathlib.Core.Bool.{Bool, true}
 use Prim.Native.Nat.{ℕ, zero, suc, _≤_, _<_}
 use native.Mathlib.Decide.{decLt}
 use native.Mathlib.Omega.{arith}
 use lib.ListN.{length}
 use Rattle.ground.proofs.Logic.{and-l, and-r, and-i}
 use Rattle.run.specs.Inner.{quiet}
-use Rattle.run.specs.Passes.{Run, pass, iter, answersOf, run}
+use Rattle.run.specs.Passes.{pass, iter, answersOf, run}
 use Rattle.run.proofs.Passes.{Spends, pass-up, Ends, run-ends, run-bound}
 
 module _ {S C : Type 0} (step : C → S → S) (same : S → S → Bool) where

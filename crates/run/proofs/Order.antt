@@ -1,10 +1,9 @@
 -- The order of the calls does not matter, nor do repeats, where no correct site is proposed both sides: the run of the voting is one of those that
 -- rise, of proofs/Passes.antt.
 use Prim.Native.Nat.{ℕ, zero, suc, _-_, _≤_, _<_}
-use mathlib.Core.Bool.{true}
 use mathlib.Core.List.{List, List·Memᴰ, Memᴰ·cast}
-use mathlib.Core.Logic.{_⊎_, inl, inr, ⊎-elim}
-use mathlib.Core.Path.{_≡_, refl, sym, subst, subst₂, _∙_}
+use mathlib.Core.Logic.{_⊎_, ⊎-elim}
+use mathlib.Core.Path.{_≡_, sym, subst, subst₂}
 use native.Mathlib.Omega.{arith}
 use lib.ListN.{length, getD}
 use Rattle.ground.proofs.Alike.{alike-eq, alike-refl}
@@ -12,12 +11,11 @@ use Rattle.ground.specs.Alike.{alike}
 use Rattle.masks.specs.Mask.{_∈_}
 use Rattle.refusals.specs.Refusal.{code}
 use Rattle.run.proofs.Passes.{Spends, Rises, run-same-state, run-same-answers, run-below, run-bound, Ends, run-ends}
-use Rattle.run.specs.Passes.{Run}
 use Rattle.run.specs.Run.{runVotes}
 use Rattle.run.specs.Theorems.{propose, OneSided, Within}
 use Rattle.sets.specs.Paper.{Fbqs}
 use Rattle.sets.specs.Promises.{Questions}
-use Rattle.voting.proofs.Answer.{Takes, takes-later, step-cases, step-taken}
+use Rattle.voting.proofs.Answer.{Takes, takes-later, step-cases}
 use Rattle.voting.proofs.Heard.{heard-grows}
 use Rattle.voting.proofs.Inner.{heard-still, still-or-heard}
 use Rattle.voting.proofs.SoundLaws.{fresh-sound}

@@ -1,6 +1,6 @@
 -- The examples of 01 that are marked P, in one list: what the definitions give beside what 01 says.
-use Prim.Native.Nat.{ℕ, _+_, _-_, _*_}
-use mathlib.Core.Bool.{Bool, true, false, _&&_, not}
+use Prim.Native.Nat.{ℕ, _+_, _-_}
+use mathlib.Core.Bool.{Bool, true, _&&_, not}
 use mathlib.Core.List.{List, [], _∷_, _++_}
 use lib.Dec.{eqb}
 use lib.ListN.{length, replicate}
@@ -8,15 +8,14 @@ use Rattle.ground.specs.Alike.{alike}
 use Rattle.ground.specs.Search.{some, every, least, those}
 use Rattle.mark.specs.Mark.{mark}
 use Rattle.masks.specs.Mask.{has, within, minus, gather}
-use Rattle.refusals.specs.First.{first}
-use Rattle.run.specs.Passes.{Run, pass, passes, run}
+use Rattle.run.specs.Passes.{pass, passes, run}
 use Rattle.run.specs.Run.{runVotes}
 use Rattle.sets.specs.Promises.{questionsOf}
 use Rattle.sets.specs.Quorum.{quorum, round, left, dropping, largest, rounds}
 use Rattle.sets.specs.Slices.{slicesOf}
 use Rattle.sets.specs.Verdicts.{beside, apart, firstApart, meets, dispensable, isIntact, intact}
 use Rattle.voting.specs.Inner.{call}
-use Rattle.voting.specs.Rules.{Call, accepting, confirming, nowAccepts, nowConfirms, hears, taken, outOfRange, crooked, against, unsent, answer, step}
+use Rattle.voting.specs.Rules.{accepting, confirming, nowAccepts, nowConfirms, hears, taken, outOfRange, crooked, against, unsent, answer, step}
 use Rattle.voting.specs.State.{accepted, confirmed, fresh, get, add}
 
 -- the 63 numbers of a site with these slices

@@ -6,7 +6,7 @@ use mathlib.Core.Path.{_≡_}
 use lib.ListN.{length, take, drop}
 use Rattle.ground.specs.Alike.{alike}
 use Rattle.refusals.specs.Refusal.{code}
-use Rattle.run.specs.Passes.{Run, pass, iter, answersOf}
+use Rattle.run.specs.Passes.{pass, iter, answersOf}
 use Rattle.run.specs.Run.{calls, runVotes}
 use Rattle.sets.specs.Promises.{Questions}
 use Rattle.voting.specs.Rules.{Call, answer, step}

@@ -1,22 +1,21 @@
 -- The run as a public call: "Run: table, 10, 17, 9"; the answer, and what the two lent rooms hold then.
-use Prim.Native.Nat.{ℕ, suc, _+_, _*_, _/_, _%_}
+use Prim.Native.Nat.{ℕ, _+_, _*_, _/_, _%_}
 use mathlib.Core.Bool.{Bool, _||_, not}
 use mathlib.Core.List.{List, [], _∷_, _++_}
 use lib.Dec.{eqb, ltb}
 use lib.ListN.{length, getD, drop}
 use Rattle.ground.specs.Alike.{alike}
-use Rattle.masks.specs.Mask.{within, allBelow}
 use Rattle.refusals.specs.First.{orElse, refuse}
 use Rattle.refusals.specs.Refusal.{code}
 use Rattle.refusals.specs.declared.Check.{Check}
 use Rattle.refusals.specs.declared.Check.the-variants.{Sound}
-use Rattle.refusals.specs.declared.Refusal.the-variants.{Room, Set}
+use Rattle.refusals.specs.declared.Refusal.the-variants.{Room}
 use Rattle.refusals.specs.declared.Refusal as Refusal
 use Rattle.run.specs.Passes.{Run, run}
 use Rattle.run.specs.declared.Ran.{Ran}
 use Rattle.run.specs.declared.Ran.the-variants.{Passes}
 use Rattle.sets.specs.Promises.{Questions}
-use Rattle.table.specs.Table.{sites, check}
+use Rattle.table.specs.Table.{sites, setCheck}
 use Rattle.voting.specs.Rules.{Call, answer, step}
 use Rattle.voting.specs.State.{size, fresh}
 use Rattle.voting.specs.Step.{questions}
@@ -46,14 +45,13 @@ misshapen length = not (eqb (length % 4) 0) || ltb 16384 length
 unfoldable pub roomless : ℕ → ℕ → ℕ → ℕ → Bool
 roomless n bytes state answers = ltb state (size n) || ltb answers (bytes / 4)
 
--- for a list of so many bytes, and rooms of so many numbers and bytes
+-- table, 10 ("a set names a site at or above n"), 17, 9, for a list of so many bytes, and rooms of so many numbers and bytes
 unfoldable pub runCheck : List ℕ → ℕ → ℕ → ℕ → ℕ → Check
-unfolding check misshapen roomless
+unfolding setCheck misshapen roomless
 runCheck t F bytes state answers =
-    orElse (check t)
-    (orElse (refuse (not (within F (allBelow (sites (length t))))) Set)
+    orElse (setCheck t F)
     (orElse (refuse (misshapen bytes) Refusal.Refusal.List)
-    (refuse (roomless (sites (length t)) bytes state answers) Room)))
+    (refuse (roomless (sites (length t)) bytes state answers) Room))
 
 -- the run of this table, faulty set and list
 abbrev pub runOf : List ℕ → ℕ → List ℕ → Run (List ℕ)

@@ -7,7 +7,6 @@ use Rattle.masks.specs.Mask.{minus, allBelow, size as count, _∈_}
 use Rattle.refusals.specs.Refusal.{code}
 use Rattle.run.specs.Passes.{Run, pass, iter, answersOf}
 use Rattle.run.specs.Run.{calls, callAt, runVotes, ran, stateInto, answersInto}
-use Rattle.run.specs.declared.Ran.{Ran}
 use Rattle.run.specs.declared.Ran.the-variants.{Passes}
 use Rattle.sets.specs.Promises.{Questions}
 use Rattle.table.specs.Table.{sites, Table}

@@ -133,14 +133,11 @@ fn run_cleared(
 pub fn check(table: &[u64], faulty: u64, bytes: usize, state: usize, answers: usize) -> Check
     ensures { λ r. ⌜ r ≡ runCheck (now (table .entry)) faulty bytes state answers ⌝ }
 {
-    let q = table::check(table);
+    let q = table::check_set(table, faulty);
     let Check::Sound = q else {
         return q;
     };
     let n = table.len() / 63;
-    if !masks::within(faulty, masks::all_below(n as u64)) {
-        return Check::Refused(Refusal::Set);
-    }
     if bytes % 4 != 0 {
         return Check::Refused(Refusal::List);
     }

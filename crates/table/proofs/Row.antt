@@ -9,17 +9,12 @@ use borrow.Author.Tests.{eq-eqb, ne-eqb, lt-ltb, le-ltb, eqb-false, ltb-true, lt
 use Rattle.ground.proofs.Logic.{or-none}
 use Rattle.masks.proofs.Laws.Subsets.{mem, within-⊆, ⊆-within}
 use Rattle.masks.specs.Mask.{has, within, allBelow, _∈_, _⊆_}
-use Rattle.refusals.proofs.First.{orElse-sound, first-all, first-sound, missed}
+use Rattle.refusals.proofs.First.{orElse-sound, first-all, first-sound, kept, missed}
 use Rattle.refusals.specs.First.{orElse, refuse, first}
 use Rattle.refusals.specs.declared.Check.the-variants.{Sound, Refused}
 use Rattle.refusals.specs.declared.Refusal.{Refusal}
 use Rattle.refusals.specs.declared.Refusal.the-variants.{Count, Slice, Order, Filler}
 use Rattle.table.specs.Row.{strange, unordered, sliceCheck, rowCheck}
-
--- a test that did not refuse
-kept : (p : Bool) (r : Refusal) → refuse p r ≡ Sound → p ≡ false
-kept true r h = let z : _≡_ {A = ℕ} 0 1 = cc in absurd (omega arith)
-kept false r h = refl
 
 pred-suc : (i : ℕ) → suc i - 1 ≡ i
 pred-suc i = omega arith

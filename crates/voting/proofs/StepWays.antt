@@ -1,23 +1,22 @@
 -- Laws of the ways through the code: each rule and each change of the state as the functions compute them, and the ways out of the public calls.
 use Prim.Native.Nat.{ℕ}
-use mathlib.Core.Bool.{Bool, true, false, _||_, not}
+use mathlib.Core.Bool.{Bool, true, false, _||_}
 use mathlib.Core.List.{List}
 use mathlib.Core.Path.{_≡_, refl, sym, ap, ap₂, _∙_, subst}
 use lib.Bits.{bitOr}
 use lib.ListN.{length}
-use borrow.Author.Tests.{not-true, not-false}
 use Rattle.masks.proofs.Laws.AllBelow.{in-all}
-use Rattle.masks.specs.Mask.{single, within, minus, allBelow}
-use Rattle.refusals.proofs.First.{orElse-sound, missed}
+use Rattle.masks.specs.Mask.{single, minus}
+use Rattle.refusals.proofs.First.{orElse-sound, kept}
 use Rattle.refusals.specs.First.{refuse}
 use Rattle.refusals.specs.declared.Check.{Check}
 use Rattle.refusals.specs.declared.Refusal.{Refusal}
-use Rattle.refusals.specs.declared.Refusal.the-variants.{Set, Unsound}
+use Rattle.refusals.specs.declared.Refusal.the-variants.{Unsound}
 use Rattle.sets.proofs.Promises.{table-promises}
 use Rattle.sets.specs.Promises.{Questions, questionsOf}
 use Rattle.sets.specs.Slices.{fbqsOf, slicesOf}
-use Rattle.table.proofs.Exact.{checked}
-use Rattle.table.specs.Table.{Table, sites, check}
+use Rattle.table.proofs.SetCheck.{set-table}
+use Rattle.table.specs.Table.{Table, sites, setCheck}
 use Rattle.voting.specs.Inner.{call, Works}
 use Rattle.voting.specs.Rules.{Call, only, others, accepting, confirming, nowAccepts, nowConfirms, hears, taken}
 use Rattle.voting.specs.Sound.{Sound, unsound}
@@ -88,27 +87,19 @@ unfolding taken
 taken-way Q n c s e₁ e₂ e₃ = e₃ ∙ ap (nowConfirms Q n (c .to) (c .side)) (e₂ ∙ ap (nowAccepts Q n (c .to) (c .side)) e₁)
 
 -- the soundness of a state: table, 10, 18
-module _ (t : List ℕ) (F : ℕ) (s : List ℕ) {q : Check} (eq : q ≡ check t) where
-  pub table-refused : {r : Refusal} → q ≡ Check.Refused r → q ≡ soundCheck t F s
+module _ (t : List ℕ) (F : ℕ) (s : List ℕ) {q : Check} (eq : q ≡ setCheck t F) where
+  pub set-refused : {r : Refusal} → q ≡ Check.Refused r → q ≡ soundCheck t F s
   unfolding soundCheck
-  table-refused e = e ∙ sym (rw (sym eq ∙ e) refl)
+  set-refused e = e ∙ sym (rw (sym eq ∙ e) refl)
 
-  module _ (e : q ≡ Check.Sound) {m : ℕ} {inside : Bool} (em : m ≡ allBelow (sites (length t))) (ei : inside ≡ within F m) where
-    among : within F (allBelow (sites (length t))) ≡ inside
-    among = ap (within F) (sym em) ∙ sym ei
-
-    pub set-refused : not inside ≡ true → Check.Refused Set ≡ soundCheck t F s
+  module _ (e : q ≡ Check.Sound) {bad : Bool} (eb : bad ≡ unsound (questions t) (sites (length t)) F s) where
+    pub state-refused : bad ≡ true → Check.Refused Unsound ≡ soundCheck t F s
     unfolding soundCheck
-    set-refused f = sym (rw (sym eq ∙ e, among ∙ not-true inside f) refl)
+    state-refused u = sym (rw (sym eq ∙ e, sym eb ∙ u) refl)
 
-    module _ (f : not inside ≡ false) {bad : Bool} (eb : bad ≡ unsound (questions t) (sites (length t)) F s) where
-      pub state-refused : bad ≡ true → Check.Refused Unsound ≡ soundCheck t F s
-      unfolding soundCheck
-      state-refused u = sym (rw (sym eq ∙ e, among ∙ not-false inside f, sym eb ∙ u) refl)
-
-      pub state-sound : bad ≡ false → Check.Sound ≡ soundCheck t F s
-      unfolding soundCheck
-      state-sound u = sym (rw (sym eq ∙ e, among ∙ not-false inside f, sym eb ∙ u) refl)
+    pub state-sound : bad ≡ false → Check.Sound ≡ soundCheck t F s
+    unfolding soundCheck
+    state-sound u = sym (rw (sym eq ∙ e, sym eb ∙ u) refl)
 
 -- the step of a call: what the soundness refuses, or the answer of the call
 module _ (t : List ℕ) (F : ℕ) (s : List ℕ) {q : Check} (eq : q ≡ soundCheck t F s) where
@@ -120,15 +111,14 @@ module _ (t : List ℕ) (F : ℕ) (s : List ℕ) {q : Check} (eq : q ≡ soundCh
   module _ (e : q ≡ Check.Sound) where
     pub sound-table : Table t (sites (length t))
     unfolding soundCheck
-    sound-table = checked t (orElse-sound (check t) _ (sym eq ∙ e) .0)
+    sound-table = set-table t F (orElse-sound (setCheck t F) _ (sym eq ∙ e) .0)
 
     pub sound-state : Sound (questions t) (sites (length t)) F s
     unfolding soundCheck
     sound-state =
         let n = sites (length t) in
         let bad = unsound (questions t) n F s in
-        let p = missed (not (within F (allBelow n))) Set (refuse bad Unsound) (orElse-sound (check t) _ (sym eq ∙ e) .1) in
-        sound-of (questions t) n F s (missed bad Unsound Check.Sound (rw (p .1) refl) .0)
+        sound-of (questions t) n F s (kept bad Unsound (orElse-sound (setCheck t F) (refuse bad Unsound) (sym eq ∙ e) .1))
 
     module _ {c : Call} {a : Check} {changed : Bool} {s₁ : List ℕ} (w : Works (questions t) (sites (length t)) F c s a changed s₁) where
       into : s₁ ≡ stepInto t F c s

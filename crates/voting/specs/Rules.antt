@@ -1,5 +1,5 @@
 -- The rules of a vote, after 004, figure 1. The set questions come in as two tests with the receiver first.
-use Prim.Native.Nat.{ℕ, zero, suc, _-_}
+use Prim.Native.Nat.{ℕ, _-_}
 use mathlib.Core.Bool.{Bool, _&&_, _||_, not, cond}
 use mathlib.Core.List.{List}
 use lib.Bits.{bitOr}

@@ -1,16 +1,14 @@
 -- The public calls: "Step, its call handed over as four byte values: table, 10 (faulty set), 18, 11, 13, 12, 14, 15."
 use Prim.Native.Nat.{ℕ}
-use mathlib.Core.Bool.{not}
 use mathlib.Core.List.{List}
 use lib.ListN.{length}
-use Rattle.masks.specs.Mask.{within, allBelow}
 use Rattle.refusals.specs.First.{orElse, refuse}
 use Rattle.refusals.specs.declared.Check.{Check}
 use Rattle.refusals.specs.declared.Check.the-variants.{Sound}
-use Rattle.refusals.specs.declared.Refusal.the-variants.{Set, Unsound}
+use Rattle.refusals.specs.declared.Refusal.the-variants.{Unsound}
 use Rattle.sets.specs.Promises.{Questions, questionsOf}
 use Rattle.sets.specs.Slices.{slicesOf}
-use Rattle.table.specs.Table.{sites, check}
+use Rattle.table.specs.Table.{sites, setCheck}
 use Rattle.voting.specs.Rules.{Call, answer, step, ifTaken}
 use Rattle.voting.specs.Sound.{unsound}
 use Rattle.voting.specs.declared.Stepped.{Stepped}
@@ -22,11 +20,8 @@ questions t = questionsOf (slicesOf t) (sites (length t))
 
 -- table, 10 ("a set names a site at or above n"), 18
 unfoldable pub soundCheck : List ℕ → ℕ → List ℕ → Check
-unfolding check unsound
-soundCheck t F s =
-    orElse (check t)
-    (orElse (refuse (not (within F (allBelow (sites (length t))))) Set)
-    (refuse (unsound (questions t) (sites (length t)) F s) Unsound))
+unfolding setCheck unsound
+soundCheck t F s = orElse (setCheck t F) (refuse (unsound (questions t) (sites (length t)) F s) Unsound)
 
 -- then the call
 unfoldable pub stepCheck : List ℕ → ℕ → Call → List ℕ → Check

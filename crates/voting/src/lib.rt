@@ -1,6 +1,5 @@
 // The rules of a vote: the step and the soundness of a state, as public calls, and the inner step that a run shares.
 ghost use mathlib.Core.Path.{_≡_};
-ghost use Prim.Native.Nat.{_*_, _<_};
 ghost use Rattle.table.specs.Table.{Table};
 ghost use Rattle.sets.specs.Slices.{slicesOf};
 ghost use Rattle.sets.specs.Promises.{questionsOf};
@@ -64,14 +63,11 @@ pub fn work(
 pub fn sound(table: &[u64], faulty: u64, state: &[u64]) -> Check
     ensures { λ r. ⌜ r ≡ soundCheck (now (table .entry)) faulty (now (state .entry)) ⌝ }
 {
-    let q = table::check(table);
+    let q = table::check_set(table, faulty);
     let Check::Sound = q else {
         return q;
     };
     let n = table.len() / 63;
-    if !masks::within(faulty, masks::all_below(n as u64)) {
-        return Check::Refused(Refusal::Set);
-    }
     if soundness::is_unsound(table, n, faulty, state) {
         return Check::Refused(Refusal::Unsound);
     }

@@ -1,6 +1,5 @@
 -- `blocks` meets its contract: one law for each way out.
-use mathlib.Core.Path.{_≡_, sym, _∙_}
-use native.Mathlib.Omega.{arith}
+use mathlib.Core.Path.{sym, _∙_}
 use borrow.Author.Needs.{needs}
 use denote.Ref.{now}
 use Rattle.questions.proofs.Answers.{blocks-refused, blocks-range, blocks-yes, blocks-no}

@@ -1,6 +1,6 @@
 -- `number` meets its contract: the definition at the case of each arm.
 use borrow.Author.Needs.{needs}
-use mathlib.Core.Path.{_≡_, sym, ap}
+use mathlib.Core.Path.{sym, ap}
 use Rattle.refusals.specs.Refusal.{number}
 use Rattle.refusals.proofs.number.Statement.{statement}
 use Rattle.refusals.proofs.number.Tie as tie

@@ -1,6 +1,5 @@
 -- `pass_over` meets its contract: after i calls the loop has the first i calls of the pass behind it.
 use Prim.Native.Nat.{_-_}
-use mathlib.Core.Path.{_≡_}
 use native.Mathlib.Omega.{arith}
 use borrow.Author.Needs.{needs}
 use denote.Ref.{now}

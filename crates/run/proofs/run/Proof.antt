@@ -1,12 +1,12 @@
 -- `run` meets its contract: the refusal leaves both rooms; else the run stands in front of each.
 use Prim.Native.Nat.{ℕ, _+_, _*_, _/_, _≤_}
-use mathlib.Core.Path.{_≡_, sym, ap, subst, _∙_}
+use mathlib.Core.Path.{sym, ap, subst, _∙_}
 use native.Mathlib.Omega.{arith}
 use borrow.Author.Needs.{needs}
 use denote.Ref.{now}
 use lib.ListN.{length}
 use lib.Seq.{length-take-le, length-front}
-use Rattle.run.proofs.RunWays.{Fits, fits, ran-refused, ran-passes}
+use Rattle.run.proofs.RunWays.{fits, ran-refused, ran-passes}
 use Rattle.table.specs.Table.{sites}
 use Rattle.run.proofs.run.Statement.{statement}
 use Rattle.run.proofs.run.Tie as tie

@@ -1,5 +1,4 @@
 -- `work_at` meets its contract: the four bytes read are the call.
-use mathlib.Core.Path.{_≡_}
 use borrow.Author.Needs.{needs}
 use denote.Ref.{now}
 use Rattle.run.proofs.Turns.{works-at}
