@@ -10,12 +10,11 @@ use Rattle.block.proofs.Laws.{checkS-front, checkT-front, checkS-lt, checkT-lt,
 use Rattle.block.specs.Block.{checkS, checkT, sealed}
 use Rattle.ground.proofs.Pieces.{length-cat, cat-ext, cat-split, cat-parts, cat-elements}
 use Rattle.ground.specs.Pieces.{cat, part}
-use Rattle.image.specs.Image.{siteField, sitesField, countField, zeroField, sliceField, blockCheck, load, body, store}
-use Rattle.image.specs.Inner.{head, places, seal}
+use Rattle.image.specs.Image.{siteField, sitesField, countField, zeroField, sliceField, blockCheck, load, head, places, seal, body, store}
 use Rattle.image.specs.RoundTrip.{Words}
 use Rattle.image.proofs.Block.{right-head}
 use Rattle.image.proofs.Load.{load-count, load-slice}
-use Rattle.image.proofs.Store.{body-parts, length-body}
+use Rattle.image.proofs.Store.{length-body}
 use Rattle.le.proofs.Laws.{Bytes, number-digits, digits-field, field-front, field-at}
 use Rattle.le.specs.Le.{digits, field}
 use Rattle.table.specs.Table.{count, slice, siteCheck}
@@ -23,15 +22,12 @@ use Rattle.table.specs.Table.{count, slice, siteCheck}
 -- the fields of a block that was written
 
 store-field : (w n i : ℕ) (m : List ℕ) (at : ℕ) → at + w ≤ 504 → field w (store n i m) at ≡ field w (body n i m) at
-unfolding store
+unfolding store seal
 store-field w n i m at h = field-front w (body n i m) _ at (rw (length-body n i m) h)
 
 head-field : (n i : ℕ) (m : List ℕ) (at : ℕ) → at + 2 ≤ 8 → field 2 (store n i m) at ≡ field 2 (head i n (count m)) at
-unfolding head
-head-field n i m at h =
-    store-field 2 n i m at (omega arith)
-    ∙ ap (λ (x : List ℕ). field 2 x at) (body-parts n i m)
-    ∙ field-front 2 (head i n (count m)) (places m 62) at h
+unfolding body head
+head-field n i m at h = store-field 2 n i m at (omega arith) ∙ field-front 2 (head i n (count m)) (places m 62) at h
 
 module _ (n i : ℕ) (m : List ℕ) where
   store-site : i < 65536 → siteField (store n i m) ≡ i
@@ -51,13 +47,13 @@ module _ (n i : ℕ) (m : List ℕ) where
   store-zero = head-field n i m 6 (omega arith) ∙ number-digits 2 0 (omega arith)
 
   store-slice : (k : ℕ) → k < 62 → slice m k < 2 ^ 64 → sliceField (store n i m) k ≡ slice m k
-  unfolding head places
+  unfolding body head places
   store-slice k l h =
       let f : ℕ → List ℕ = λ j. digits 8 (slice m j) in
       let s = cat-split f 62 k l in
       let d : List ℕ = head i n (count m) in
       let e : body n i m ≡ (d ++ cat f k) ++ (f k ++ s .0) =
-      body-parts n i m ∙ ap (λ (x : List ℕ). d ++ x) (s .1) ∙ sym (append-assoc d (cat f k) (f k ++ s .0)) in
+      ap (λ (x : List ℕ). d ++ x) (s .1) ∙ sym (append-assoc d (cat f k) (f k ++ s .0)) in
       let p : length (d ++ cat f k) ≡ 8 + 8 * k = length-append d (cat f k) ∙ ap (λ (x : ℕ). 8 + x) (length-cat f 8 k (λ j g. refl)) in
       store-field 8 n i m (8 + 8 * k) (omega arith)
       ∙ ap (λ (x : List ℕ). field 8 x (8 + 8 * k)) e
@@ -66,7 +62,7 @@ module _ (n i : ℕ) (m : List ℕ) where
 
   -- its check
   store-sealed : sealed (store n i m) ≡ true
-  unfolding store
+  unfolding store seal
   store-sealed =
       let b : List ℕ = body n i m in
       let s : List ℕ = digits 4 (checkS b) in
@@ -126,9 +122,9 @@ module _ (n i : ℕ) (b : List ℕ) (hb : Bytes b) (len : length b ≡ 512) (pi 
       ∙ cat-parts 8 62 (drop 8 b)
 
   body-load : body n i (load b) ≡ take 504 b
+  unfolding body
   body-load =
-      body-parts n i (load b)
-      ∙ ap₂ _++_ (ap (head i n) (load-count b) ∙ head-load) places-load
+      ap₂ _++_ (ap (head i n) (load-count b) ∙ head-load) places-load
       ∙ sym (take-add 8 496 b)
 
   seal-load : sealed b ≡ true → seal (take 504 b) ≡ b
@@ -147,5 +143,5 @@ module _ (n i : ℕ) (b : List ℕ) (hb : Bytes b) (len : length b ≡ 512) (pi 
       ∙ take-all 512 b (rw len (omega arith)))
 
   pub store-load : sealed b ≡ true → store n i (load b) ≡ b
-  unfolding store seal
+  unfolding store
   store-load s = ap seal body-load ∙ seal-load s

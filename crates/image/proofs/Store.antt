@@ -9,8 +9,7 @@ use Rattle.block.proofs.Laws.{checkS-front, checkT-front}
 use Rattle.block.specs.Block.{checkS, checkT}
 use Rattle.ground.proofs.Pieces.{cat-more, length-cat, fill-part, part-cat, fill-sets}
 use Rattle.ground.specs.Pieces.{cat, part}
-use Rattle.image.specs.Image.{body, store, stores}
-use Rattle.image.specs.Inner.{head, places, seal}
+use Rattle.image.specs.Image.{head, places, seal, body, store, stores}
 use Rattle.le.specs.Le.{digits}
 use Rattle.table.specs.Table.{count, slice, siteOf}
 
@@ -71,31 +70,24 @@ seal-puts b s t h es et =
 
 -- the parts together
 
-pub body-parts : (n i : ℕ) (m : List ℕ) → body n i m ≡ head i n (count m) ++ places m 62
-unfolding body head places
-body-parts n i m = refl
-
-pub store-parts : (n i : ℕ) (m : List ℕ) → store n i m ≡ seal (head i n (count m) ++ places m 62)
-unfolding store seal
-store-parts n i m = ap seal (body-parts n i m)
-
 head-front : (d : List ℕ) (i n many : ℕ) → take 8 (head i n many ++ drop 8 d) ≡ head i n many
 unfolding head
 head-front d i n many = refl
 
 pub store-puts : (d m : List ℕ) (n i : ℕ) (h p : List ℕ) → length h ≡ 512 → h ≡ head i n (count m) ++ drop 8 d
     → p ≡ (take 8 h ++ places m 62) ++ drop 504 h → seal (take 504 p) ≡ store n i m
+unfolding store body
 store-puts d m n i h p l e f =
     let t : take 504 p ≡ take 8 h ++ places m 62 = ap (take 504) f ∙ take-at (take 8 h ++ places m 62) (drop 504 h) 504 (length-front h m 62 l) in
     let g : take 8 h ≡ head i n (count m) = ap (take 8) e ∙ head-front d i n (count m) in
-    ap seal (t ∙ ap (λ (x : List ℕ). x ++ places m 62) g) ∙ sym (store-parts n i m)
+    ap seal (t ∙ ap (λ (x : List ℕ). x ++ places m 62) g)
 
 pub length-body : (n i : ℕ) (m : List ℕ) → length (body n i m) ≡ 504
-unfolding head
-length-body n i m = ap length (body-parts n i m) ∙ omega (arith, length-places m 62)
+unfolding body head
+length-body n i m = omega (arith, length-places m 62)
 
 pub length-store : (n i : ℕ) (m : List ℕ) → length (store n i m) ≡ 512
-unfolding store
+unfolding store seal
 length-store n i m =
     omega (arith, length-append (body n i m) (digits 4 (checkS (body n i m)) ++ digits 4 (checkT (body n i m))), length-body n i m)
 

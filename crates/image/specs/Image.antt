@@ -63,12 +63,24 @@ load b = countField b ∷ cat (λ k. sliceField b k ∷ []) 62
 unfoldable pub loads : ℕ → List ℕ → List ℕ
 loads n image = cat (λ i. load (part 512 i image)) n
 
+-- the same bytes as they are written: "Bytes 0 to 1 site, 2 to 3 n, 4 to 5 slice count, 6 to 7 zero"
+unfoldable pub head : ℕ → ℕ → ℕ → List ℕ
+head i n many = digits 2 i ++ (digits 2 n ++ (digits 2 many ++ digits 2 0))
+
+-- "then the slices of 8 bytes, zeros up to byte 503": the first k of a site's 62 places, of which the unused are zero
+unfoldable pub places : List ℕ → ℕ → List ℕ
+places m k = cat (λ j. digits 8 (slice m j)) k
+
+-- "Bytes 504 to 507 hold s, 508 to 511 hold t.": 504 bytes, with their check behind them
+unfoldable pub seal : List ℕ → List ℕ
+seal b = b ++ (digits 4 (checkS b) ++ digits 4 (checkT b))
+
 -- the block of site i, whose 63 numbers are m, in a table of n sites: its first 504 bytes, and the block with its check
 unfoldable pub body : ℕ → ℕ → List ℕ → List ℕ
-body n i m = digits 2 i ++ (digits 2 n ++ (digits 2 (count m) ++ (digits 2 0 ++ cat (λ k. digits 8 (slice m k)) 62)))
+body n i m = head i n (count m) ++ places m 62
 
 unfoldable pub store : ℕ → ℕ → List ℕ → List ℕ
-store n i m = let b = body n i m in b ++ (digits 4 (checkS b) ++ digits 4 (checkT b))
+store n i m = seal (body n i m)
 
 unfoldable pub stores : ℕ → List ℕ → List ℕ
 stores n t = cat (λ i. store n i (siteOf t i)) n

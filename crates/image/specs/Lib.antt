@@ -2,4 +2,3 @@ pub mod Image
 pub mod Read
 pub mod Write
 pub mod RoundTrip
-pub mod Inner

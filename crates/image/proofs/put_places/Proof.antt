@@ -6,7 +6,7 @@ use native.Mathlib.Omega.{arith}
 use lib.ListN.{length, take, drop}
 use borrow.Author.Needs.{needs}
 use denote.Ref.{now}
-use Rattle.image.specs.Inner.{places}
+use Rattle.image.specs.Image.{places}
 use Rattle.image.proofs.Store.{places-holds, places-again}
 use Rattle.image.proofs.put_places.Statement.{statement}
 use Rattle.image.proofs.put_places.Tie as tie
