@@ -23,7 +23,8 @@ module _ (s : ℕ → ℕ → Bool) (n : ℕ) where
   unfolding least apart
   firstApart = least (2 ^ n) apart
 
-  -- "the table meets if every two quorums have a common site"
+  -- The search's answer: no quorum has a quorum in its complement. That this says "every two quorums have a common site" is the law `meets-decides`
+  -- (stated in specs/Decides.antt, proved in proofs/Decides.antt).
   unfoldable pub meets : Bool
   unfolding firstApart
   meets = eqb firstApart (2 ^ n)
