@@ -4,4 +4,4 @@ pub mod Least
 pub mod Logic
 pub mod Numbers
 pub mod Pieces
-pub mod Search
+pub mod Some

@@ -1,27 +1,24 @@
 -- Laws of one block's check: a way out each, and that a block is refused for its slices and filler as its 63 numbers are.
-use Prim.Native.Nat.{ℕ, zero, suc, _+_, _-_, _*_, _/_, _%_, _≤_, _<_}
-use mathlib.Core.Bool.{Bool, true, false, _||_, not, or-true}
+use Prim.Native.Nat.{ℕ, _+_, _-_, _*_, _/_, _%_, _≤_, _<_}
+use mathlib.Core.Bool.{true, false, _||_, not, or-true}
 use mathlib.Core.List.{List}
-use mathlib.Core.Logic.{⊎-elim}
 use mathlib.Core.Path.{_≡_, refl, sym, ap, _∙_}
 use native.Mathlib.Omega.{arith}
-use lib.Dec.{eqb, ltb}
+use lib.Dec.{eqb}
 use lib.ListN.{getD}
-use borrow.Author.Tests.{eqb-true, eq-eqb, ne-eqb, ltb-true, ltb-false, not-false}
+use borrow.Author.Tests.{eqb-true, eq-eqb, ne-eqb, not-false}
 use Rattle.block.specs.Block.{sealed}
-use Rattle.ground.proofs.Logic.{fail-alike, cases, or-none}
-use Rattle.ground.proofs.Search.{none-each, each-none}
+use Rattle.ground.proofs.Logic.{fail-alike, or-none}
+use Rattle.ground.proofs.Some.{none-each, each-none}
 use Rattle.image.specs.Image.{siteField, sitesField, countField, zeroField, sliceField, misheaded, unfilled, blockCheck, load}
 use Rattle.image.proofs.Load.{load-slice}
 use Rattle.le.proofs.Laws.{field-zeros, zeros-field}
 use Rattle.refusals.proofs.First.{missed, passed}
-use Rattle.refusals.specs.First.{first}
-use Rattle.refusals.specs.declared.Check.{Check}
 use Rattle.refusals.specs.declared.Check.the-variants.{Sound, Refused}
 use Rattle.refusals.specs.declared.Refusal.the-variants.{Sums, Header}
-use Rattle.table.proofs.Row.{many-slices}
+use Rattle.table.proofs.Row.{row-alike}
 use Rattle.table.proofs.Table.{zero-above, clean-above}
-use Rattle.table.specs.Row.{strange, unordered, sliceCheck, rowCheck}
+use Rattle.table.specs.Row.{rowCheck}
 use Rattle.table.specs.Table.{slice, unclean, siteCheck}
 
 -- filler: the bytes behind the last slice are 0 exactly if the unused places are
@@ -52,27 +49,6 @@ module _ (b : List ℕ) (l : countField b ≤ 62) where
       fail-alike (unfilled b) (unclean (load b))
       (λ h. clean-above (load b) (λ k g s. load-slice b k s ∙ filled-places h k g s))
       (λ h. places-filled (λ k g s. sym (load-slice b k s) ∙ zero-above (load b) h k g s))
-
--- a row whose slices are the same at each place, and its filler where it is looked at, is refused alike
-first-alike : (f g : ℕ → Check) (n : ℕ) → ((k : ℕ) → k < n → f k ≡ g k) → first f n ≡ first g n
-unfolding first
-first-alike f g zero h = refl
-first-alike f g (suc n) h = rw (first-alike f g n (λ k l. h k (omega arith)), h n (omega arith)) refl
-
-slice-alike : (n v : ℕ) (s t : ℕ → ℕ) (k : ℕ) → s k ≡ t k → s (k - 1) ≡ t (k - 1) → sliceCheck n v s k ≡ sliceCheck n v t k
-unfolding sliceCheck strange unordered
-slice-alike n v s t k e p = rw (e, p) refl
-
-row-alike : (n v count : ℕ) (s t : ℕ → ℕ) (u w : Bool) → ((k : ℕ) → k < 62 → s k ≡ t k) → (count ≤ 62 → u ≡ w)
-    → rowCheck n v count s u ≡ rowCheck n v count t w
-unfolding rowCheck
-row-alike n v count s t u w h f =
-    ⊎-elim (λ e. many-slices n v count s u (ltb-true 62 count e) ∙ sym (many-slices n v count t w (ltb-true 62 count e)))
-    (λ e. let l = ltb-false 62 count e in
-    let a : first (sliceCheck n v s) count ≡ first (sliceCheck n v t) count =
-    first-alike (sliceCheck n v s) (sliceCheck n v t) count (λ k g. slice-alike n v s t k (h k (omega arith)) (h (k - 1) (omega arith))) in
-    rw (a, f l) refl)
-    (cases (ltb 62 count))
 
 -- what a block holds is refused as its 63 numbers are
 pub row-site : (n i : ℕ) (b : List ℕ) → rowCheck n i (countField b) (sliceField b) (unfilled b) ≡ siteCheck n i (load b)

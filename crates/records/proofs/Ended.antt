@@ -1,25 +1,18 @@
 -- How a run of calls that stand packed ends: more calls than the room holds are refused as 16,388 bytes are, fewer run as their bytes.
-use Prim.Native.Nat.{ℕ, _*_, _%_, _≤_, _<_}
+use Prim.Native.Nat.{ℕ, _*_, _≤_, _<_}
 use mathlib.Core.List.{List}
-use mathlib.Core.Path.{_≡_, refl, ap, subst, _∙_}
+use mathlib.Core.Path.{_≡_, ap, subst, _∙_}
 use native.Mathlib.Omega.{arith}
 use lib.ListN.{length, take}
-use borrow.Author.Tests.{eq-eqb, lt-ltb}
 use Rattle.records.specs.Pack.{Ended}
 use Rattle.refusals.specs.declared.Check.the-variants.{Sound, Refused}
 use Rattle.refusals.specs.declared.Refusal as Refusal
-use Rattle.run.proofs.RunWays.{fits, ran-refused}
-use Rattle.run.specs.Run.{runCheck, misshapen, ran, stateInto, answersInto}
+use Rattle.run.proofs.RunWays.{long-alike, fits, ran-refused}
+use Rattle.run.specs.Run.{runCheck, ran, stateInto, answersInto}
 use Rattle.run.specs.declared.Ran.{Ran}
 
-module _ (t : List ℕ) (F state answers : ℕ) where
-  -- all lists that are too long are refused alike: the table, 10, 17
-  long-alike : (n : ℕ) → 4096 < n → runCheck t F (4 * n) state answers ≡ runCheck t F 16388 state answers
-  unfolding runCheck misshapen
-  long-alike n l = rw (eq-eqb (4 * n % 4) 0 (omega arith), lt-ltb 16384 (4 * n) (omega arith)) refl
-
-  pub long-unsound : runCheck t F 16388 state answers ≡ Sound → ⊥
-  long-unsound e = omega (arith, fits t F 16388 state answers e .few)
+pub long-unsound : (t : List ℕ) (F state answers : ℕ) → runCheck t F 16388 state answers ≡ Sound → ⊥
+long-unsound t F state answers e = omega (arith, fits t F 16388 state answers e .few)
 
 module _ (t : List ℕ) (F : ℕ) (bytes : List ℕ) (n : ℕ) (state answers : List ℕ) where
   pub over-refused : (r : Refusal.Refusal) → 4096 < n → runCheck t F 16388 (length state) (length answers) ≡ Refused r →

@@ -51,6 +51,12 @@ unfolding first
 first-sound f zero h = refl
 first-sound f (suc n) h = rw (first-sound f n (λ i l. h i (omega arith))) (h n (omega arith))
 
+-- the same check at each place
+pub first-alike : (f g : ℕ → Check) (n : ℕ) → ((k : ℕ) → k < n → f k ≡ g k) → first f n ≡ first g n
+unfolding first
+first-alike f g zero h = refl
+first-alike f g (suc n) h = rw (first-alike f g n (λ k l. h k (omega arith)), h n (omega arith)) refl
+
 -- a test that did not refuse
 pub kept : (p : Bool) (r : Refusal) → refuse p r ≡ Sound → p ≡ false
 kept true r h = let z : _≡_ {A = ℕ} 0 1 = cc in absurd (omega arith)

@@ -10,7 +10,7 @@ use lib.Seq.{take-suc}
 use Rattle.ground.proofs.Logic.{clash}
 use Rattle.run.specs.Passes.{Run, again, pass, iter, answersOf, last, passes, run}
 
--- One call more at the end: what a loop over the calls carries from turn to turn.
+-- Laws of a pass. One call more at the end is what a loop over the calls carries from turn to turn.
 module _ {S C : Type 0} (step : C → S → S) where
   pub pass-append : (l m : List C) (s : S) → pass step (l ++ m) s ≡ pass step m (pass step l s)
   pass-append [] m s = refl
@@ -26,6 +26,11 @@ module _ {S C : Type 0} (step : C → S → S) where
   pub answers-more : (ans : C → S → ℕ) (l : List C) (s : S) (i : ℕ) (d : C) → i < length l
       → answersOf step ans (take (suc i) l) s ≡ answersOf step ans (take i l) s ++ ans (getD l i d) (pass step (take i l) s) ∷ []
   answers-more ans l s i d h = ap (λ (x : List C). answersOf step ans x s) (take-suc l i d h) ∙ answers-append ans (take i l) (getD l i d ∷ []) s
+
+  -- a pass of which no call changes anything
+  pub pass-still : (l : List C) {s : S} → ((c : C) → List·Memᴰ c l → step c s ≡ s) → pass step l s ≡ s
+  pass-still [] f = refl
+  pass-still (c ∷ l) f = ap (pass step l) (f c (List·Memᴰ·head refl)) ∙ pass-still l (λ d k. f d (List·Memᴰ·tail k))
 
 -- The laws that make a run end and be bounded by its calls.
 pub record Spends {S C : Type 0} (step : C → S → S) (same : S → S → Bool) : Type 1 where

@@ -22,12 +22,13 @@ use Rattle.run.proofs.Bound.{at, iter-at, few}
 use Rattle.run.proofs.Chain.{chain, chain-sites, chain-table, chain-rests, Chained, chained}
 use Rattle.run.proofs.Order.{spends, run-is}
 use Rattle.run.proofs.Passes.{pass-up}
-use Rattle.run.proofs.Stages.{link, links, back, longest, links-length, accepting-either, refused, Stage, voted-0, takes-accept, heard-it, stage-pass}
+use Rattle.run.proofs.Stages.{link, links, back, longest, links-length, Stage, voted-0, takes-accept, heard-it, stage-pass}
 use Rattle.sets.specs.Paper.{Fbqs}
 use Rattle.sets.specs.Promises.{Questions}
-use Rattle.voting.proofs.Answer.{Takes, step-taken}
+use Rattle.voting.proofs.Answer.{Takes, step-taken, step-not-taken}
 use Rattle.voting.proofs.Heard.{heard-grows}
 use Rattle.voting.proofs.Inner.{step-heard}
+use Rattle.voting.proofs.RuleLaws.{accepting-either}
 use Rattle.voting.proofs.SoundLaws.{fresh-sound, accepted-rule}
 use Rattle.voting.proofs.State.{fresh-none}
 use Rattle.voting.proofs.Steps.{step-sound, step-adds}
@@ -110,10 +111,10 @@ module _ {Σ : ℕ → Fbqs} {Q : Questions} (j : ℕ) (more : 1 ≤ j) (R : Res
   s₀ = does (propose 1 0) (does (propose 0 0) (fresh n))
 
   fresh-accept : (u v : ℕ) → does (call 2 u v 0) (fresh n) ≡ fresh n
-  fresh-accept u v = refused Q n 0 (call 2 u v 0) (fresh n) (λ K. fresh-none n (accepted n 0) (K .accept-sent refl not-in-zero))
+  fresh-accept u v = step-not-taken n 0 (call 2 u v 0) (fresh n) Q (λ K. fresh-none n (accepted n 0) (K .accept-sent refl not-in-zero))
 
   fresh-link : (k : ℕ) → does (link k) (fresh n) ≡ fresh n
-  fresh-link zero = refused Q n 0 (link 0) (fresh n) (λ K. fresh-none n (voted n 0) (K .vote-sent refl not-in-zero))
+  fresh-link zero = step-not-taken n 0 (link 0) (fresh n) Q (λ K. fresh-none n (voted n 0) (K .vote-sent refl not-in-zero))
   fresh-link (suc v) = fresh-accept v (suc v)
 
   fresh-links : (k : ℕ) → pass does (links k) (fresh n) ≡ s₀

@@ -53,6 +53,11 @@ module _ (t : List ℕ) (F bytes state answers : ℕ) where
         none-refused s a =
             rw (e, eq-eqb (bytes % 4) 0 f, le-ltb 16384 bytes l, le-ltb state (4 * sites (length t) + 6) s, le-ltb answers (bytes / 4) a) refl
 
+-- all lists that are too long are refused alike: the table, 10, 17
+pub long-alike : (t : List ℕ) (F state answers n : ℕ) → 4096 < n → runCheck t F (4 * n) state answers ≡ runCheck t F 16388 state answers
+unfolding runCheck misshapen
+long-alike t F state answers n l = rw (eq-eqb (4 * n % 4) 0 (omega arith), lt-ltb 16384 (4 * n) (omega arith)) refl
+
 -- what a sound check of a run has shown
 pub record Fits (t : List ℕ) (bytes state answers : ℕ) : Type 0 where
   pub table : Table t (sites (length t))

@@ -4,7 +4,7 @@ use Prim.Native.Nat.{ℕ, _<_}
 use mathlib.Core.Bool.{true}
 use mathlib.Core.List.{List, [], _∷_, List·Memᴰ, List·Memᴰ·head, List·Memᴰ·tail, List·Memᴰ·not-nil, List·Memᴰ·cases-cons}
 use mathlib.Core.Logic.{_⊎_, inl, inr, ⊎-elim}
-use mathlib.Core.Path.{_≡_, refl, sym, ap, subst, _∙_}
+use mathlib.Core.Path.{_≡_, refl, sym, subst}
 use native.Mathlib.Omega.{arith}
 use Rattle.ground.proofs.Numbers.{two}
 use Rattle.ground.specs.Alike.{alike}
@@ -12,7 +12,7 @@ use Rattle.masks.proofs.Laws.Subsets.{⊆-refl, ⊆-trans}
 use Rattle.masks.specs.Mask.{_∈_, _⊆_}
 use Rattle.run.specs.Passes.{pass}
 use Rattle.run.proofs.Order.{spends}
-use Rattle.run.proofs.Passes.{pass-up}
+use Rattle.run.proofs.Passes.{pass-still, pass-up}
 use Rattle.sets.specs.Paper.{Fbqs}
 use Rattle.sets.specs.Promises.{Questions}
 use Rattle.voting.proofs.Answer.{Takes, takes-later, takes-earlier, step-cases}
@@ -26,11 +26,6 @@ use Rattle.voting.specs.Rules.{Call, taken, step}
 use Rattle.voting.specs.Sound.{Sound}
 use Rattle.voting.specs.State.{voted, accepted, get, Below}
 use Rattle.voting.specs.Theorems.{Rests}
-
--- a pass of which no call changes anything
-pub pass-still : {S A : Type 0} (does : A → S → S) (m : List A) {s : S} → ((c : A) → List·Memᴰ c m → does c s ≡ s) → pass does m s ≡ s
-pass-still does [] f = refl
-pass-still does (c ∷ m) f = ap (pass does m) (f c (List·Memᴰ·head refl)) ∙ pass-still does m (λ d k. f d (List·Memᴰ·tail k))
 
 -- Calls of the sort P: they alone put a site at the places I, and besides the other side's votes only what stands there decides whether they are
 -- taken.

@@ -2,14 +2,12 @@
 -- proposals, each pass takes one call more: the vote by which site 0 accepts, the accepts down the chain, and the accept of the last site, told to
 -- site 0.
 use Prim.Native.Nat.{ℕ, zero, suc, _+_, _≤_, _<_}
-use mathlib.Core.Bool.{true, _||_}
+use mathlib.Core.Bool.{true}
 use mathlib.Core.List.{List, [], _∷_, List·Memᴰ, List·Memᴰ·head, List·Memᴰ·tail, List·Memᴰ·cases-cons}
 use mathlib.Core.Logic.{_⊎_, ⊎-elim}
 use mathlib.Core.Path.{_≡_, refl, sym, ap, subst, _∙_}
 use native.Mathlib.Omega.{arith}
-use lib.Bits.{bitOr}
 use lib.ListN.{length}
-use Rattle.ground.proofs.Logic.{or-i, or-e}
 use Rattle.ground.proofs.Numbers.{same?}
 use Rattle.masks.proofs.Laws.Single.{single-∈}
 use Rattle.masks.proofs.Laws.Subsets.{mem, not-in-zero, or-⊆-l, ∈-minus}
@@ -17,17 +15,18 @@ use Rattle.masks.specs.Mask.{_∈_}
 use Rattle.run.specs.Passes.{pass}
 use Rattle.run.specs.Theorems.{propose}
 use Rattle.run.proofs.Chain.{Chained}
-use Rattle.run.proofs.Spent.{pass-still}
+use Rattle.run.proofs.Passes.{pass-still}
 use Rattle.sets.specs.Paper.{Fbqs}
 use Rattle.sets.specs.Promises.{Questions}
-use Rattle.voting.proofs.Answer.{Takes, step-cases, step-taken}
+use Rattle.voting.proofs.Answer.{Takes, step-taken, step-not-taken}
 use Rattle.voting.proofs.Heard.{heard-proposal, heard-vote, heard-accept, heard-grows}
 use Rattle.voting.proofs.Inner.{heard-still, step-heard}
+use Rattle.voting.proofs.RuleLaws.{by-quorum, by-blocked}
 use Rattle.voting.proofs.SoundLaws.{voted-heard, rule-accepted}
 use Rattle.voting.proofs.Steps.{step-sound, step-adds}
 use Rattle.voting.proofs.Taken.{taken-accepts, taken-accepted}
 use Rattle.voting.specs.Inner.{call, heard}
-use Rattle.voting.specs.Rules.{Call, others, accepting, step}
+use Rattle.voting.specs.Rules.{Call, others, step}
 use Rattle.voting.specs.Sound.{Sound}
 use Rattle.voting.specs.State.{votes, accepts, voted, accepted, get}
 use Rattle.voting.specs.Theorems.{Rests}
@@ -61,24 +60,6 @@ link-to (suc v) = refl
 proposed : {c : Call} (k : ℕ) → List·Memᴰ c (links zero) → List·Memᴰ c (links k)
 proposed zero m = m
 proposed (suc k) m = List·Memᴰ·tail (proposed k m)
-
--- the rule for accepting: by a quorum, or blocked; and the other way
-module _ (Q : Questions) (v a b : ℕ) where
-  by-quorum : Q .inQuorum v (bitOr a (others b v)) ≡ true → accepting Q v a b ≡ true
-  unfolding accepting
-  by-quorum e = ap (λ x. x || Q .blocked v (others b v)) e
-
-  by-blocked : Q .blocked v (others b v) ≡ true → accepting Q v a b ≡ true
-  unfolding accepting
-  by-blocked e = or-i (Q .inQuorum v (bitOr a (others b v))) (Q .blocked v (others b v)) e
-
-  pub accepting-either : accepting Q v a b ≡ true → (Q .inQuorum v (bitOr a (others b v)) ≡ true) ⊎ (Q .blocked v (others b v) ≡ true)
-  unfolding accepting
-  accepting-either e = or-e (Q .inQuorum v (bitOr a (others b v))) (Q .blocked v (others b v)) e
-
--- a call that cannot be taken changes nothing
-pub refused : (Q : Questions) (n F : ℕ) (c : Call) (s : List ℕ) → (Takes n F c s → ⊥) → step Q n F c s ≡ s
-refused Q n F c s f = ⊎-elim (λ e. e) (λ x. absurd (f (x .0))) (step-cases n F c s Q)
 
 -- of j + 1 sites the first k have accepted, by the links before link k; site 0 has not heard of the last
 pub record Stage (Q : Questions) (j k : ℕ) (s : List ℕ) : Type 0 where
@@ -127,7 +108,7 @@ module _ {Q : Questions} {j k : ℕ} {s : List ℕ} (T : Stage Q j k s) where
   }
 
   too-early : (u v : ℕ) → k ≤ u → does (call 2 u v 0) s ≡ s
-  too-early u v h = refused Q n 0 (call 2 u v 0) s (λ K. let l = T .only u (K .accept-sent refl not-in-zero) in omega arith)
+  too-early u v h = step-not-taken n 0 (call 2 u v 0) s Q (λ K. let l = T .only u (K .accept-sent refl not-in-zero) in omega arith)
 
   takes-link : (i : ℕ) → i ≡ k → i < n → Takes n 0 (link i) s
   takes-link zero e h = takes-vote

@@ -11,7 +11,7 @@ use lib.ListN.{getD, take, drop-of-length-le}
 use borrow.Author.Tests.{not-false, ltb-true, ltb-false, eqb-true, eqb-false}
 use Rattle.ground.proofs.Every.{every-at, every-fails}
 use Rattle.ground.proofs.Logic.{and-l, cases, iff, is-false, clash, not-t}
-use Rattle.ground.proofs.Search.{some-of, some-ex}
+use Rattle.ground.proofs.Some.{some-of, some-ex}
 use Rattle.ground.specs.Search.{some}
 use Rattle.masks.proofs.Laws.Apart.{⊆-minus, ⊆-minus-apart}
 use Rattle.masks.proofs.Laws.Members.{has-zero}

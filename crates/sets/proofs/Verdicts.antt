@@ -8,9 +8,9 @@ use native.Mathlib.Omega.{arith}
 use lib.Bits.{bitAnd, bitOr, or-zero-r, and-comm}
 use lib.Dec.{eqb, ltb}
 use borrow.Author.Tests.{eqb-true, eqb-false, ne-eqb, ltb-true, ltb-false}
-use Rattle.ground.proofs.Least.{least-fails, least-found}
+use Rattle.ground.proofs.Least.{least-le, least-passes, least-before, least-fails, least-found}
 use Rattle.ground.proofs.Logic.{and-l, and-r, and-i, cases, is-false, clash, not-t}
-use Rattle.ground.proofs.Search.{some-of, some-ex, some-none, some-suc, least-le, least-passes, least-before}
+use Rattle.ground.proofs.Some.{some-of, some-ex, some-none, some-suc}
 use Rattle.ground.specs.Search.{some}
 use Rattle.masks.proofs.Laws.AllBelow.{has-all}
 use Rattle.masks.proofs.Laws.Apart.{common-of, ⊆-minus, ⊆-minus-apart}

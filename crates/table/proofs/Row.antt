@@ -1,15 +1,16 @@
 -- Laws of one site's slices: one for each way out of their check, and what a sound site has.
 use Prim.Native.Nat.{ℕ, zero, suc, _-_, _≤_, _<_}
 use mathlib.Core.Bool.{Bool, true, false, _||_, not, or-true}
+use mathlib.Core.Logic.{⊎-elim}
 use mathlib.Core.Path.{_≡_, refl, sym, ap, subst, _∙_}
 use native.Mathlib.Nat.{not-suc-le-zero, suc-ne-zero}
 use native.Mathlib.Omega.{arith}
 use lib.Dec.{eqb, eqb·suc-zero, ltb}
 use borrow.Author.Tests.{eq-eqb, ne-eqb, lt-ltb, le-ltb, eqb-false, ltb-true, ltb-false, not-false}
-use Rattle.ground.proofs.Logic.{or-none}
+use Rattle.ground.proofs.Logic.{or-none, cases}
 use Rattle.masks.proofs.Laws.Subsets.{mem, within-⊆, ⊆-within}
 use Rattle.masks.specs.Mask.{has, within, allBelow, _∈_, _⊆_}
-use Rattle.refusals.proofs.First.{orElse-sound, first-all, first-sound, kept, missed}
+use Rattle.refusals.proofs.First.{orElse-sound, first-all, first-sound, first-alike, kept, missed}
 use Rattle.refusals.specs.First.{orElse, refuse, first}
 use Rattle.refusals.specs.declared.Check.the-variants.{Sound, Refused}
 use Rattle.refusals.specs.declared.Refusal.{Refusal}
@@ -119,3 +120,19 @@ module _ (n v count : ℕ) (slice : ℕ → ℕ) (unclean : Bool) where
       each (suc i) l =
           is-above n v slice (suc i) (r .owner (suc i) l .holds) (⊆-within (r .below (suc i) l)) (suc-ne-zero i)
           (subst (λ (k : ℕ). slice k < slice (suc i)) (sym (pred-suc i)) (r .ascend i l))
+
+-- a row whose slices are the same at each place, and its filler where it is looked at, is refused alike
+slice-alike : (n v : ℕ) (s t : ℕ → ℕ) (k : ℕ) → s k ≡ t k → s (k - 1) ≡ t (k - 1) → sliceCheck n v s k ≡ sliceCheck n v t k
+unfolding sliceCheck strange unordered
+slice-alike n v s t k e p = rw (e, p) refl
+
+pub row-alike : (n v count : ℕ) (s t : ℕ → ℕ) (u w : Bool) → ((k : ℕ) → k < 62 → s k ≡ t k) → (count ≤ 62 → u ≡ w)
+    → rowCheck n v count s u ≡ rowCheck n v count t w
+unfolding rowCheck
+row-alike n v count s t u w h f =
+    ⊎-elim (λ e. many-slices n v count s u (ltb-true 62 count e) ∙ sym (many-slices n v count t w (ltb-true 62 count e)))
+    (λ e. let l = ltb-false 62 count e in
+    let a : first (sliceCheck n v s) count ≡ first (sliceCheck n v t) count =
+    first-alike (sliceCheck n v s) (sliceCheck n v t) count (λ k g. slice-alike n v s t k (h k (omega arith)) (h (k - 1) (omega arith))) in
+    rw (a, f l) refl)
+    (cases (ltb 62 count))

@@ -11,7 +11,7 @@ use lib.Pow.{ones-lt, pow-pos}
 use lib.Seq.{getD-take, getD-drop}
 use borrow.Author.Tests.{eqb-true, eqb-false, eq-eqb, ne-eqb, ltb-true, ltb-false, lt-ltb, le-ltb, not-false}
 use Rattle.ground.proofs.Logic.{or-none, cases}
-use Rattle.ground.proofs.Search.{none-each, each-none}
+use Rattle.ground.proofs.Some.{none-each, each-none}
 use Rattle.masks.proofs.Laws.Subsets.{below-⊆}
 use Rattle.refusals.specs.declared.Check.the-variants.{Refused}
 use Rattle.refusals.specs.declared.Refusal.the-variants.{Length}

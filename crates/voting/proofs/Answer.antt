@@ -179,6 +179,10 @@ module _ (n F : ℕ) (c : Call) (s : List ℕ) where
     pub step-cases : (step Q n F c s ≡ s) ⊎ (Takes n F c s × (step Q n F c s ≡ taken Q n c s))
     step-cases = ⊎-elim (λ e. let t = takes e in inr (t, step-taken t)) (λ x. inl (step-refused (refused (x .1)))) answered
 
+    -- a call that cannot be taken changes nothing
+    pub step-not-taken : (Takes n F c s → ⊥) → step Q n F c s ≡ s
+    step-not-taken f = ⊎-elim (λ e. e) (λ x. absurd (f (x .0))) step-cases
+
 -- a call that is taken is taken in each later state, if a proposal is still not for the other side
 pub takes-later : {n F : ℕ} {c : Call} {s t : List ℕ} → Below s t → (c .kind ≡ 0 → c .to ∈ get t (voted n (1 - c .side)) → ⊥) → Takes n F c s →
     Takes n F c t

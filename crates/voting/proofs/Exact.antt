@@ -13,7 +13,7 @@ use lib.Pow.{ones-lt}
 use borrow.Author.Tests.{eqb-true, eq-eqb, not-false}
 use Rattle.ground.proofs.Logic.{is-false, or-none}
 use Rattle.ground.proofs.Numbers.{two}
-use Rattle.ground.proofs.Search.{none-each, each-none}
+use Rattle.ground.proofs.Some.{none-each, each-none}
 use Rattle.ground.specs.Search.{some}
 use Rattle.masks.proofs.Laws.AllBelow.{in-all}
 use Rattle.masks.proofs.Laws.Single.{in?, ∈-eq}

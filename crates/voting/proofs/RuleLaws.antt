@@ -1,7 +1,7 @@
 -- Laws of the two rules: they grow with what was heard, leave the own accept out, and say no where nothing was heard.
 use Prim.Native.Nat.{ℕ, _<_}
 use mathlib.Core.Bool.{Bool, true, false, _||_}
-use mathlib.Core.Logic.{⊎-elim}
+use mathlib.Core.Logic.{_⊎_, ⊎-elim}
 use mathlib.Core.Path.{_≡_, refl, sym, ap, subst}
 use lib.Bits.{bitOr}
 use Rattle.ground.proofs.Logic.{is-false, clash, or-i, or-e}
@@ -40,15 +40,27 @@ pub accepting-own : (Q : Questions) (v a b : ℕ) {m : ℕ} → m ⊆ single v �
 unfolding accepting
 accepting-own Q v a b p = ap (λ (x : ℕ). Q .inQuorum v (bitOr a x) || Q .blocked v x) (minus-added b p)
 
+-- the rule for accepting: by a quorum, or blocked; and the other way
+module _ (Q : Questions) (v a b : ℕ) where
+  pub by-quorum : Q .inQuorum v (bitOr a (others b v)) ≡ true → accepting Q v a b ≡ true
+  unfolding accepting
+  by-quorum e = ap (λ x. x || Q .blocked v (others b v)) e
+
+  pub by-blocked : Q .blocked v (others b v) ≡ true → accepting Q v a b ≡ true
+  unfolding accepting
+  by-blocked e = or-i (Q .inQuorum v (bitOr a (others b v))) (Q .blocked v (others b v)) e
+
+  pub accepting-either : accepting Q v a b ≡ true → (Q .inQuorum v (bitOr a (others b v)) ≡ true) ⊎ (Q .blocked v (others b v) ≡ true)
+  unfolding accepting
+  accepting-either e = or-e (Q .inQuorum v (bitOr a (others b v))) (Q .blocked v (others b v)) e
+
+-- they grow with what was heard
 module _ {S : ℕ → Fbqs} {Q : Questions} (P : Promises S Q) where
   pub accepting-grows : (v : ℕ) {a b c d : ℕ} → a ⊆ c → b ⊆ d → accepting Q v a b ≡ true → accepting Q v c d ≡ true
-  unfolding accepting
   accepting-grows v {a} {b} {c} {d} p q e =
       let r : others b v ⊆ others d v = minus-grows (single v) q in
-      ⊎-elim
-      (λ x. ap (λ (y : Bool). y || Q .blocked v (others d v)) (P .quorum-grows v (bitOr a (others b v)) (bitOr c (others d v)) (or-grows p r) x))
-      (λ x. or-i (Q .inQuorum v (bitOr c (others d v))) (Q .blocked v (others d v)) (P .blocked-grows v (others b v) (others d v) r x))
-      (or-e (Q .inQuorum v (bitOr a (others b v))) (Q .blocked v (others b v)) e)
+      ⊎-elim (λ x. by-quorum Q v c d (P .quorum-grows v (bitOr a (others b v)) (bitOr c (others d v)) (or-grows p r) x))
+      (λ x. by-blocked Q v c d (P .blocked-grows v (others b v) (others d v) r x)) (accepting-either Q v a b e)
 
   pub confirming-grows : (v : ℕ) {a b : ℕ} → a ⊆ b → confirming Q v a ≡ true → confirming Q v b ≡ true
   unfolding confirming
@@ -57,14 +69,13 @@ module _ {S : ℕ → Fbqs} {Q : Questions} (P : Promises S Q) where
 -- where nothing was heard
 module _ {S : ℕ → Fbqs} {Q : Questions} {n : ℕ} (R : Rests S Q n) where
   pub accepting-nothing : (v : ℕ) → v < n → accepting Q v 0 0 ≡ false
-  unfolding accepting
   accepting-nothing v h =
-      is-false (Q .inQuorum v (bitOr 0 (others 0 v)) || Q .blocked v (others 0 v))
+      is-false (accepting Q v 0 0)
       (λ e. ⊎-elim
       (λ x. ⊎-elim not-in-zero (λ y. not-in-zero (minus-⊆ 0 (single v) .each v y))
       (∈-or 0 (others 0 v) (R .promises .quorum-member v (bitOr 0 (others 0 v)) x)))
       (λ x. clash (R .promises .blocked-grows v (others 0 v) 0 (minus-⊆ 0 (single v)) x) (R .promises .nobody-blocked v (R .sites v h)))
-      (or-e (Q .inQuorum v (bitOr 0 (others 0 v))) (Q .blocked v (others 0 v)) e))
+      (accepting-either Q v 0 0 e))
 
   pub confirming-nothing : (v : ℕ) → confirming Q v 0 ≡ false
   unfolding confirming

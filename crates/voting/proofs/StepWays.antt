@@ -26,6 +26,7 @@ use Rattle.voting.specs.Theorems.{Rests}
 use Rattle.voting.specs.declared.Stepped.{Stepped}
 use Rattle.voting.proofs.Exact.{sound-of}
 use Rattle.voting.proofs.Heard.{hears-proposal, hears-vote, hears-accept}
+use Rattle.voting.proofs.RuleLaws.{by-quorum}
 
 -- what the rules rest on, of a checked table
 pub table-rests : {t : List ℕ} {n : ℕ} → Table t n → Rests (λ v. fbqsOf t n) (questionsOf (slicesOf t) n) n
@@ -40,8 +41,7 @@ module _ (Q : Questions) (v heardVotes heardAccepts : ℕ) {m o : ℕ} (em : m �
   asked e = ap (λ (x : ℕ). Q .inQuorum v (bitOr heardVotes x)) (sym rest) ∙ e
 
   pub accepts-by-quorum : Q .inQuorum v (bitOr heardVotes o) ≡ true → true ≡ accepting Q v heardVotes heardAccepts
-  unfolding accepting
-  accepts-by-quorum e = sym (ap (λ (x : Bool). x || Q .blocked v (others heardAccepts v)) (asked e))
+  accepts-by-quorum e = sym (by-quorum Q v heardVotes heardAccepts (asked e))
 
   pub accepts-by-blocking : Q .inQuorum v (bitOr heardVotes o) ≡ false → {b : Bool} → b ≡ Q .blocked v o → b ≡ accepting Q v heardVotes heardAccepts
   unfolding accepting

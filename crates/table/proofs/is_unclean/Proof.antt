@@ -7,7 +7,7 @@ use lib.Dec.{eqb}
 use borrow.Author.Needs.{needs}
 use borrow.Author.Tests.{eq-eqb, ne-eqb}
 use denote.Ref.{now}
-use Rattle.ground.proofs.Search.{some-of, some-more, some-none}
+use Rattle.ground.proofs.Some.{some-of, some-more, some-none}
 use Rattle.ground.specs.Search.{some}
 use Rattle.table.specs.Table.{count, slice, unclean}
 use Rattle.table.proofs.is_unclean.Statement.{statement}

@@ -6,7 +6,7 @@ use native.Mathlib.Omega.{arith}
 use lib.ListN.{length}
 use borrow.Author.Needs.{needs}
 use denote.Ref.{now}
-use Rattle.ground.proofs.Search.{some-of, some-more, some-none}
+use Rattle.ground.proofs.Some.{some-of, some-more, some-none}
 use Rattle.ground.specs.Search.{some}
 use Rattle.masks.specs.Mask.{within, allBelow}
 use Rattle.voting.specs.State.{get}
