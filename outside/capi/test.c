@@ -1,8 +1,11 @@
 /* Every call of include/siren.h from C, with answers worked out by hand: on table A of the rules (slices 3; 3; 7; 11; 24), and on tables, rooms, lists
- * and states that are refused. Each call finds `out` full of old numbers between two guards, and must write its four cells and no other. */
+ * and states that are refused. Each call finds `out` full of old numbers between two guards, and must write its four cells and no other. Then the stack
+ * that the calls use, measured on a painted stack; a word given leaves that out. */
+#define _GNU_SOURCE
 #include <stdio.h>
 #include <stdlib.h>
 #include <string.h>
+#include <ucontext.h>
 
 #include "siren.h"
 
@@ -11,6 +14,10 @@
 #define STATE (4 * SITES + 6)
 #define OLD 0x5a5a5a5a5a5a5a5au
 #define OLD_BYTE 0x5au
+#define PAINT 0xa5
+#define STACK 262144
+#define STACK_ALLOWED 1024
+#define STACK_OF_RECORDS 51200
 #define COUNT(a) (sizeof(a) / sizeof *(a))
 
 static unsigned tried;
@@ -176,54 +183,104 @@ static void voting(void)
  * second pass changes nothing. */
 static const siren_call list[7] = {{0, 0, 0, 0}, {0, 1, 1, 0}, {1, 0, 1, 0}, {1, 1, 0, 0}, {2, 0, 1, 0}, {2, 1, 0, 0}, {1, 2, 0, 0}};
 
-static void runs(void)
+static uint64_t state_room[STATE + 2], old_state[STATE + 2];
+static uint8_t answer_room[9], old_answers[9];
+
+static void old_rooms(void)
 {
-    static siren_call many[4097];
-    uint64_t state[STATE + 2], old[STATE + 2], want[STATE] = {3, 0, 3, 0, 3, 0, 3, 0};
-    uint8_t answers[9], kept[9], bytes[28];
-    const uint8_t want_answers[7] = {0, 0, 0, 0, 0, 0, 15};
-    want[4 * SITES] = want[4 * SITES + 2] = want[4 * SITES + 4] = 3;
-    old_numbers(old, COUNT(old));
-    memset(kept, OLD_BYTE, sizeof kept);
-    for (size_t i = 0; i < 7; i++) {
-        const uint8_t call[4] = {list[i].kind, list[i].from, list[i].to, list[i].side};
-        memcpy(bytes + 4 * i, call, 4);
-    }
-
-    old_numbers(state, COUNT(state));
-    memset(answers, OLD_BYTE, sizeof answers);
-    says("run of 27 bytes", siren_run(a, TABLE, 8, bytes, 27, state, 0, answers, 0, fresh()), 17, 0, 0, 0, 0);
-    says("run, state room too short", siren_run(a, TABLE, 8, bytes, 28, state, STATE - 1, answers, 9, fresh()), 9, 0, 0, 0, 0);
-    says("run, answer room too short", siren_run(a, TABLE, 8, bytes, 28, state, STATE, answers, 6, fresh()), 9, 0, 0, 0, 0);
-    says("run, site 5 faulty", siren_run(a, TABLE, 32, bytes, 27, state, STATE, answers, 9, fresh()), 10, 0, 0, 0, 0);
-    says("run of 7 records, state room too short", siren_run_records(a, TABLE, 8, list, 7, state, STATE - 1, answers, 9, fresh()), 9, 0, 0, 0, 0);
-    says("run of 4,097 records", siren_run_records(a, TABLE, 8, many, 4097, state, STATE, answers, 0, fresh()), 17, 0, 0, 0, 0);
-    says("run of 4,096 records, no answer room", siren_run_records(a, TABLE, 8, many, 4096, state, STATE, NULL, 0, fresh()), 9, 0, 0, 0, 0);
-    same_numbers("run refused", state, old, COUNT(old));
-    same_bytes("run refused", answers, kept, sizeof kept);
-
-    for (int records = 0; records <= 1; records++) {
-        old_numbers(state, COUNT(state));
-        memset(answers, OLD_BYTE, sizeof answers);
-        if (records)
-            says("run of records", siren_run_records(a, TABLE, 8, list, 7, state, COUNT(state), answers, 9, fresh()), 0, 0, 2, 0, 0);
-        else
-            says("run", siren_run(a, TABLE, 8, bytes, 28, state, COUNT(state), answers, 9, fresh()), 0, 0, 2, 0, 0);
-        same_numbers("state of the run", state, want, STATE);
-        same_numbers("state room beyond it", state + STATE, old, 2);
-        same_bytes("answers of the run", answers, want_answers, 7);
-        same_bytes("answer room beyond them", answers + 7, kept, 2);
-    }
-
-    memset(want, 0, sizeof want);
-    says("empty list", siren_run(a, TABLE, 8, NULL, 0, state, STATE, NULL, 0, fresh()), 0, 0, 1, 0, 0);
-    same_numbers("state of the empty list", state, want, STATE);
-    says("empty list of records", siren_run_records(a, TABLE, 8, NULL, 0, state, STATE, NULL, 0, fresh()), 0, 0, 1, 0, 0);
-    same_numbers("state of the empty list of records", state, want, STATE);
+    old_numbers(state_room, COUNT(state_room));
+    old_numbers(old_state, COUNT(old_state));
+    memset(answer_room, OLD_BYTE, sizeof answer_room);
+    memset(old_answers, OLD_BYTE, sizeof old_answers);
 }
 
-int main(void)
+static void rooms_kept(const char *what)
 {
+    same_numbers(what, state_room, old_state, COUNT(old_state));
+    same_bytes(what, answer_room, old_answers, sizeof old_answers);
+}
+
+/* The rooms after the list above: what sites 0 and 1 heard, the masks voted, accepted and confirmed drill, and the answers of the calls. */
+static void rooms_filled(const char *what)
+{
+    static const uint64_t state[STATE] = {3, 0, 3, 0, 3, 0, 3, 0, [4 * SITES] = 3, 0, 3, 0, 3, 0};
+    static const uint8_t answers[7] = {0, 0, 0, 0, 0, 0, 15};
+    same_numbers(what, state_room, state, STATE);
+    same_numbers(what, state_room + STATE, old_state, 2);
+    same_bytes(what, answer_room, answers, 7);
+    same_bytes(what, answer_room + 7, old_answers, 2);
+}
+
+static void runs(void)
+{
+    static const uint64_t zeros[STATE];
+    static uint8_t bytes[28];
+    for (size_t i = 0; i < 7; i++) {
+        bytes[4 * i] = list[i].kind;
+        bytes[4 * i + 1] = list[i].from;
+        bytes[4 * i + 2] = list[i].to;
+        bytes[4 * i + 3] = list[i].side;
+    }
+    old_rooms();
+    says("27 bytes", siren_run(a, TABLE, 8, bytes, 27, state_room, 0, answer_room, 0, fresh()), 17, 0, 0, 0, 0);
+    says("state room too short", siren_run(a, TABLE, 8, bytes, 28, state_room, STATE - 1, answer_room, 9, fresh()), 9, 0, 0, 0, 0);
+    says("answer room too short", siren_run(a, TABLE, 8, bytes, 28, state_room, STATE, answer_room, 6, fresh()), 9, 0, 0, 0, 0);
+    says("site 5 faulty", siren_run(a, TABLE, 32, bytes, 27, state_room, STATE, answer_room, 9, fresh()), 10, 0, 0, 0, 0);
+    rooms_kept("run refused");
+    says("run", siren_run(a, TABLE, 8, bytes, 28, state_room, STATE + 2, answer_room, 9, fresh()), 0, 0, 2, 0, 0);
+    rooms_filled("run");
+    says("empty list", siren_run(a, TABLE, 8, NULL, 0, state_room, STATE, NULL, 0, fresh()), 0, 0, 1, 0, 0);
+    same_numbers("empty list", state_room, zeros, STATE);
+}
+
+static void runs_of_records(void)
+{
+    static const uint64_t zeros[STATE];
+    static siren_call many[4097];
+    old_rooms();
+    says("records, state room too short", siren_run_records(a, TABLE, 8, list, 7, state_room, STATE - 1, answer_room, 9, fresh()), 9, 0, 0, 0, 0);
+    says("4,097 records", siren_run_records(a, TABLE, 8, many, 4097, state_room, STATE, answer_room, 0, fresh()), 17, 0, 0, 0, 0);
+    says("4,096 records, no answer room", siren_run_records(a, TABLE, 8, many, 4096, state_room, STATE, NULL, 0, fresh()), 9, 0, 0, 0, 0);
+    rooms_kept("run of records refused");
+    says("run of records", siren_run_records(a, TABLE, 8, list, 7, state_room, STATE + 2, answer_room, 9, fresh()), 0, 0, 2, 0, 0);
+    rooms_filled("run of records");
+    says("no records", siren_run_records(a, TABLE, 8, NULL, 0, state_room, STATE, NULL, 0, fresh()), 0, 0, 1, 0, 0);
+    same_numbers("no records", state_room, zeros, STATE);
+}
+
+/* ---- the stack: each part above runs on a stack painted beforehand, and what it touched is no longer painted. The figures hold the parts' own frames. */
+
+static uint8_t painted[STACK];
+static ucontext_t here;
+
+static size_t touched(void)
+{
+    size_t i = 0;
+    while (i < STACK && painted[i] == PAINT)
+        i++;
+    return STACK - i;
+}
+
+static void on_painted(const char *what, void (*part)(void), size_t allowed)
+{
+    ucontext_t there;
+    memset(painted, PAINT, STACK);
+    if (getcontext(&there) != 0)
+        fail(what, "no context");
+    there.uc_stack.ss_sp = painted;
+    there.uc_stack.ss_size = STACK;
+    there.uc_link = &here;
+    makecontext(&there, part, 0);
+    if (swapcontext(&here, &there) != 0)
+        fail(what, "no context");
+    printf("stack of the %s: %zu bytes\n", what, touched());
+    if (touched() > allowed)
+        fail(what, "more stack than the header says");
+}
+
+int main(int count, char **words)
+{
+    (void)words;
     if (sizeof(siren_call) != 4)
         fail("siren_call", "not four bytes");
     tables();
@@ -231,6 +288,15 @@ int main(void)
     questions();
     voting();
     runs();
+    runs_of_records();
+    if (count == 1) {
+        on_painted("tables", tables, STACK_ALLOWED);
+        on_painted("images", images, STACK_ALLOWED);
+        on_painted("set questions", questions, STACK_ALLOWED);
+        on_painted("voting", voting, STACK_ALLOWED);
+        on_painted("runs", runs, STACK_ALLOWED);
+        on_painted("runs of records", runs_of_records, STACK_OF_RECORDS);
+    }
     printf("capi: %u calls, every function of include/siren.h, as worked out by hand\n", tried);
     return 0;
 }
