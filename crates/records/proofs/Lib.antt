@@ -1,3 +1,4 @@
 pub mod Coincide
 pub mod Ended
+pub mod Facts
 pub mod Packing

@@ -1,0 +1,25 @@
+-- The laws of what a call says: equal answers say the same, and so does the run.
+use Prim.Native.Nat.{ℕ}
+use mathlib.Core.List.{List}
+use mathlib.Core.Path.{_≡_, ap, _∙_}
+use lib.ListN.{length}
+use Rattle.capi.specs.Said.{Said, ofRan, runSays, runState, runAnswers}
+use Rattle.run.specs.Run.{ran, stateInto, answersInto}
+use Rattle.run.specs.declared.Ran.{Ran}
+
+-- what is said of an answer is said of an equal one
+pub said : {A : Type 0} (of : A → Said) {x y : A} {number : ℕ} {out : List ℕ} → x ≡ y →
+    (number ≡ of x .number) × (out ≡ of x .out) → (number ≡ of y .number) × (out ≡ of y .out)
+said of e p = (p .0 ∙ ap (λ z. of z .number) e, p .1 ∙ ap (λ z. of z .out) e)
+
+-- a run that answers as the rules say, and whose answer is said
+pub run-said : (t : List ℕ) (F : ℕ) (list state answers : List ℕ) {r : Ran} {number : ℕ} {out state′ answers′ : List ℕ} →
+    r ≡ ran t F list (length state) (length answers) → (number ≡ ofRan r .number) × (out ≡ ofRan r .out) →
+    state′ ≡ stateInto r t F list state → answers′ ≡ answersInto r t F list answers →
+    (number ≡ runSays t F list state answers .number) × ((out ≡ runSays t F list state answers .out) ×
+    ((state′ ≡ runState t F list state answers) × (answers′ ≡ runAnswers t F list state answers)))
+run-said t F list state answers e p s a =
+    let q = said ofRan e p in (
+      q .0,
+      (q .1, (s ∙ ap (λ (x : Ran). stateInto x t F list state) e, a ∙ ap (λ (x : Ran). answersInto x t F list answers) e)),
+    )

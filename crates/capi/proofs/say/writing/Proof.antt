@@ -1,0 +1,18 @@
+-- `say::writing` meets its contract: one case for each way that the answer goes.
+use borrow.Author.Needs.{needs}
+use mathlib.Core.Path.{sym}
+use Rattle.capi.specs.Said.{ofWriting}
+use Rattle.capi.proofs.Laws.{said}
+use Rattle.capi.proofs.say.writing.Statement.{statement}
+use Rattle.capi.proofs.say.writing.Tie as tie
+
+pub writing-spec : {M : Type 1} → statement M
+writing-spec =
+    tie.close
+    (tie.spec
+    (λ c. search needs)
+    (λ c κs. search needs)
+    (λ c. search needs)
+    (λ c κs. search needs)
+    (λ c. said ofWriting (sym (c .before .before .before .answer .given .1)) (c .give .ensures))
+    (λ c. said ofWriting (sym (c .before .before .before .answer2 .given .1)) (c .refuse .ensures)))

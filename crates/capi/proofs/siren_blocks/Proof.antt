@@ -1,0 +1,14 @@
+-- `siren_blocks` meets its contract: it says what the library answers.
+use borrow.Author.Needs.{needs}
+use Rattle.capi.specs.Said.{ofHolds}
+use Rattle.capi.proofs.Laws.{said}
+use Rattle.capi.proofs.siren_blocks.Statement.{statement}
+use Rattle.capi.proofs.siren_blocks.Tie as tie
+
+pub siren-blocks-spec : {M : Type 1} → statement M
+siren-blocks-spec =
+    tie.close
+    (tie.spec
+    (λ c κs. search needs)
+    (λ c κs. search needs)
+    (λ c. said ofHolds (c .before .before .blocks2 .ensures) (c .holds .ensures)))

@@ -1,0 +1,14 @@
+-- `siren_largest` meets its contract: it says what the library answers.
+use borrow.Author.Needs.{needs}
+use Rattle.capi.specs.Said.{ofGreatest}
+use Rattle.capi.proofs.Laws.{said}
+use Rattle.capi.proofs.siren_largest.Statement.{statement}
+use Rattle.capi.proofs.siren_largest.Tie as tie
+
+pub siren-largest-spec : {M : Type 1} → statement M
+siren-largest-spec =
+    tie.close
+    (tie.spec
+    (λ c κs. search needs)
+    (λ c κs. search needs)
+    (λ c. said ofGreatest (c .before .before .largest .ensures) (c .greatest .ensures)))

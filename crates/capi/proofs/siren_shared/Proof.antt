@@ -1,0 +1,14 @@
+-- `siren_shared` meets its contract: it says what the library answers.
+use borrow.Author.Needs.{needs}
+use Rattle.capi.specs.Said.{ofSharing}
+use Rattle.capi.proofs.Laws.{said}
+use Rattle.capi.proofs.siren_shared.Statement.{statement}
+use Rattle.capi.proofs.siren_shared.Tie as tie
+
+pub siren-shared-spec : {M : Type 1} → statement M
+siren-shared-spec =
+    tie.close
+    (tie.spec
+    (λ c κs. search needs)
+    (λ c κs. search needs)
+    (λ c. said ofSharing (c .before .before .shared .ensures) (c .sharing .ensures)))

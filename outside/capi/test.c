@@ -1,0 +1,302 @@
+/* Every call of include/siren.h from C, with answers worked out by hand: on table A of the rules (slices 3; 3; 7; 11; 24), and on tables, rooms, lists
+ * and states that are refused. Each call finds `out` full of old numbers between two guards, and must write its four cells and no other. Then the stack
+ * that the calls use, measured on a painted stack; a word given leaves that out. */
+#define _GNU_SOURCE
+#include <stdio.h>
+#include <stdlib.h>
+#include <string.h>
+#include <ucontext.h>
+
+#include "siren.h"
+
+#define SITES 5
+#define TABLE (63 * SITES)
+#define STATE (4 * SITES + 6)
+#define OLD 0x5a5a5a5a5a5a5a5au
+#define OLD_BYTE 0x5au
+#define PAINT 0xa5
+#define STACK 262144
+#define STACK_ALLOWED 1024
+#define STACK_OF_RECORDS 51200
+#define COUNT(a) (sizeof(a) / sizeof *(a))
+
+static unsigned tried;
+static uint64_t cells[6];
+static uint64_t *const out = cells + 1;
+
+static void fail(const char *what, const char *why)
+{
+    printf("capi: %s: %s\n", what, why);
+    exit(1);
+}
+
+/* `out` before a call: old numbers in every cell. */
+static uint64_t *fresh(void)
+{
+    for (size_t i = 0; i < COUNT(cells); i++)
+        cells[i] = OLD;
+    return out;
+}
+
+static void says(const char *what, uint64_t answer, uint64_t number, uint64_t place, uint64_t a, uint64_t b, uint64_t c)
+{
+    tried++;
+    if (answer != number)
+        fail(what, "another number");
+    if (out[0] != place || out[1] != a || out[2] != b || out[3] != c)
+        fail(what, "other cells of out");
+    if (cells[0] != OLD || cells[5] != OLD)
+        fail(what, "a cell beside out was written");
+}
+
+static void same_numbers(const char *what, const uint64_t *got, const uint64_t *want, size_t length)
+{
+    if (memcmp(got, want, length * sizeof *got) != 0)
+        fail(what, "other numbers in lent memory");
+}
+
+static void same_bytes(const char *what, const uint8_t *got, const uint8_t *want, size_t length)
+{
+    if (memcmp(got, want, length) != 0)
+        fail(what, "other bytes in lent memory");
+}
+
+static void old_numbers(uint64_t *room, size_t length)
+{
+    for (size_t i = 0; i < length; i++)
+        room[i] = OLD;
+}
+
+/* A table whose sites have one slice each. */
+static void make_table(uint64_t *table, const uint64_t *slices, size_t sites)
+{
+    memset(table, 0, 63 * sites * sizeof *table);
+    for (size_t v = 0; v < sites; v++) {
+        table[63 * v] = 1;
+        table[63 * v + 1] = slices[v];
+    }
+}
+
+static uint64_t a[TABLE], bad[TABLE], apart[63 * 4], alone[63 * 13];
+
+static void tables(void)
+{
+    const uint64_t slices_a[SITES] = {3, 3, 7, 11, 24};
+    const uint64_t slices_apart[4] = {3, 3, 12, 12};
+    uint64_t slices_alone[13];
+    make_table(a, slices_a, SITES);
+    make_table(bad, slices_a, SITES);
+    bad[63 * 2 + 1] = 3; /* site 2 has a slice without itself */
+    make_table(apart, slices_apart, 4);
+    for (size_t v = 0; v < 13; v++)
+        slices_alone[v] = (uint64_t)1 << v;
+    make_table(alone, slices_alone, 13);
+
+    says("table A", siren_table_check(a, TABLE, fresh()), 0, 0, 0, 0, 0);
+    says("table with a wrong slice", siren_table_check(bad, TABLE, fresh()), 5, 2, 0, 0, 0);
+    says("table cut short", siren_table_check(a, TABLE - 1, fresh()), 1, 0, 0, 0, 0);
+    says("no table", siren_table_check(NULL, 0, fresh()), 1, 0, 0, 0, 0);
+}
+
+static void images(void)
+{
+    static uint8_t image[512 * SITES + 7], kept[512 * SITES + 7];
+    static uint64_t room[TABLE + 3], old[TABLE + 3];
+    old_numbers(room, COUNT(room));
+    old_numbers(old, COUNT(old));
+    memset(image, OLD_BYTE, sizeof image);
+    memset(kept, OLD_BYTE, sizeof kept);
+
+    says("write, room too short", siren_image_write(a, TABLE, image, 512 * SITES - 1, fresh()), 9, 0, 0, 0, 0);
+    says("write, no room", siren_image_write(a, TABLE, NULL, 0, fresh()), 9, 0, 0, 0, 0);
+    says("write, a wrong slice", siren_image_write(bad, TABLE, image, sizeof image, fresh()), 5, 2, 0, 0, 0);
+    same_bytes("write refused", image, kept, sizeof image);
+    says("write", siren_image_write(a, TABLE, image, sizeof image, fresh()), 0, 0, SITES, 0, 0);
+    same_bytes("room beyond the image", image + 512 * SITES, kept, 7);
+    /* block 3: site 3, n = 5, one slice 11; s is the sum of the words 0x00050003, 1 and 11, and each word counts once for every word from it on */
+    if (image[1536] != 3 || image[1538] != 5 || image[1540] != 1 || image[1544] != 11)
+        fail("write", "other bytes in block 3");
+    const uint32_t s = 0x00050003u + 1 + 11, t = 126u * 0x00050003u + 125u * 1 + 124u * 11;
+    for (int i = 0; i < 4; i++)
+        if (image[1536 + 504 + i] != (uint8_t)(s >> 8 * i) || image[1536 + 508 + i] != (uint8_t)(t >> 8 * i))
+            fail("write", "other sums in block 3");
+
+    memcpy(kept, image, sizeof image);
+    says("read, room too short", siren_image_read(image, 512 * SITES, room, TABLE - 1, fresh()), 9, 0, 0, 0, 0);
+    says("read, no image", siren_image_read(NULL, 0, room, COUNT(room), fresh()), 1, 0, 0, 0, 0);
+    image[512 * 4 + 8] ^= 1;
+    says("read, a damaged block", siren_image_read(image, 512 * SITES, room, COUNT(room), fresh()), 2, 4, 0, 0, 0);
+    image[512 * 4 + 8] ^= 1;
+    same_numbers("read refused", room, old, COUNT(room));
+    says("read", siren_image_read(image, 512 * SITES, room, COUNT(room), fresh()), 0, 0, SITES, 0, 0);
+    same_numbers("table read", room, a, TABLE);
+    same_numbers("room beyond the table", room + TABLE, old, 3);
+    same_bytes("image lent to be read", image, kept, sizeof image);
+}
+
+static void questions(void)
+{
+    says("quorum 7", siren_quorum(a, TABLE, 7, fresh()), 0, 0, 1, 0, 0);
+    says("quorum 24", siren_quorum(a, TABLE, 24, fresh()), 0, 0, 0, 0, 0);
+    says("quorum, site 5", siren_quorum(a, TABLE, 32, fresh()), 10, 0, 0, 0, 0);
+    says("quorum, a wrong slice", siren_quorum(bad, TABLE, 32, fresh()), 5, 2, 0, 0, 0);
+    says("largest in 23", siren_largest(a, TABLE, 23, fresh()), 0, 0, 7, 1, 0);
+    says("largest in 20", siren_largest(a, TABLE, 20, fresh()), 0, 0, 0, 1, 0);
+    says("largest, site 5", siren_largest(a, TABLE, 32, fresh()), 10, 0, 0, 0, 0);
+    says("8 blocks 4", siren_blocks(a, TABLE, 8, 4, fresh()), 0, 0, 1, 0, 0);
+    says("4 blocks 4", siren_blocks(a, TABLE, 4, 4, fresh()), 0, 0, 0, 0, 0);
+    says("blocks, site 5", siren_blocks(a, TABLE, 8, 5, fresh()), 11, 0, 0, 0, 0);
+    says("blocks, set 32 and site 5", siren_blocks(a, TABLE, 32, 5, fresh()), 10, 0, 0, 0, 0);
+    says("shared", siren_shared(a, TABLE, fresh()), 0, 0, 1, 0, 0);
+    says("shared, not meeting", siren_shared(apart, COUNT(apart), fresh()), 0, 0, 0, 3, 12);
+    says("shared, 13 sites", siren_shared(alone, COUNT(alone), fresh()), 16, 0, 0, 0, 0);
+    says("intact, 3 faulty", siren_intact(a, TABLE, 8, fresh()), 0, 0, 7, 0, 0);
+    says("intact, 13 sites and site 13", siren_intact(alone, COUNT(alone), 8192, fresh()), 10, 0, 0, 0, 0);
+    says("intact, 13 sites", siren_intact(alone, COUNT(alone), 0, fresh()), 16, 0, 0, 0, 0);
+}
+
+static void voting(void)
+{
+    uint64_t state[STATE] = {0}, want[STATE] = {0};
+    says("fresh state", siren_sound(a, TABLE, 8, state, STATE, fresh()), 0, 0, 0, 0, 0);
+    says("state too short", siren_sound(a, TABLE, 8, state, STATE - 1, fresh()), 18, 0, 0, 0, 0);
+    says("no state", siren_sound(a, TABLE, 8, NULL, 0, fresh()), 18, 0, 0, 0, 0);
+    says("sound, site 5 faulty", siren_sound(a, TABLE, 32, state, STATE, fresh()), 10, 0, 0, 0, 0);
+
+    /* site 0 votes drill: its own vote is heard by itself, and its one slice 3 is not inside that */
+    says("propose", siren_step(a, TABLE, 8, state, STATE, 0, 0, 0, 0, fresh()), 0, 0, 0, 0, 0);
+    want[0] = 1;
+    want[4 * SITES] = 1;
+    same_numbers("propose", state, want, STATE);
+    says("kind 3", siren_step(a, TABLE, 8, state, STATE, 3, 0, 0, 0, fresh()), 11, 0, 0, 0, 0);
+    says("proposal from 0 to 3", siren_step(a, TABLE, 8, state, STATE, 0, 0, 3, 0, fresh()), 13, 0, 0, 0, 0);
+    says("proposal to faulty 3", siren_step(a, TABLE, 8, state, STATE, 0, 3, 3, 0, fresh()), 12, 0, 0, 0, 0);
+    says("proposal of live", siren_step(a, TABLE, 8, state, STATE, 0, 0, 0, 1, fresh()), 14, 0, 0, 0, 0);
+    says("vote not sent", siren_step(a, TABLE, 8, state, STATE, 1, 1, 0, 0, fresh()), 15, 0, 0, 0, 0);
+    same_numbers("refused steps", state, want, STATE);
+    state[1] = want[1] = 16;
+    says("step on an unsound state", siren_step(a, TABLE, 8, state, STATE, 0, 0, 0, 0, fresh()), 18, 0, 0, 0, 0);
+    same_numbers("unsound state", state, want, STATE);
+}
+
+/* Sites 0 and 1 propose drill, hear each other's votes, then each other's accepts: both confirm. Site 2 has not voted, so the last call is refused. The
+ * second pass changes nothing. */
+static const siren_call list[7] = {{0, 0, 0, 0}, {0, 1, 1, 0}, {1, 0, 1, 0}, {1, 1, 0, 0}, {2, 0, 1, 0}, {2, 1, 0, 0}, {1, 2, 0, 0}};
+
+static uint64_t state_room[STATE + 2], old_state[STATE + 2];
+static uint8_t answer_room[9], old_answers[9];
+
+static void old_rooms(void)
+{
+    old_numbers(state_room, COUNT(state_room));
+    old_numbers(old_state, COUNT(old_state));
+    memset(answer_room, OLD_BYTE, sizeof answer_room);
+    memset(old_answers, OLD_BYTE, sizeof old_answers);
+}
+
+static void rooms_kept(const char *what)
+{
+    same_numbers(what, state_room, old_state, COUNT(old_state));
+    same_bytes(what, answer_room, old_answers, sizeof old_answers);
+}
+
+/* The rooms after the list above: what sites 0 and 1 heard, the masks voted, accepted and confirmed drill, and the answers of the calls. */
+static void rooms_filled(const char *what)
+{
+    static const uint64_t state[STATE] = {3, 0, 3, 0, 3, 0, 3, 0, [4 * SITES] = 3, 0, 3, 0, 3, 0};
+    static const uint8_t answers[7] = {0, 0, 0, 0, 0, 0, 15};
+    same_numbers(what, state_room, state, STATE);
+    same_numbers(what, state_room + STATE, old_state, 2);
+    same_bytes(what, answer_room, answers, 7);
+    same_bytes(what, answer_room + 7, old_answers, 2);
+}
+
+static void runs(void)
+{
+    static const uint64_t zeros[STATE];
+    static uint8_t bytes[28];
+    for (size_t i = 0; i < 7; i++) {
+        bytes[4 * i] = list[i].kind;
+        bytes[4 * i + 1] = list[i].from;
+        bytes[4 * i + 2] = list[i].to;
+        bytes[4 * i + 3] = list[i].side;
+    }
+    old_rooms();
+    says("27 bytes", siren_run(a, TABLE, 8, bytes, 27, state_room, 0, answer_room, 0, fresh()), 17, 0, 0, 0, 0);
+    says("state room too short", siren_run(a, TABLE, 8, bytes, 28, state_room, STATE - 1, answer_room, 9, fresh()), 9, 0, 0, 0, 0);
+    says("answer room too short", siren_run(a, TABLE, 8, bytes, 28, state_room, STATE, answer_room, 6, fresh()), 9, 0, 0, 0, 0);
+    says("site 5 faulty", siren_run(a, TABLE, 32, bytes, 27, state_room, STATE, answer_room, 9, fresh()), 10, 0, 0, 0, 0);
+    rooms_kept("run refused");
+    says("run", siren_run(a, TABLE, 8, bytes, 28, state_room, STATE + 2, answer_room, 9, fresh()), 0, 0, 2, 0, 0);
+    rooms_filled("run");
+    says("empty list", siren_run(a, TABLE, 8, NULL, 0, state_room, STATE, NULL, 0, fresh()), 0, 0, 1, 0, 0);
+    same_numbers("empty list", state_room, zeros, STATE);
+}
+
+static void runs_of_records(void)
+{
+    static const uint64_t zeros[STATE];
+    static siren_call many[4097];
+    old_rooms();
+    says("records, state room too short", siren_run_records(a, TABLE, 8, list, 7, state_room, STATE - 1, answer_room, 9, fresh()), 9, 0, 0, 0, 0);
+    says("4,097 records", siren_run_records(a, TABLE, 8, many, 4097, state_room, STATE, answer_room, 0, fresh()), 17, 0, 0, 0, 0);
+    says("4,096 records, no answer room", siren_run_records(a, TABLE, 8, many, 4096, state_room, STATE, NULL, 0, fresh()), 9, 0, 0, 0, 0);
+    rooms_kept("run of records refused");
+    says("run of records", siren_run_records(a, TABLE, 8, list, 7, state_room, STATE + 2, answer_room, 9, fresh()), 0, 0, 2, 0, 0);
+    rooms_filled("run of records");
+    says("no records", siren_run_records(a, TABLE, 8, NULL, 0, state_room, STATE, NULL, 0, fresh()), 0, 0, 1, 0, 0);
+    same_numbers("no records", state_room, zeros, STATE);
+}
+
+/* ---- the stack: each part above runs on a stack painted beforehand, and what it touched is no longer painted. The figures hold the parts' own frames. */
+
+static uint8_t painted[STACK];
+static ucontext_t here;
+
+static size_t touched(void)
+{
+    size_t i = 0;
+    while (i < STACK && painted[i] == PAINT)
+        i++;
+    return STACK - i;
+}
+
+static void on_painted(const char *what, void (*part)(void), size_t allowed)
+{
+    ucontext_t there;
+    memset(painted, PAINT, STACK);
+    if (getcontext(&there) != 0)
+        fail(what, "no context");
+    there.uc_stack.ss_sp = painted;
+    there.uc_stack.ss_size = STACK;
+    there.uc_link = &here;
+    makecontext(&there, part, 0);
+    if (swapcontext(&here, &there) != 0)
+        fail(what, "no context");
+    printf("stack of the %s: %zu bytes\n", what, touched());
+    if (touched() > allowed)
+        fail(what, "more stack than the header says");
+}
+
+int main(int count, char **words)
+{
+    (void)words;
+    if (sizeof(siren_call) != 4)
+        fail("siren_call", "not four bytes");
+    tables();
+    images();
+    questions();
+    voting();
+    runs();
+    runs_of_records();
+    if (count == 1) {
+        on_painted("tables", tables, STACK_ALLOWED);
+        on_painted("images", images, STACK_ALLOWED);
+        on_painted("set questions", questions, STACK_ALLOWED);
+        on_painted("voting", voting, STACK_ALLOWED);
+        on_painted("runs", runs, STACK_ALLOWED);
+        on_painted("runs of records", runs_of_records, STACK_OF_RECORDS);
+    }
+    printf("capi: %u calls, every function of include/siren.h, as worked out by hand\n", tried);
+    return 0;
+}
