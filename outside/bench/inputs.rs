@@ -32,7 +32,10 @@ pub fn memory(rows: &[Vec<u64>]) -> Vec<u64> {
 fn filled(first: Vec<u64>, base: u64, shift: u32, most: u64) -> Vec<u64> {
     let mut slices = first;
     for slice in (0..most).map(|k| base | k << shift) {
-        if slices.len() < 62 && !slices.contains(&slice) {
+        if slices.len() == 62 {
+            break;
+        }
+        if !slices.contains(&slice) {
             slices.push(slice);
         }
     }
