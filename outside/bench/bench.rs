@@ -2,8 +2,9 @@
 //! two are compared, and where the model takes no more than a moment both with the model. Of several repetitions, taken
 //! in turn, the best counts.
 //!
-//! Prints a row each: the name, the library's nanoseconds, those of the best Rust, and their ratio. With arguments,
-//! only the rows whose names contain one of them.
+//! Prints a table: of each row the name, the library's nanoseconds, those of the best Rust, and their ratio. Where the
+//! best Rust goes another way than the library, a second table has the library against Rust that goes the library's
+//! way. With arguments, only the rows whose names contain one of them; with `agree` alone, nothing is timed.
 
 mod fast;
 mod inputs;
@@ -16,6 +17,7 @@ mod model;
 use inputs::{memory, Rng};
 use library::*;
 use model::Answer;
+use std::cell::{Cell, RefCell};
 use std::hint::black_box;
 use std::time::Instant;
 
@@ -52,6 +54,12 @@ fn plan(side: Side) -> (usize, usize) {
 
 struct Bench {
     wanted: Vec<String>,
+    /// Whether the rows are timed, or compared only.
+    timed: bool,
+    /// How many rows were compared.
+    compared: Cell<usize>,
+    /// The rows of the second table.
+    same_way: RefCell<Vec<String>>,
 }
 
 impl Bench {
@@ -61,10 +69,25 @@ impl Bench {
 
     /// Compares the two sides, and with the model's answer if there is one; then times them in turn and prints the row.
     fn row(&self, name: &str, model: Option<Answer>, library: Side, rust: Side) {
+        if let Some(row) = self.measured(name, model, library, rust) {
+            println!("{row}");
+        }
+    }
+
+    /// The same for a row of the second table.
+    fn row_of_the_same_way(&self, name: &str, model: Option<Answer>, library: Side, rust: Side) {
+        self.same_way.borrow_mut().extend(self.measured(name, model, library, rust));
+    }
+
+    fn measured(&self, name: &str, model: Option<Answer>, library: Side, rust: Side) -> Option<String> {
         let answer = library();
         assert_eq!(answer, rust(), "{name}: the library and the best Rust differ");
         if let Some(model) = model {
             assert_eq!(answer, model, "{name}: both differ from the model");
+        }
+        self.compared.set(self.compared.get() + 1);
+        if !self.timed {
+            return None;
         }
         let ((library_calls, library_times), (rust_calls, rust_times)) = (plan(library), plan(rust));
         let (mut best_library, mut best_rust) = (f64::INFINITY, f64::INFINITY);
@@ -76,8 +99,14 @@ impl Bench {
                 best_rust = best_rust.min(time(rust, rust_calls));
             }
         }
-        println!("| {name:<50} | {best_library:>13.1} | {best_rust:>13.1} | {:>6.2} |", best_library / best_rust);
+        let ratio = best_library / best_rust;
+        Some(format!("| {name:<50} | {best_library:>13.1} | {best_rust:>13.1} | {ratio:>6.2} |"))
     }
+}
+
+fn heading(rust: &str) {
+    println!("| {:<50} | {:>13} | {rust:>13} | {:>6} |", "what", "library, ns", "ratio");
+    println!("|{:-<52}|{:->14}:|{:->14}:|{:->7}:|", "", "", "", "");
 }
 
 /// An answer as the functions for C give it.
@@ -93,14 +122,26 @@ fn only_number(number: u8) -> Answer {
 }
 
 fn main() {
-    let bench = Bench { wanted: std::env::args().skip(1).collect() };
-    println!("| {:<50} | {:>13} | {:>13} | {:>6} |", "what", "library, ns", "best Rust, ns", "ratio");
-    println!("|{:-<52}|{:->14}:|{:->14}:|{:->7}:|", "", "", "", "");
+    let wanted: Vec<String> = std::env::args().skip(1).collect();
+    let timed = wanted != ["agree"];
+    let wanted = if timed { wanted } else { Vec::new() };
+    let bench = Bench { wanted, timed, compared: Cell::new(0), same_way: RefCell::new(Vec::new()) };
+    if timed {
+        heading("best Rust, ns");
+    }
     blocks_and_images(&bench);
     set_questions(&bench);
     states_and_steps(&bench);
     runs(&bench);
+    runs_of_records(&bench);
     verdicts(&bench);
+    if !timed {
+        println!("bench: the library, the best Rust and the model agree on {} rows", bench.compared.get());
+    } else if !bench.same_way.borrow().is_empty() {
+        println!();
+        heading("Rust, ns");
+        bench.same_way.borrow().iter().for_each(|row| println!("{row}"));
+    }
 }
 
 fn blocks_and_images(bench: &Bench) {
@@ -116,7 +157,7 @@ fn blocks_and_images(bench: &Bench) {
         let mut rust = || only_number(fast::block_check(black_box(block)));
         bench.row("block check", model_block, &mut library_block, &mut rust);
         let mut rust = || only_number(fast::block_check_in_order(black_box(block)));
-        bench.row("block check, the Rust adding in order", model_block, &mut library_block, &mut rust);
+        bench.row_of_the_same_way("block check, adding in order", model_block, &mut library_block, &mut rust);
     }
 
     if bench.wants("read of 64 blocks") {
@@ -249,6 +290,45 @@ fn runs(bench: &Bench) {
     }
 }
 
+/// The same run over a list of records.
+fn runs_of_records(bench: &Bench) {
+    for (name, table, faulty, calls, by_model) in inputs::lists().into_iter().filter(|list| list.4) {
+        let row = format!("run of records, {name}");
+        if !bench.wants(&row) {
+            continue;
+        }
+        let memory = memory(&table);
+        let rooms = || (vec![7; 4 * table.len() + 6], vec![7; calls.len()]);
+        let ((mut state, mut answers), (mut other_state, mut other_answers)) = (rooms(), rooms());
+        let mut library = || {
+            answer(|out| unsafe {
+                let (cells, cells_length) = (state.as_mut_ptr(), state.len());
+                let (room, room_length) = (answers.as_mut_ptr(), answers.len());
+                // A call of four bytes stands in memory as the record does.
+                let (list, length) = (calls.as_ptr().cast::<Call>(), calls.len());
+                siren_run_records(
+                    memory.as_ptr(),
+                    memory.len(),
+                    faulty,
+                    list,
+                    length,
+                    cells,
+                    cells_length,
+                    room,
+                    room_length,
+                    out,
+                )
+            })
+        };
+        let mut rust = || fast::run_records(black_box(&memory), faulty, &calls, &mut other_state, &mut other_answers);
+        let (mut model_state, mut model_answers) = rooms();
+        let expected =
+            by_model.then(|| model::run_records(&memory, faulty, &calls, &mut model_state, &mut model_answers));
+        bench.row(&row, expected, &mut library, &mut rust);
+        assert!(state == other_state && answers == other_answers, "{row}: the rooms differ");
+    }
+}
+
 fn verdicts(bench: &Bench) {
     for (name, table, faulty) in inputs::twelve_sites() {
         let table = memory(&table);
@@ -259,7 +339,7 @@ fn verdicts(bench: &Bench) {
             let mut rust = || fast::shared(black_box(&table));
             bench.row(&row, expected, &mut library, &mut rust);
             let mut rust = || fast::shared_by_search(black_box(&table));
-            bench.row(&format!("{row}, searching"), expected, &mut library, &mut rust);
+            bench.row_of_the_same_way(&format!("{row}, searching"), expected, &mut library, &mut rust);
         }
         let row = format!("intact, {name}, {} faulty", faulty.count_ones());
         if bench.wants(&row) {
@@ -268,7 +348,7 @@ fn verdicts(bench: &Bench) {
             let mut rust = || fast::intact(black_box(&table), faulty);
             bench.row(&row, expected, &mut library, &mut rust);
             let mut rust = || fast::intact_by_search(black_box(&table), faulty);
-            bench.row(&format!("{row}, searching"), expected, &mut library, &mut rust);
+            bench.row_of_the_same_way(&format!("{row}, searching"), expected, &mut library, &mut rust);
         }
     }
 }

@@ -107,8 +107,10 @@ fn slices_fault(
     sites: u64,
 ) -> u64 {
     let own = 1u64 << site;
-    let (mut every, mut some, mut ascend, mut before) = (u64::MAX, 0, true, 0);
-    for slice in used.clone() {
+    let mut rest = used.clone();
+    let first = rest.next().unwrap_or(0);
+    let (mut every, mut some, mut ascend, mut before) = (first, first, true, first);
+    for slice in rest {
         every &= slice;
         some |= slice;
         ascend &= slice > before;
@@ -257,16 +259,17 @@ fn find(row: &[u64; ROW], from: usize, set: u64) -> Option<usize> {
 #[inline(always)]
 fn narrow(rows: &[[u64; ROW]], w: u64, gone: u64, wanted: u64) -> (u64, u64) {
     let mut place = [0u8; MOST_SITES];
-    let mut held = [0u64; MOST_SITES];
     let (mut set, mut rounds) = (w, 0);
     let mut stay = set;
     each(set, |v| match find(&rows[v], 0, set | gone) {
-        Some(i) => {
-            place[v] = i as u8;
-            held[v] = rows[v][1 + i];
-        }
+        Some(i) => place[v] = i as u8,
         None => stay &= !(1 << v),
     });
+    if stay == set {
+        return (set, 0);
+    }
+    let mut held = [0u64; MOST_SITES];
+    each(stay, |v| held[v] = rows[v][1 + usize::from(place[v]).min(61)]);
     while stay != set {
         let dropped = set & !stay;
         set = stay;
@@ -358,18 +361,18 @@ pub fn blocks(table: &[u64], set: u64, site: u64) -> Answer {
 /// What the verdicts ask of a table of at most 12 sites.
 trait Quorums {
     /// Is the set, not empty, a quorum of the table without `gone`?
-    fn is_quorum(&self, set: u16, gone: u16) -> bool;
+    fn is_quorum(&self, set: u32, gone: u32) -> bool;
 
     /// The largest quorum inside the set of the table without `gone`.
-    fn largest(&self, set: u16, gone: u16) -> u16;
+    fn largest(&self, set: u32, gone: u32) -> u32;
 
     /// Two quorums of the table without `gone` that have no common site, the first with the smallest mask. Of such a
     /// pair one lacks the last site, and the sets without it come first.
     #[inline(always)]
-    fn apart(&self, sites: u16, gone: u16) -> Option<(u16, u16)> {
+    fn apart(&self, sites: u32, gone: u32) -> Option<(u32, u32)> {
         let rest = sites & !gone;
         let below = if rest == 0 { 0 } else { rest & !(1 << rest.ilog2()) };
-        let mut p = 0u16;
+        let mut p = 0u32;
         loop {
             p = p.wrapping_sub(below) & below;
             if p == 0 {
@@ -388,27 +391,29 @@ trait Quorums {
     /// that have no common site without B have none without any larger set either, as long as something of both is
     /// left: the pair found last is tried first.
     #[inline(always)]
-    fn intact(&self, sites: u16, faulty: u16) -> u16 {
+    fn intact(&self, sites: u32, faulty: u32) -> u32 {
         let correct = sites & !faulty;
         let mut intact = 0;
         let mut pair = (sites, 0, 0);
-        let mut extra = 0u16;
-        loop {
-            let b = faulty | extra;
+        let mut b = faulty;
+        while b <= sites {
             let rest = sites & !b;
-            let (gone, p, q) = pair;
-            let known_apart = gone & !b == 0 && p & !b != 0 && q & !b != 0;
-            if rest & !intact != 0 && !known_apart && self.is_quorum(rest, 0) {
-                match self.apart(sites, b) {
-                    None => intact |= rest,
-                    Some((p, q)) => pair = (b, p, q),
+            if rest & !intact != 0 && self.is_quorum(rest, 0) {
+                let (gone, p, q) = pair;
+                let known_apart = gone & !b == 0 && p & !b != 0 && q & !b != 0;
+                if !known_apart {
+                    match self.apart(sites, b) {
+                        None => intact |= rest,
+                        Some((p, q)) => pair = (b, p, q),
+                    }
+                }
+                if intact == correct {
+                    break;
                 }
             }
-            extra = extra.wrapping_sub(correct) & correct;
-            if extra == 0 || intact == correct {
-                return intact;
-            }
+            b = (b + 1) | faulty;
         }
+        intact
     }
 }
 
@@ -417,13 +422,13 @@ struct Search<'a>(&'a [[u64; ROW]]);
 
 impl Quorums for Search<'_> {
     #[inline(always)]
-    fn is_quorum(&self, set: u16, gone: u16) -> bool {
+    fn is_quorum(&self, set: u32, gone: u32) -> bool {
         is_quorum(self.0, set.into(), gone.into())
     }
 
     #[inline(always)]
-    fn largest(&self, set: u16, gone: u16) -> u16 {
-        narrow(self.0, set.into(), gone.into(), 0).0 as u16
+    fn largest(&self, set: u32, gone: u32) -> u32 {
+        narrow(self.0, set.into(), gone.into(), 0).0 as u32
     }
 }
 
@@ -462,8 +467,8 @@ impl Holders {
     }
 
     #[inline(always)]
-    fn of(&self, set: u16) -> u16 {
-        self.0[usize::from(set) & 4095]
+    fn of(&self, set: u32) -> u32 {
+        self.0[set as usize & 4095].into()
     }
 }
 
@@ -479,12 +484,12 @@ fn hand_on<const WORDS: usize>(words: &mut [u64; 1024]) {
 
 impl Quorums for Holders {
     #[inline(always)]
-    fn is_quorum(&self, set: u16, gone: u16) -> bool {
+    fn is_quorum(&self, set: u32, gone: u32) -> bool {
         set & !self.of(set | gone) == 0
     }
 
     #[inline(always)]
-    fn largest(&self, set: u16, gone: u16) -> u16 {
+    fn largest(&self, set: u32, gone: u32) -> u32 {
         let mut left = set;
         loop {
             let stay = left & self.of(left | gone);
@@ -508,11 +513,11 @@ fn few(table: &[u64], set: u64) -> Result<&[[u64; ROW]], Refusal> {
 }
 
 fn shared_by(sites: u64, quorums: impl Quorums) -> [u64; 3] {
-    quorums.apart(sites as u16, 0).map_or([1, 0, 0], |(p, q)| [0, p.into(), q.into()])
+    quorums.apart(sites as u32, 0).map_or([1, 0, 0], |(p, q)| [0, p.into(), q.into()])
 }
 
 fn intact_by(sites: u64, faulty: u64, quorums: impl Quorums) -> [u64; 3] {
-    [quorums.intact(sites as u16, faulty as u16).into(), 0, 0]
+    [quorums.intact(sites as u32, faulty as u32).into(), 0, 0]
 }
 
 pub fn shared(table: &[u64]) -> Answer {
@@ -548,7 +553,20 @@ fn is_sound(rows: &[[u64; ROW]], faulty: u64, state: &[u64]) -> bool {
     if masks[VOTED] & masks[VOTED + 1] != 0 || masks.iter().fold(0, |some, mask| some | mask) & faulty != 0 {
         return false;
     }
-    // What needs no search comes first, for all sites.
+    // The answer found last is kept: sites that heard the same need no second search.
+    let mut last = (0, 0);
+    let mut belongs = |w: u64, v: usize| {
+        if w >> v & 1 == 0 {
+            return false;
+        }
+        if w != last.0 {
+            if find(&rows[v], 0, w).is_none() {
+                return false;
+            }
+            last = (w, largest_inside(rows, w).0);
+        }
+        last.1 >> v & 1 == 1
+    };
     for (v, row) in heard.iter().enumerate() {
         if faulty >> v & 1 == 1 {
             if *row != [0; 4] {
@@ -566,28 +584,6 @@ fn is_sound(rows: &[[u64; ROW]], faulty: u64, state: &[u64]) -> bool {
             {
                 return false;
             }
-        }
-    }
-    // The answer found last is kept: sites that heard the same need no second search.
-    let mut last = (0, 0);
-    let mut belongs = |w: u64, v: usize| {
-        if w >> v & 1 == 0 {
-            return false;
-        }
-        if w != last.0 {
-            if find(&rows[v], 0, w).is_none() {
-                return false;
-            }
-            last = (w, largest_inside(rows, w).0);
-        }
-        last.1 >> v & 1 == 1
-    };
-    for (v, row) in heard.iter().enumerate() {
-        if faulty >> v & 1 == 1 {
-            continue;
-        }
-        for side in 0..2 {
-            let (votes, accepts) = (row[side], row[2 + side]);
             let others = accepts & !(1 << v);
             let accepted = is_blocked(&rows[v], others) || belongs(votes | others, v);
             if accepted != (masks[ACCEPTED + side] >> v & 1 == 1)
@@ -614,12 +610,23 @@ pub fn sound(table: &[u64], faulty: u64, state: &[u64]) -> Answer {
     answer(check_state(table, faulty, state).map(|_| [0; 3]))
 }
 
+/// The four sets that each site heard, and the six masks.
+type State<'a> = (&'a mut [[u64; 4]], &'a mut [u64; 6]);
+
+/// The first 4n + 6 numbers of the room for a state.
+#[inline(always)]
+fn parts(state: &mut [u64], n: usize) -> State<'_> {
+    let (heard, masks) = state.split_at_mut(4 * n);
+    (heard.as_chunks_mut::<4>().0, masks.first_chunk_mut().unwrap())
+}
+
 /// One call on a state that is sound: its number, and whether the state changed. A call that was heard before changes
 /// nothing; a site that has accepted is not asked again whether it accepts, nor one that has confirmed whether it
 /// confirms.
-#[inline]
-fn take(rows: &[[u64; ROW]], faulty: u64, state: &mut [u64], call: [u8; 4]) -> (u8, bool) {
+#[inline(always)]
+fn take(rows: &[[u64; ROW]], faulty: u64, state: State, call: [u8; 4]) -> (u8, bool) {
     let n = rows.len();
+    let (heard, masks) = state;
     let [kind, from, to, side] = call.map(usize::from);
     if kind > 2 || from >= n || to >= n || side > 1 {
         return (11, false);
@@ -631,53 +638,60 @@ fn take(rows: &[[u64; ROW]], faulty: u64, state: &mut [u64], call: [u8; 4]) -> (
         return (12, false);
     }
     let own = 1u64 << to;
-    let masks = 4 * n;
-    let heard = 4 * to + side;
+    let row = &mut heard[to];
     if kind == 0 {
-        if state[masks + VOTED + (1 - side)] & own != 0 {
+        if masks[VOTED + (1 - side)] & own != 0 {
             return (14, false);
         }
-        if state[heard] & own != 0 {
+        if row[side] & own != 0 {
             return (0, false);
         }
-        state[masks + VOTED + side] |= own;
-        state[heard] |= own;
+        masks[VOTED + side] |= own;
+        row[side] |= own;
     } else {
-        let sent = state[masks + VOTED + 2 * (kind - 1) + side] | faulty;
+        let sent = masks[VOTED + 2 * (kind - 1) + side] | faulty;
         if sent >> from & 1 == 0 {
             return (15, false);
         }
-        let cell = &mut state[heard + 2 * (kind - 1)];
+        let cell = &mut row[2 * (kind - 1) + side];
         if *cell >> from & 1 == 1 {
             return (0, false);
         }
         *cell |= 1 << from;
     }
-    let (votes, accepts) = (state[heard], state[heard + 2]);
+    work_out(rows, row, masks, [kind, from, to, side]);
+    (0, true)
+}
+
+/// The receiver worked out again, for the side of a call that it has just heard.
+#[inline(never)]
+fn work_out(rows: &[[u64; ROW]], row: &mut [u64; 4], masks: &mut [u64; 6], call: [usize; 4]) {
+    let [kind, from, to, side] = call;
+    let own = 1u64 << to;
+    let (votes, accepts) = (row[side], row[2 + side]);
     // With a site more, a largest quorum grows only if the new site is in it: it must have a slice inside, as the
     // receiver must.
     let grows = |w: u64| find(&rows[from], 0, w).is_some() && belongs(rows, w, to);
-    if state[masks + ACCEPTED + side] & own == 0 {
+    if masks[ACCEPTED + side] & own == 0 {
         // What blocks the site has changed only if an accept came; and its own accept is not there to be counted.
         let blocked = kind == 2 && is_blocked(&rows[to], accepts);
         let heard_already = (if kind == 2 { votes } else { accepts }) >> from & 1 == 1;
         if blocked || (!heard_already && grows(votes | accepts)) {
-            state[masks + ACCEPTED + side] |= own;
-            state[heard + 2] |= own;
+            masks[ACCEPTED + side] |= own;
+            row[2 + side] |= own;
             if belongs(rows, accepts | own, to) {
-                state[masks + CONFIRMED + side] |= own;
+                masks[CONFIRMED + side] |= own;
             }
         }
-    } else if kind == 2 && state[masks + CONFIRMED + side] & own == 0 && grows(accepts) {
-        state[masks + CONFIRMED + side] |= own;
+    } else if kind == 2 && masks[CONFIRMED + side] & own == 0 && grows(accepts) {
+        masks[CONFIRMED + side] |= own;
     }
-    (0, true)
 }
 
 pub fn step(table: &[u64], faulty: u64, state: &mut [u64], call: [u8; 4]) -> Answer {
     answer((|| {
         let rows = check_state(table, faulty, state)?;
-        match take(rows, faulty, state, call).0 {
+        match take(rows, faulty, parts(state, rows.len()), call).0 {
             0 => Ok([0; 3]),
             number => Err((number.into(), 0)),
         }
@@ -688,11 +702,13 @@ pub fn step(table: &[u64], faulty: u64, state: &mut [u64], call: [u8; 4]) -> Ans
 /// that was taken has been heard, and every other refusal stays.
 fn passes(rows: &[[u64; ROW]], faulty: u64, calls: &[[u8; 4]], state: &mut [u64], answers: &mut [u8]) -> u64 {
     state.fill(0);
+    let (heard, masks) = parts(state, rows.len());
+    let heard = &mut heard[..rows.len()];
     let mut waiting = [0u16; 4096];
     let mut count = 0;
     let mut changed = false;
     for (i, (call, answer)) in calls.iter().zip(answers.iter_mut()).enumerate() {
-        let (number, change) = take(rows, faulty, state, *call);
+        let (number, change) = take(rows, faulty, (heard, masks), *call);
         *answer = number;
         changed |= change;
         if number == 15 {
@@ -707,7 +723,7 @@ fn passes(rows: &[[u64; ROW]], faulty: u64, calls: &[[u8; 4]], state: &mut [u64]
         let mut left = 0;
         for k in 0..count {
             let i = usize::from(waiting[k]);
-            let (number, change) = take(rows, faulty, state, calls[i]);
+            let (number, change) = take(rows, faulty, (heard, masks), calls[i]);
             changed |= change;
             if number == 15 {
                 waiting[left] = i as u16;

@@ -32,7 +32,10 @@ pub fn memory(rows: &[Vec<u64>]) -> Vec<u64> {
 fn filled(first: Vec<u64>, base: u64, shift: u32, most: u64) -> Vec<u64> {
     let mut slices = first;
     for slice in (0..most).map(|k| base | k << shift) {
-        if slices.len() < 62 && !slices.contains(&slice) {
+        if slices.len() == 62 {
+            break;
+        }
+        if !slices.contains(&slice) {
             slices.push(slice);
         }
     }
@@ -166,15 +169,23 @@ fn all_votes(n: u8) -> Vec<Call> {
     calls
 }
 
+/// Every site votes drill, and each hears all votes but the next site's, so that no two have heard the same.
+fn all_votes_but_one(n: u8) -> Vec<Call> {
+    all_votes(n).into_iter().filter(|call| call[0] == 0 || call[1] != (call[2] + 1) % n).collect()
+}
+
 /// States to ask about and to step from: name, table, faulty set, and the list that leads there.
 pub fn states() -> Vec<(&'static str, Rows, u64, Vec<Call>)> {
     // All but site 0 vote, along the costly chain: each site that asks for the largest quorum meets up to 63 rounds,
     // and nobody accepts.
     let chain: Vec<Call> = all_votes(64).into_iter().filter(|call| call[1] != 0).collect();
+    let chain_but_one: Vec<Call> = all_votes_but_one(64).into_iter().filter(|call| call[1] != 0).collect();
     vec![
         ("fresh, 64 sites, 62 slices", full(64), 0, Vec::new()),
         ("votes along a chain, 64 sites", costly_chain(64), 0, chain),
         ("all votes heard, 64 sites, 62 slices", full(64), 0, all_votes(64)),
+        ("all votes but one, 64 sites, 62 slices", full(64), 0, all_votes_but_one(64)),
+        ("votes but one along a chain, 64 sites", costly_chain(64), 0, chain_but_one),
         ("a plain day, 12 sites", random(&mut Rng(99), 12, 20, 1), 0, plain_day(12)),
     ]
 }

@@ -1,0 +1,193 @@
+//! The deepest stack of each public call. Before a call the stack below the caller is painted; behind it, the lowest
+//! cell that has lost its paint says how deep the call went: its arguments on the stack, the return address, and
+//! everything that the library and the C functions it calls put there.
+//!
+//! Prints a row each: the function, the bytes, and the input of those tried that went deepest.
+
+#[allow(dead_code)]
+mod inputs;
+#[allow(dead_code)]
+#[path = "../compare/library.rs"]
+mod library;
+#[path = "../model/model.rs"]
+mod model;
+
+use inputs::{memory, Rng};
+use library::*;
+use std::arch::asm;
+
+/// How much of the stack is painted: many times what any call takes.
+const PAINTED: usize = 1 << 20;
+const PAINT: u64 = 0x5a17_e55a_17e5_5a17;
+
+/// The depth of a call, in bytes. It stands in the measuring function itself, so that no frame comes between.
+macro_rules! depth {
+    ($call:expr) => {{
+        let top: usize;
+        // SAFETY: the register is read, and nothing else is done.
+        unsafe { asm!("mov {}, rsp", out(reg) top, options(nomem, nostack, preserves_flags)) };
+        let bottom = top - PAINTED;
+        // SAFETY: the thread has more stack than is painted, and a function that calls others keeps nothing below its
+        // stack pointer.
+        unsafe {
+            let mut at = bottom;
+            while at < top {
+                (at as *mut u64).write_volatile(PAINT);
+                at += 8;
+            }
+        }
+        let _ = $call;
+        let mut at = bottom;
+        // SAFETY: as above; the cells are read only.
+        while at < top && unsafe { (at as *const u64).read_volatile() } == PAINT {
+            at += 8;
+        }
+        let depth = top - at;
+        assert!(depth < PAINTED, "the call went below the paint");
+        depth
+    }};
+}
+
+/// The rows of the table, in the order of their first measure.
+struct Depths(Vec<(&'static str, usize, String)>);
+
+impl Depths {
+    fn note(&mut self, function: &'static str, depth: usize, input: &str) {
+        match self.0.iter_mut().find(|row| row.0 == function) {
+            Some(row) if row.1 >= depth => {}
+            Some(row) => (row.1, row.2) = (depth, input.into()),
+            None => self.0.push((function, depth, input.into())),
+        }
+    }
+}
+
+fn main() {
+    let measure = std::thread::Builder::new().stack_size(4 * PAINTED).spawn(measure).expect("a thread");
+    let depths = measure.join().expect("the measure");
+    println!("| {:<18} | {:>6} | {:<48} |", "function", "bytes", "deepest on");
+    println!("|{:-<20}|{:->7}:|{:-<50}|", "", "", "");
+    for (function, depth, input) in depths.0 {
+        println!("| {:<18} | {depth:>6} | {input:<48} |", function);
+    }
+}
+
+#[inline(never)]
+fn measure() -> Depths {
+    let mut depths = Depths(Vec::new());
+    let mut out = [0u64; 4];
+    let out = out.as_mut_ptr();
+    let (mut cells, mut bytes) = (vec![0u64; 63 * 64], vec![0u8; 512 * 64]);
+    let (room, room_length) = (cells.as_mut_ptr(), cells.len());
+    let (byte_room, byte_room_length) = (bytes.as_mut_ptr(), bytes.len());
+
+    // SAFETY (all calls): each pointer goes with the length of what it points to.
+    let tables = [
+        ("62 slices, 64 sites", inputs::full(64)),
+        ("a costly chain, 64 sites", inputs::costly_chain(64)),
+        ("a block chain, 64 sites", inputs::block_chain(64)),
+        ("one site", vec![vec![1]]),
+        ("9 sites, 6 slices", inputs::random(&mut Rng(77), 9, 6, 2)),
+    ];
+    for (name, rows) in &tables {
+        let n = rows.len();
+        let table = memory(rows);
+        let (table, length) = (table.as_slice().as_ptr(), table.len());
+        let mut image = Vec::new();
+        for (site, slices) in rows.iter().enumerate() {
+            image.extend(model::block_on_file(site, n, slices));
+        }
+        let all = model::all_sites(n);
+        let block = &image[..512];
+        depths.note("siren_block_check", depth!(unsafe { siren_block_check(block.as_ptr(), block.len()) }), name);
+        depths.note("siren_site_mark", depth!(unsafe { siren_site_mark(63, all, 0) }), "any");
+        depths.note("siren_table_check", depth!(unsafe { siren_table_check(table, length, out) }), name);
+        depths.note(
+            "siren_image_read",
+            depth!(unsafe { siren_image_read(image.as_ptr(), image.len(), room, room_length, out) }),
+            name,
+        );
+        depths.note(
+            "siren_image_write",
+            depth!(unsafe { siren_image_write(table, length, byte_room, byte_room_length, out) }),
+            name,
+        );
+        for set in [all, all & !1, 0] {
+            depths.note("siren_quorum", depth!(unsafe { siren_quorum(table, length, set, out) }), name);
+            depths.note("siren_largest", depth!(unsafe { siren_largest(table, length, set, out) }), name);
+            depths.note("siren_blocks", depth!(unsafe { siren_blocks(table, length, set, 0, out) }), name);
+        }
+    }
+
+    for (name, rows, faulty) in inputs::twelve_sites() {
+        let table = memory(&rows);
+        let (table, length) = (table.as_slice().as_ptr(), table.len());
+        depths.note("siren_shared", depth!(unsafe { siren_shared(table, length, out) }), name);
+        depths.note("siren_intact", depth!(unsafe { siren_intact(table, length, faulty, out) }), name);
+    }
+
+    for (name, rows, faulty, calls) in inputs::states() {
+        let table = memory(&rows);
+        let checked = model::table_in_memory(&table).expect("a table");
+        let (table, length) = (table.as_slice().as_ptr(), table.len());
+        let mut state = vec![0; model::state_length(rows.len())];
+        for call in &calls {
+            model::take(&checked, faulty, &mut state, *call);
+        }
+        let [kind, from, to, side] = inputs::one_more(rows.len(), faulty, &state);
+        let (cells, cells_length) = (state.as_mut_ptr(), state.len());
+        depths.note(
+            "siren_sound",
+            depth!(unsafe { siren_sound(table, length, faulty, cells, cells_length, out) }),
+            name,
+        );
+        depths.note(
+            "siren_step",
+            depth!(unsafe { siren_step(table, length, faulty, cells, cells_length, kind, from, to, side, out) }),
+            name,
+        );
+    }
+
+    for (name, rows, faulty, calls, _) in inputs::lists() {
+        let table = memory(&rows);
+        let (table, length) = (table.as_slice().as_ptr(), table.len());
+        let list = calls.as_flattened();
+        depths.note(
+            "siren_run",
+            depth!(unsafe {
+                siren_run(
+                    table,
+                    length,
+                    faulty,
+                    list.as_ptr(),
+                    list.len(),
+                    room,
+                    room_length,
+                    byte_room,
+                    byte_room_length,
+                    out,
+                )
+            }),
+            name,
+        );
+        let records = calls.as_ptr().cast::<Call>();
+        depths.note(
+            "siren_run_records",
+            depth!(unsafe {
+                siren_run_records(
+                    table,
+                    length,
+                    faulty,
+                    records,
+                    calls.len(),
+                    room,
+                    room_length,
+                    byte_room,
+                    byte_room_length,
+                    out,
+                )
+            }),
+            name,
+        );
+    }
+    depths
+}
