@@ -55,12 +55,19 @@ fn write(root: &Path, leaflet: &Leaflet) {
     let names: Vec<&str> = files.iter().map(|(name, _)| *name).collect();
     fs::write(verdict.join("args"), args(&names)).expect("args");
     fs::write(verdict.join("stdout"), cases::verdict_text(&files)).expect("stdout");
+    let (program, (_, input)) = (root.join("crates/verdict"), &files[10]);
+    put(&program, &[("stdin", input.clone()), ("stdout", model::verdict(input).into_bytes())]);
     let desk = root.join("crates/desk_cases");
     let (files, calls) = (cases::desk_files(), cases::desk_calls());
     put(&desk.join("data"), &files);
     put(&desk.join("data/folder"), &[("inside", vec![])]);
     fs::write(desk.join("args"), args(&calls.join(&"--"))).expect("args");
     fs::write(desk.join("stdout"), cases::desk_text(leaflet, &files, &calls)).expect("stdout");
+    let (program, call) = (root.join("crates/desk"), ["run", "b.table", "8", "two-faced.calls"]);
+    let named: Vec<File> = files.iter().filter(|(name, _)| call.contains(name)).cloned().collect();
+    let text = cases::desk_answer(leaflet, &files, &call).expect("an answer");
+    put(&program.join("data"), &named);
+    put(&program, &[("args", args(&call).into_bytes()), ("stdout", text.into_bytes())]);
 }
 
 fn main() {
