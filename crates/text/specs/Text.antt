@@ -1,6 +1,6 @@
 -- What the programs print, as bytes: words, numbers and masks, and a mask that was typed.
 use Prim.Native.Char.{Char, code}
-use Prim.Native.Nat.{ℕ, suc, _+_, _-_, _*_, _^_}
+use Prim.Native.Nat.{ℕ, zero, suc, _+_, _-_, _*_, _^_}
 use Prim.Native.String.{String, [], _∷_}
 use mathlib.Core.Bool.{Bool, _&&_, not, cond}
 use mathlib.Core.List.{List, [] as nothing, _∷_ as _then_}
@@ -18,11 +18,9 @@ ascii (c ∷ s) = code c then ascii s
 
 -- "numbers decimal": the fewest decimal digits that hold a 64-bit number, one at least
 unfoldable pub width : ℕ → ℕ
-unfolding least
 width x = suc (least 19 (λ k. ltb x (10 ^ suc k)))
 
 unfoldable pub decimal : ℕ → List ℕ
-unfolding width
 decimal x = digits 10 (width x) x
 
 -- "Masks are 16 lower-case hexadecimal digits"
@@ -39,13 +37,11 @@ worth b =
 
 -- the number that the first k of the digits are
 unfoldable pub value : List ℕ → ℕ → ℕ
-unfolding worth
-value l 0 = 0
+value l zero = 0
 value l (suc k) = 16 * value l k + worth (getD l k 0)
 
 -- "1 to 16 hexadecimal digits"
 unfoldable pub typed : List ℕ → Typed
-unfolding worth value every
 typed l =
     cond (not (ltb (length l) 1) && (not (ltb 16 (length l)) && every (length l) (λ i. ltb (worth (getD l i 0)) 16)))
     (Mask (value l (length l)))

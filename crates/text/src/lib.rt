@@ -49,20 +49,23 @@ fn worth(b: u8) -> u64
     ensures { λ r. ⌜ r ≡ worth b ⌝ }
 {
     let x = b as u64;
-    if x >= 48 {
-        if x < 58 {
-            return x - 48;
-        }
+    if x < 48 {
+        return 16;
     }
-    if x >= 97 {
-        if x < 103 {
-            return x - 87;
-        }
+    if x < 58 {
+        return x - 48;
     }
-    if x >= 65 {
-        if x < 71 {
-            return x - 55;
-        }
+    if x < 65 {
+        return 16;
+    }
+    if x < 71 {
+        return x - 55;
+    }
+    if x < 97 {
+        return 16;
+    }
+    if x < 103 {
+        return x - 87;
     }
     16
 }
