@@ -1,0 +1,30 @@
+-- `check` meets its contract: the line of a sound image, or the refusal.
+use mathlib.Core.Path.{sym, _∙_}
+use borrow.Author.Needs.{needs}
+use denote.Ref.{now}
+use Rattle.report.proofs.Chain.{as-text}
+use Rattle.report.proofs.Ways.{check-sound, check-refused}
+use Rattle.report.proofs.check.Statement.{statement}
+use Rattle.report.proofs.check.Tie as tie
+
+returns : tie.Need-returns
+returns c =
+    as-text (check-sound (now (c .before .before .before .before .before .before .before .before .before .before .args .image)) _ (sym (c .before .before .before .before .before .before .before .read .ensures .0) ∙ c .before .before .before .before .q .given .1)) (c .line-decimal .ensures)
+
+returns-2 : tie.Need-returns-2
+returns-2 c =
+    as-text (check-refused (now (c .before .before .before .before .before .before .before .before .before .args .image)) _ (sym (c .before .before .before .before .before .before .read .ensures .0) ∙ c .before .before .before .q2 .given .1)) (c .put-explained .ensures)
+
+pub check-spec : {M : Type 1} → statement M
+check-spec =
+    tie.close
+    (tie.spec
+    (λ c. search needs)
+    (λ c κs. search needs)
+    (λ c. search needs)
+    (λ c. search needs)
+    (λ c κs. search needs)
+    (λ c. search needs)
+    (λ c κs. search needs)
+    returns
+    returns-2)

@@ -1,0 +1,36 @@
+-- `line_sides` meets its contract: a word, two masks and the end of the line.
+use native.Mathlib.Omega.{arith}
+use borrow.Author.Needs.{needs}
+use Rattle.report.proofs.Chain.{five}
+use Rattle.report.specs.Lines.{line, sides}
+use Rattle.text.proofs.Width.{length-mask}
+use Rattle.report.proofs.lines.line_sides.Statement.{statement}
+use Rattle.report.proofs.lines.line_sides.Tie as tie
+
+put-requires-2 : tie.Need-put-requires-2
+put-requires-2 c κs = omega (arith, length-mask (c .before .before .before .before .before .before .before .before .before .before .before .before .args .drill))
+
+put-mask-requires-2 : tie.Need-put-mask-requires-2
+put-mask-requires-2 c κs = omega (arith, length-mask (c .before .before .before .before .before .before .before .before .before .before .before .before .before .before .before .before .args .drill))
+
+put-requires-3 : tie.Need-put-requires-3
+put-requires-3 c κs = omega (arith, length-mask (c .before .before .before .before .before .before .before .before .before .before .before .before .before .before .before .before .before .before .before .before .before .args .drill), length-mask (c .before .before .before .before .before .before .before .before .before .before .before .before .before .before .before .before .before .before .before .before .before .args .live))
+
+returns : tie.Need-returns
+unfolding sides line
+returns c =
+    five (c .before .before .before .before .before .before .before .before .before .before .before .before .before .before .before .before .before .before .before .before .put .ensures) (c .before .before .before .before .before .before .before .before .before .before .before .before .before .before .before .before .put-mask .ensures) (c .before .before .before .before .before .before .before .before .before .before .before .put2 .ensures) (c .before .before .before .before .before .before .before .put-mask2 .ensures) (c .before .before .put3 .ensures) (omega arith)
+
+pub line-sides-spec : {M : Type 1} → statement M
+line-sides-spec =
+    tie.close
+    (tie.spec
+    (λ c κs. search needs)
+    (λ c κs. search needs)
+    (λ c. search needs)
+    put-requires-2
+    put-mask-requires-2
+    (λ c. search needs)
+    put-requires-3
+    (λ c. search needs)
+    returns)
