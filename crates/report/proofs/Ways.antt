@@ -4,31 +4,28 @@ use mathlib.Core.Bool.{Bool, true, false}
 use mathlib.Core.List.{List}
 use mathlib.Core.Path.{_≡_, refl, sym, ap, ap₂, _∙_}
 use native.Mathlib.Omega.{arith}
-use lib.Dec.{ltb}
 use lib.ListN.{length, drop, take, length-drop}
 use lib.Seq.{take-all}
-use borrow.Author.Tests.{lt-ltb, le-ltb, ltb-false}
-use Rattle.image.proofs.Load.{loads-front, length-loads}
+use borrow.Author.Tests.{lt-ltb, le-ltb}
+use Rattle.image.proofs.Load.{loads-front}
 use Rattle.image.proofs.ReadLaws.{read-taken, blocks-shape}
 use Rattle.image.specs.Image.{loads}
 use Rattle.image.specs.Read.{read, readCheck, readInto, toReading}
 use Rattle.image.specs.declared.Reading.{Reading}
 use Rattle.le.specs.Le.{field}
 use Rattle.masks.proofs.Laws.Subsets.{minus-⊆, ⊆-within}
-use Rattle.masks.specs.Mask.{allBelow, minus, within}
+use Rattle.masks.specs.Mask.{allBelow, minus}
 use Rattle.questions.specs.Answers.{sitesOf, verdictCheck, toGreatest, toSharing, toStanding}
 use Rattle.questions.specs.Answers as Answers
 use Rattle.questions.specs.declared.Greatest.{Greatest}
-use Rattle.questions.specs.declared.Sharing.{Sharing}
 use Rattle.questions.specs.declared.Standing.{Standing}
 use Rattle.refusals.proofs.First.{orElse-sound}
-use Rattle.refusals.specs.First.{orElse, refuse}
 use Rattle.refusals.specs.declared.Check.{Check}
 use Rattle.refusals.specs.declared.Check.the-variants.{Sound, Refused}
 use Rattle.refusals.specs.declared.Refusal.{Refusal}
-use Rattle.refusals.specs.declared.Refusal.the-variants.{Length, Large}
+use Rattle.refusals.specs.declared.Refusal.the-variants.{Length}
 use Rattle.report.specs.Lines.{line, refused, explained}
-use Rattle.report.specs.Table.{sitesOn, tableOn, imageCheck, unless, checkText}
+use Rattle.report.specs.Table.{sitesOn, imageCheck, checkText}
 use Rattle.report.specs.Verdict.{sevenLines, judgedText, verdictText, inputText, met}
 use Rattle.sets.specs.Quorum as Quorum
 use Rattle.sets.specs.Slices.{slicesOf}

@@ -1,8 +1,8 @@
 -- What typed digits are worth, and the mask that they are.
 use Prim.Native.Nat.{ℕ, zero, suc, _+_, _-_, _*_, _^_, _≤_, _<_}
-use mathlib.Core.Bool.{Bool, true, false}
+use mathlib.Core.Bool.{Bool, true}
 use mathlib.Core.List.{List}
-use mathlib.Core.Path.{_≡_, refl, ap}
+use mathlib.Core.Path.{_≡_, refl}
 use native.Mathlib.Nat.{le-refl, le-suc, le-trans, lt-of-lt-of-le, pow-le-pow-right, pow-succ'}
 use native.Mathlib.Numerals.{add-one}
 use native.Mathlib.Omega.{arith}
@@ -12,7 +12,6 @@ use borrow.Author.Tests.{lt-ltb, le-ltb, ltb-true}
 use Rattle.ground.specs.Search.{every}
 use Rattle.ground.proofs.Every.{every-of, every-at, every-not}
 use Rattle.text.specs.Text.{worth, value, typed}
-use Rattle.text.specs.declared.Typed.{Typed}
 use Rattle.text.specs.declared.Typed.the-variants.{Mask, NoMask}
 
 -- the byte is a digit

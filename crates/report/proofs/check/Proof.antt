@@ -9,11 +9,17 @@ use Rattle.report.proofs.check.Tie as tie
 
 returns : tie.Need-returns
 returns c =
-    as-text (check-sound (now (c .before .before .before .before .before .before .before .before .before .before .args .image)) _ (sym (c .before .before .before .before .before .before .before .read .ensures .0) ∙ c .before .before .before .before .q .given .1)) (c .line-decimal .ensures)
+    let q = c .before .before .before .before in
+    let r = q .before .before .before in
+    let s = r .before .before .before in
+    as-text (check-sound (now (s .args .image)) _ (sym (r .read .ensures .0) ∙ q .q .given .1)) (c .line-decimal .ensures)
 
 returns-2 : tie.Need-returns-2
 returns-2 c =
-    as-text (check-refused (now (c .before .before .before .before .before .before .before .before .before .args .image)) _ (sym (c .before .before .before .before .before .before .read .ensures .0) ∙ c .before .before .before .q2 .given .1)) (c .put-explained .ensures)
+    let q = c .before .before .before in
+    let r = q .before .before .before in
+    let s = r .before .before .before in
+    as-text (check-refused (now (s .args .image)) _ (sym (r .read .ensures .0) ∙ q .q2 .given .1)) (c .put-explained .ensures)
 
 pub check-spec : {M : Type 1} → statement M
 check-spec =

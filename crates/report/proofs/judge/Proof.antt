@@ -13,29 +13,45 @@ use Rattle.report.proofs.judge.Tie as tie
 
 returns : tie.Need-returns
 returns c =
-    let a = c .before .before .before .before .before .before .before .before .before .before .args in
-    as-text (judged-refused (now (a .table)) (a .faulty) _ (sym (c .before .before .before .before .before .standing .given .1) ∙ c .before .before .before .before .before .before .before .intact .ensures)) (c .before .before .put-refused .ensures)
+    let q = c .before .before .before .before .before in
+    let r = q .before .before in
+    let s = r .before .before .before in
+    as-text (judged-refused (now (s .args .table)) (s .args .faulty) _ (sym (q .standing .given .1) ∙ r .intact .ensures))
+    (c .before .before .put-refused .ensures)
 
 returns-2 : tie.Need-returns-2
 returns-2 c =
-    let a = c .before .before .before .before .before .before .before .before .before .before .before .before .before .before .before .before .before .args in
-    let t = now (a .table) in
-    let n : a .sites ≡ sitesOf t = omega arith in
-    let others = c .before .before .before .before .before .before .before .before .before .minus .ensures ∙ ap (λ x. minus x (a .faulty)) (c .before .before .before .before .before .before .before .before .before .before .all-below .ensures) in
+    let g = c .before .before .before .before .before in
+    let l = g .before .before in
+    let o = l .before .before in
+    let b = o .before in
+    let q = b .before .before in
+    let r = q .before .before in
+    let s = r .before .before .before in
+    let n : s .args .sites ≡ sitesOf (now (s .args .table)) = omega arith in
+    let others = o .minus .ensures ∙ ap (λ x. minus x (s .args .faulty)) (b .all-below .ensures) in
     absurd
-    (others-taken t (a .faulty) _ (sym (c .before .before .before .before .before .before .before .before .before .before .before .before .standing2 .given .1) ∙ c .before .before .before .before .before .before .before .before .before .before .before .before .before .before .intact .ensures) (a .sites) _ n others _
-    (sym (c .before .before .before .before .before .greatest .given .1) ∙ c .before .before .before .before .before .before .before .largest .ensures))
+    (others-taken (now (s .args .table)) (s .args .faulty) _ (sym (q .standing2 .given .1) ∙ r .intact .ensures) (s .args .sites) _ n others _
+    (sym (g .greatest .given .1) ∙ l .largest .ensures))
 
 returns-3 : tie.Need-returns-3
 returns-3 c =
-    let a = c .before .before .before .before .before .before .before .before .before .before .before .before .before .before .before .before .before .before .args in
-    let t = now (a .table) in
-    let n : a .sites ≡ sitesOf t = omega arith in
-    let others = c .before .before .before .before .before .before .before .before .before .before .minus .ensures ∙ ap (λ x. minus x (a .faulty)) (c .before .before .before .before .before .before .before .before .before .before .before .all-below .ensures) in
+    let v = c .before .before in
+    let m = v .before in
+    let g = m .before .before .before in
+    let l = g .before .before in
+    let h = l .before in
+    let o = h .before in
+    let b = o .before in
+    let q = b .before .before in
+    let r = q .before .before in
+    let s = r .before .before .before in
+    let n : s .args .sites ≡ sitesOf (now (s .args .table)) = omega arith in
+    let others = o .minus .ensures ∙ ap (λ x. minus x (s .args .faulty)) (b .all-below .ensures) in
     as-text
-    (judged-is t (a .faulty) _ (sym (c .before .before .before .before .before .before .before .before .before .before .before .before .before .standing2 .given .1) ∙ c .before .before .before .before .before .before .before .before .before .before .before .before .before .before .before .intact .ensures) (a .sites) _ n others _ _ _
-    (sym (c .before .before .before .before .before .before .greatest2 .given .1) ∙ c .before .before .before .before .before .before .before .before .largest .ensures) (c .before .before .before .meets .ensures ∙ ap met (c .before .before .before .before .before .before .before .before .before .shared .ensures)))
-    (c .before .before .put-verdict .ensures)
+    (judged-is (now (s .args .table)) (s .args .faulty) _ (sym (q .standing2 .given .1) ∙ r .intact .ensures) (s .args .sites) _ n others _ _ _
+    (sym (g .greatest2 .given .1) ∙ l .largest .ensures) (m .meets .ensures ∙ ap met (h .shared .ensures)))
+    (v .put-verdict .ensures)
 
 pub judge-spec : {M : Type 1} → statement M
 judge-spec =

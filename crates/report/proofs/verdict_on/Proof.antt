@@ -11,13 +11,19 @@ returns : tie.Need-returns
 returns c = as-text (too-short (now (c .before .before .before .before .args .input)) (c .before .before .if1 .taken)) (c .put-refused .ensures)
 
 returns-2 : tie.Need-returns-2
-returns-2 c = as-text (too-long (now (c .before .before .before .before .before .args .input)) (c .before .before .before .if1 .left) (c .before .before .if2 .taken)) (c .put-refused2 .ensures)
+returns-2 c =
+    let b = c .before .before in
+    let a = b .before in
+    let s = a .before .before in
+    as-text (too-long (now (s .args .input)) (a .if1 .left) (b .if2 .taken)) (c .put-refused2 .ensures)
 
 returns-3 : tie.Need-returns-3
 returns-3 c =
-    as-text
-    (input-taken (now (c .before .before .before .before .before .before .before .args .input)) _ _ (c .before .before .before .before .before .if1 .left) (c .before .before .before .before .if2 .left) (c .before .before .before .get64 .ensures) refl)
-    (c .verdict .ensures)
+    let f = c .before .before .before in
+    let b = f .before in
+    let a = b .before in
+    let s = a .before .before in
+    as-text (input-taken (now (s .args .input)) _ _ (a .if1 .left) (b .if2 .left) (f .get64 .ensures) refl) (c .verdict .ensures)
 
 pub verdict-on-spec : {M : Type 1} → statement M
 verdict-on-spec =

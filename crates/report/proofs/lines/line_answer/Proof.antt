@@ -11,13 +11,15 @@ use Rattle.report.proofs.lines.line_answer.Tie as tie
 
 returns : tie.Need-returns
 returns c =
-    let a = c .before .before .before .before .before .before .before .before .args in
-    as-text (sym (ap (λ (b : Bool). line (now (a .word)) (cond b (ascii "yes") (ascii "no"))) (c .before .before .before .before .before .if1 .taken))) (c .before .before .line-text .ensures)
+    let s = c .before .before .before .before .before .before .before .before in
+    as-text (sym (ap (λ (b : Bool). line (now (s .args .word)) (cond b (ascii "yes") (ascii "no"))) (c .before .before .before .before .before .if1 .taken)))
+    (c .before .before .line-text .ensures)
 
 returns-2 : tie.Need-returns-2
 returns-2 c =
-    let a = c .before .before .before .before .before .before .before .before .args in
-    as-text (sym (ap (λ (b : Bool). line (now (a .word)) (cond b (ascii "yes") (ascii "no"))) (c .before .before .before .before .before .if1 .left))) (c .before .before .line-text2 .ensures)
+    let s = c .before .before .before .before .before .before .before .before in
+    as-text (sym (ap (λ (b : Bool). line (now (s .args .word)) (cond b (ascii "yes") (ascii "no"))) (c .before .before .before .before .before .if1 .left)))
+    (c .before .before .line-text2 .ensures)
 
 pub line-answer-spec : {M : Type 1} → statement M
 line-answer-spec =

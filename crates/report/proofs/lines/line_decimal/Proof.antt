@@ -12,15 +12,13 @@ put-requires-2 c κs = omega (arith, length-decimal (c .before .before .before .
 
 returns : tie.Need-returns
 unfolding line
-returns c = three (c .before .before .before .before .before .before .before .before .before .before .before .put .ensures) (c .before .before .before .before .before .before .before .put-decimal .ensures) (c .before .before .put2 .ensures) (omega arith)
+returns c =
+    let c3 = c .before .before in
+    let c2 = c3 .before .before .before .before .before in
+    let c1 = c2 .before .before .before .before in
+    three (c1 .put .ensures) (c2 .put-decimal .ensures) (c3 .put2 .ensures) (omega arith)
 
 pub line-decimal-spec : {M : Type 1} → statement M
 line-decimal-spec =
     tie.close
-    (tie.spec
-    (λ c κs. search needs)
-    (λ c κs. search needs)
-    (λ c. search needs)
-    put-requires-2
-    (λ c. search needs)
-    returns)
+    (tie.spec (λ c κs. search needs) (λ c κs. search needs) (λ c. search needs) put-requires-2 (λ c. search needs) returns)

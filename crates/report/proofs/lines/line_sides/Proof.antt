@@ -14,12 +14,19 @@ put-mask-requires-2 : tie.Need-put-mask-requires-2
 put-mask-requires-2 c κs = omega (arith, length-mask (c .before .before .before .before .before .before .before .before .before .before .before .before .before .before .before .before .args .drill))
 
 put-requires-3 : tie.Need-put-requires-3
-put-requires-3 c κs = omega (arith, length-mask (c .before .before .before .before .before .before .before .before .before .before .before .before .before .before .before .before .before .before .before .before .before .args .drill), length-mask (c .before .before .before .before .before .before .before .before .before .before .before .before .before .before .before .before .before .before .before .before .before .args .live))
+put-requires-3 c κs =
+    let s = c .before .before .before .before .before .before .before .before .before .before .before .before .before .before .before .before .before .before .before .before .before in
+    omega (arith, length-mask (s .args .drill), length-mask (s .args .live))
 
 returns : tie.Need-returns
 unfolding sides line
 returns c =
-    five (c .before .before .before .before .before .before .before .before .before .before .before .before .before .before .before .before .before .before .before .before .put .ensures) (c .before .before .before .before .before .before .before .before .before .before .before .before .before .before .before .before .put-mask .ensures) (c .before .before .before .before .before .before .before .before .before .before .before .put2 .ensures) (c .before .before .before .before .before .before .before .put-mask2 .ensures) (c .before .before .put3 .ensures) (omega arith)
+    let c5 = c .before .before in
+    let c4 = c5 .before .before .before .before .before in
+    let c3 = c4 .before .before .before .before in
+    let c2 = c3 .before .before .before .before .before in
+    let c1 = c2 .before .before .before .before in
+    five (c1 .put .ensures) (c2 .put-mask .ensures) (c3 .put2 .ensures) (c4 .put-mask2 .ensures) (c5 .put3 .ensures) (omega arith)
 
 pub line-sides-spec : {M : Type 1} → statement M
 line-sides-spec =

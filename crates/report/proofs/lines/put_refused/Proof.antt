@@ -16,13 +16,23 @@ put-decimal-requires-2 : tie.Need-put-decimal-requires-2
 put-decimal-requires-2 c κs = omega (arith, length-decimal (c .before .before .before .before .before .before .before .before .before .before .number .result))
 
 put-requires-3 : tie.Need-put-requires-3
-put-requires-3 c κs = omega (arith, length-decimal (c .before .before .before .before .before .before .before .before .before .before .before .before .before .before .before .number .result), length-decimal (c .before .before .before .before .before .place .result))
+put-requires-3 c κs =
+    let k = c .before .before .before .before .before .place in
+    let n = c .before .before .before .before .before .before .before .before .before .before .before .before .before .before .before .number in
+    omega (arith, length-decimal (n .result), length-decimal (k .result))
 
 returns : tie.Need-returns
 unfolding refused line
 returns c =
-    five (c .before .before .before .before .before .before .before .before .before .before .before .before .before .before .before .before .before .before .before .before .before .before .put .ensures) (as-text (ap decimal (c .before .before .before .before .before .before .before .before .before .before .before .before .before .before .before .before .before .before .number .ensures)) (c .before .before .before .before .before .before .before .before .before .before .before .before .before .before .before .before .before .put-decimal .ensures)) (c .before .before .before .before .before .before .before .before .before .before .before .before .put2 .ensures)
-    (as-text (ap decimal (c .before .before .before .before .before .before .before .before .place .ensures)) (c .before .before .before .before .before .before .before .put-decimal2 .ensures)) (c .before .before .put3 .ensures) (omega arith)
+    let c5 = c .before .before in
+    let c4 = c5 .before .before .before .before .before in
+    let k = c4 .before in
+    let c3 = k .before .before .before .before in
+    let c2 = c3 .before .before .before .before .before in
+    let n = c2 .before in
+    let c1 = n .before .before .before .before in
+    five (c1 .put .ensures) (as-text (ap decimal (n .number .ensures)) (c2 .put-decimal .ensures)) (c3 .put2 .ensures)
+    (as-text (ap decimal (k .place .ensures)) (c4 .put-decimal2 .ensures)) (c5 .put3 .ensures) (omega arith)
 
 pub put-refused-spec : {M : Type 1} → statement M
 put-refused-spec =
