@@ -66,7 +66,15 @@ a-to-f b l h = rw (le-ltb b 48 (omega arith), le-ltb b 58 (omega arith), le-ltb 
 pub above-f : (b : ℕ) → 103 ≤ b → worth b ≡ 16
 unfolding worth
 above-f b l =
-    rw (le-ltb b 48 (omega arith), le-ltb b 58 (omega arith), le-ltb b 97 (omega arith), le-ltb b 103 l, le-ltb b 65 (omega arith), le-ltb b 71 (omega arith)) refl
+    rw (
+      le-ltb b 48 (omega arith),
+      le-ltb b 58 (omega arith),
+      le-ltb b 97 (omega arith),
+      le-ltb b 103 l,
+      le-ltb b 65 (omega arith),
+      le-ltb b 71 (omega arith),
+    )
+    refl
 
 -- the ways out
 pub too-few : (l : List ℕ) → length l < 1 → typed l ≡ NoMask

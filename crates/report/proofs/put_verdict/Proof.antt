@@ -40,7 +40,8 @@ line-mask-requires-2 c κs =
 
 line-mask-requires-3 : tie.Need-line-mask-requires-3
 line-mask-requires-3 c κs =
-    let s = c .before .before .before .before .before .before .before .before .before .before .before .before .before .before .before .before .before .before .before .before .before .before .before .before .before in
+    let m = c .before .before .before .before .before .before .before .before .before .before .before in
+    let s = m .before .before .before .before .before .before .before .before .before .before .before .before .before .before in
     omega (
       arith,
       decimal-line (ascii "sites ") (s .args .sites),

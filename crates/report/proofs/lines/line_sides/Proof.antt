@@ -8,14 +8,19 @@ use Rattle.report.proofs.lines.line_sides.Statement.{statement}
 use Rattle.report.proofs.lines.line_sides.Tie as tie
 
 put-requires-2 : tie.Need-put-requires-2
-put-requires-2 c κs = omega (arith, length-mask (c .before .before .before .before .before .before .before .before .before .before .before .before .args .drill))
+put-requires-2 c κs =
+    let s = c .before .before .before .before .before .before .before .before .before .before .before .before in
+    omega (arith, length-mask (s .args .drill))
 
 put-mask-requires-2 : tie.Need-put-mask-requires-2
-put-mask-requires-2 c κs = omega (arith, length-mask (c .before .before .before .before .before .before .before .before .before .before .before .before .before .before .before .before .args .drill))
+put-mask-requires-2 c κs =
+    let s = c .before .before .before .before .before .before .before .before .before .before .before .before .before .before .before .before in
+    omega (arith, length-mask (s .args .drill))
 
 put-requires-3 : tie.Need-put-requires-3
 put-requires-3 c κs =
-    let s = c .before .before .before .before .before .before .before .before .before .before .before .before .before .before .before .before .before .before .before .before .before in
+    let m = c .before .before .before .before .before .before .before .before .before .before .before .before .before in
+    let s = m .before .before .before .before .before .before .before .before in
     omega (arith, length-mask (s .args .drill), length-mask (s .args .live))
 
 returns : tie.Need-returns
