@@ -15,12 +15,15 @@ line word said = word ++ (said ++ newline)
 
 -- a word, and two masks: drill, then live
 unfoldable pub sides : List ℕ → ℕ → ℕ → List ℕ
+unfolding line mask
 sides word drill live = line word (mask drill ++ (ascii " " ++ mask live))
 
 -- "A refusal prints the single line `refused N K`, K the block or 0."
 unfoldable pub refused : Refusal → List ℕ
+unfolding line decimal
 refused r = line (ascii "refused ") (decimal (number r) ++ (ascii " " ++ decimal (place r)))
 
 -- at the desk a second line says what the number means
 unfoldable pub explained : Refusal → List ℕ
+unfolding refused
 explained r = refused r ++ line (ascii (meaning r)) (ascii "")

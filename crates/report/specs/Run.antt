@@ -15,13 +15,16 @@ use Rattle.voting.specs.State.{get, voted, accepted, confirmed, size}
 
 -- `site V drill` where the site's mark is 1, else `site V live`
 unfoldable pub siteLine : ℕ → ℕ → ℕ → List ℕ
+unfolding line decimal markOf
 siteLine drill live v = line (ascii "site ") (decimal v ++ cond (eqb (markOf v drill live) 1) (ascii " drill") (ascii " live"))
 
 -- `call I A`: A is call I's answer in the last pass
 unfoldable pub callLine : List ℕ → ℕ → List ℕ
+unfolding line decimal
 callLine answers i = line (ascii "call ") (decimal i ++ (ascii " " ++ decimal (getD answers i 0)))
 
 unfoldable pub stateLines : ℕ → List ℕ → List ℕ
+unfolding sides siteLine cat
 stateLines n s =
     let drill = get s (confirmed n 0) in
     let live = get s (confirmed n 1) in
@@ -32,6 +35,7 @@ stateLines n s =
 
 -- for n sites, of which those of F are faulty: the passes, the state at the end, and the answers of the last pass
 unfoldable pub endLines : ℕ → ℕ → ℕ → List ℕ → List ℕ → List ℕ
+unfolding line decimal mask stateLines callLine cat
 endLines F n passes s answers =
     line (ascii "sites ") (decimal n)
     ++ (line (ascii "faulty ") (mask F)
@@ -41,10 +45,12 @@ endLines F n passes s answers =
 
 -- of a table in memory: 10, then 17, then the lines. The rooms are for 64 sites and 4,096 calls, so that 9 does not arise.
 unfoldable pub ranText : ℕ → List ℕ → List ℕ → List ℕ
+unfolding runCheck explained endLines
 ranText F t list =
     let r = runOf t F list in
     unless (runCheck t F (length list) (size 64) 4096) explained (endLines F (sites (length t)) (r .passes) (r .state) (r .answers))
 
 -- "the table as in reading, 10, 17": the lines of the run, or the refusal and what it means
 unfoldable pub runText : ℕ → List ℕ → List ℕ → List ℕ
+unfolding imageCheck explained ranText
 runText F image list = unless (imageCheck image) explained (ranText F (tableOn image) list)

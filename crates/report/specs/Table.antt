@@ -19,6 +19,7 @@ tableOn image = loads (sitesOn image) image
 
 -- what refuses an image: the reader, which is lent room for 64 sites
 unfoldable pub imageCheck : List ℕ → Check
+unfolding readCheck
 imageCheck image = readCheck image (63 * 64)
 
 -- the text where nothing is refused, or what is said of the refusal
@@ -28,4 +29,5 @@ unless (Refused r) said text = said r
 
 -- `sound N`, or the refusal and what it means
 unfoldable pub checkText : List ℕ → List ℕ
+unfolding imageCheck explained line decimal
 checkText image = unless (imageCheck image) explained (line (ascii "sound ") (decimal (sitesOn image)))

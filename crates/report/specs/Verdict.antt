@@ -20,6 +20,7 @@ use Rattle.text.specs.Text.{ascii, decimal, mask}
 
 -- for n sites, of which those of F are faulty: do the quorums meet, the intact sites, the largest quorum outside F and its rounds
 unfoldable pub sevenLines : ℕ → ℕ → Bool → ℕ → ℕ → ℕ → List ℕ
+unfolding line decimal mask
 sevenLines F n meet whole quorum k =
     line (ascii "sites ") (decimal n)
     ++ (line (ascii "faulty ") (mask F)
@@ -31,6 +32,7 @@ sevenLines F n meet whole quorum k =
 
 -- of a table in memory: 10, then 16, then the lines
 unfoldable pub judgedText : ℕ → List ℕ → List ℕ
+unfolding setCheck refused sevenLines meets intact largest rounds
 judgedText F t =
     let n = sites (length t) in
     let slices = slicesOf t in
@@ -40,10 +42,12 @@ judgedText F t =
 
 -- "Table first, then 10, then 16": the seven lines, or the single line of a refusal
 unfoldable pub verdictText : ℕ → List ℕ → List ℕ
+unfolding imageCheck refused judgedText
 verdictText F image = unless (imageCheck image) refused (judgedText F (tableOn image))
 
 -- "Standard input: the faulty mask, 8 bytes little-endian, then a table image. Under 8 bytes, or over 32,776, it is refusal 1."
 unfoldable pub inputText : List ℕ → List ℕ
+unfolding refused verdictText
 inputText input = cond (ltb (length input) 8 || ltb 32776 (length input)) (refused Length) (verdictText (field 8 input 0) (drop 8 input))
 
 -- what the answer on shared sites says

@@ -1,8 +1,8 @@
 -- What typed digits are worth, and the mask that they are.
 use Prim.Native.Nat.{ℕ, zero, suc, _+_, _-_, _*_, _^_, _≤_, _<_}
-use mathlib.Core.Bool.{Bool, true, false}
+use mathlib.Core.Bool.{Bool, true}
 use mathlib.Core.List.{List}
-use mathlib.Core.Path.{_≡_, refl, ap}
+use mathlib.Core.Path.{_≡_, refl}
 use native.Mathlib.Nat.{le-refl, le-suc, le-trans, lt-of-lt-of-le, pow-le-pow-right, pow-succ'}
 use native.Mathlib.Numerals.{add-one}
 use native.Mathlib.Omega.{arith}
@@ -12,7 +12,6 @@ use borrow.Author.Tests.{lt-ltb, le-ltb, ltb-true}
 use Rattle.ground.specs.Search.{every}
 use Rattle.ground.proofs.Every.{every-of, every-at, every-not}
 use Rattle.text.specs.Text.{worth, value, typed}
-use Rattle.text.specs.declared.Typed.{Typed}
 use Rattle.text.specs.declared.Typed.the-variants.{Mask, NoMask}
 
 -- the byte is a digit
@@ -67,7 +66,15 @@ a-to-f b l h = rw (le-ltb b 48 (omega arith), le-ltb b 58 (omega arith), le-ltb 
 pub above-f : (b : ℕ) → 103 ≤ b → worth b ≡ 16
 unfolding worth
 above-f b l =
-    rw (le-ltb b 48 (omega arith), le-ltb b 58 (omega arith), le-ltb b 97 (omega arith), le-ltb b 103 l, le-ltb b 65 (omega arith), le-ltb b 71 (omega arith)) refl
+    rw (
+      le-ltb b 48 (omega arith),
+      le-ltb b 58 (omega arith),
+      le-ltb b 97 (omega arith),
+      le-ltb b 103 l,
+      le-ltb b 65 (omega arith),
+      le-ltb b 71 (omega arith),
+    )
+    refl
 
 -- the ways out
 pub too-few : (l : List ℕ) → length l < 1 → typed l ≡ NoMask

@@ -1,5 +1,5 @@
 -- What the programs print, as bytes: words, numbers and masks, and a mask that was typed.
-use Prim.Native.Char.{Char, code}
+use Prim.Native.Char.{code}
 use Prim.Native.Nat.{ℕ, zero, suc, _+_, _-_, _*_, _^_}
 use Prim.Native.String.{String, [], _∷_}
 use mathlib.Core.Bool.{Bool, _&&_, not, cond}

@@ -1,8 +1,7 @@
 -- `mask_typed` meets its contract: after i turns the first i bytes are digits, and the number is theirs.
-use Prim.Native.Nat.{ℕ, _+_, _-_, _*_, _^_, _≤_, _<_}
+use Prim.Native.Nat.{_+_, _-_, _≤_}
 use mathlib.Core.Bool.{true}
-use mathlib.Core.List.{List}
-use mathlib.Core.Path.{_≡_, sym, ap, _∙_, subst}
+use mathlib.Core.Path.{_≡_, sym, ap, _∙_}
 use native.Mathlib.Omega.{arith}
 use lib.ListN.{length, getD}
 use borrow.Author.Needs.{needs}
@@ -30,36 +29,31 @@ returns-2 c = sym (too-many (now (c .before .before .before .args .word)) (c .if
 
 returns-3 : tie.Need-returns-3 Inv-loop μ-loop
 returns-3 c =
-    let s = c .before .before .before .before .before .before .before .before in
-    sym (no-digit (now (s .args .word)) (c .before .before .before .before .loop .i) (omega arith) (omega arith) (c .before .before .before .loop-test .taken) (rw (c .before .worth .ensures) at (c .if3 .taken)))
-
--- one digit more
-more : (l : List ℕ) (i : ℕ) {m d : ℕ} → length l ≤ 16 → i < length l → m ≡ value l i → d ≡ worth (getD l i 0) → d < 16 → every i (digit l) ≡ true
-    → (16 * m + d ≡ value l (i + 1)) × (every (i + 1) (digit l) ≡ true) × (16 * m + d < 2 ^ 64)
-more l i b h em ed lt e =
-    let f = every-more i (digit l) e (lt-ltb (worth (getD l i 0)) 16 (rw ed at lt)) in
-    (rw (em, ed) (sym (value-more l i)), f, rw (em, ed, ← value-more l i) (value-fits l (i + 1) (omega arith) f))
-
-mul-m : tie.Need-mul-m Inv-loop μ-loop
-mul-m c =
-    let l = c .before .before .before .before .loop in
-    let g = more (now (c .before .before .before .before .before .before .before .before .args .word)) (l .i) (c .before .before .before .before .before .if2 .left)
-    (c .before .before .before .loop-test .taken) (l .inv .1) (c .before .worth .ensures) (c .if3 .left) (l .inv .2) in
-    record { fits = omega (arith, g .2) }
-
-add-m : tie.Need-add-m Inv-loop μ-loop
-add-m c =
-    let l = c .before .before .before .before .loop in
-    let g = more (now (c .before .before .before .before .before .before .before .before .args .word)) (l .i) (c .before .before .before .before .before .if2 .left)
-    (c .before .before .before .loop-test .taken) (l .inv .1) (c .before .worth .ensures) (c .if3 .left) (l .inv .2) in
-    record { fits = g .2 }
+    let w = c .before in
+    let l = w .before .before .before in
+    let s = l .before .before .before .before in
+    sym
+    (no-digit (now (s .args .word)) (l .loop .i) (omega arith) (omega arith) (c .before .before .before .loop-test .taken)
+    (rw (w .worth .ensures) at (c .if3 .taken)))
 
 loop-again : tie.Need-loop-again Inv-loop μ-loop
 loop-again c =
     let l = c .before .before .before .before .loop in
-    let g = more (now (c .before .before .before .before .before .before .before .before .args .word)) (l .i) (c .before .before .before .before .before .if2 .left)
-    (c .before .before .before .loop-test .taken) (l .inv .1) (c .before .worth .ensures) (c .if3 .left) (l .inv .2) in
-    (omega arith, g .0, g .1)
+    let w = now (c .before .before .before .before .before .before .before .before .args .word) in
+    let d = c .before .worth .ensures in (
+      omega arith,
+      rw (l .inv .1, d) (sym (value-more w (l .i))),
+      every-more (l .i) (digit w) (l .inv .2) (lt-ltb (worth (getD w (l .i) 0)) 16 (rw d at (c .if3 .left))),
+    )
+
+add-m : tie.Need-add-m Inv-loop μ-loop
+add-m c =
+    let i = c .before .before .before .before .loop .i in
+    let w = now (c .before .before .before .before .before .before .before .before .args .word) in
+    record { fits = omega (arith, loop-again c .1, value-fits w (i + 1) (omega arith) (loop-again c .2)) }
+
+mul-m : tie.Need-mul-m Inv-loop μ-loop
+mul-m c = record { fits = omega (arith, add-m c .fits) }
 
 returns-4 : tie.Need-returns-4 Inv-loop μ-loop
 returns-4 c =

@@ -1,0 +1,4 @@
+pub mod Chain
+pub mod Lengths
+pub mod Ways
+pub mod Coincide
