@@ -1,4 +1,5 @@
 pub mod Chain
 pub mod Lengths
+pub mod Rows
 pub mod Ways
 pub mod Coincide

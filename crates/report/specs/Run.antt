@@ -19,9 +19,14 @@ unfolding line decimal markOf
 siteLine drill live v = line (ascii "site ") (decimal v ++ cond (eqb (markOf v drill live) 1) (ascii " drill") (ascii " live"))
 
 -- `call I A`: A is call I's answer in the last pass
-unfoldable pub callLine : List ℕ → ℕ → List ℕ
+unfoldable pub callLine : ℕ → ℕ → List ℕ
 unfolding line decimal
-callLine answers i = line (ascii "call ") (decimal i ++ (ascii " " ++ decimal (getD answers i 0)))
+callLine i answer = line (ascii "call ") (decimal i ++ (ascii " " ++ decimal answer))
+
+-- one line a call
+unfoldable pub callLines : List ℕ → List ℕ
+unfolding callLine cat
+callLines answers = cat (λ i. callLine i (getD answers i 0)) (length answers)
 
 unfoldable pub stateLines : ℕ → List ℕ → List ℕ
 unfolding sides siteLine cat
@@ -35,13 +40,13 @@ stateLines n s =
 
 -- for n sites, of which those of F are faulty: the passes, the state at the end, and the answers of the last pass
 unfoldable pub endLines : ℕ → ℕ → ℕ → List ℕ → List ℕ → List ℕ
-unfolding line decimal mask stateLines callLine cat
+unfolding line decimal mask stateLines callLines
 endLines F n passes s answers =
     line (ascii "sites ") (decimal n)
     ++ (line (ascii "faulty ") (mask F)
     ++ (line (ascii "passes ") (decimal passes)
     ++ (stateLines n s
-    ++ cat (callLine answers) (length answers))))
+    ++ callLines answers)))
 
 -- of a table in memory: 10, then 17, then the lines. The rooms are for 64 sites and 4,096 calls, so that 9 does not arise.
 unfoldable pub ranText : ℕ → List ℕ → List ℕ → List ℕ

@@ -12,7 +12,7 @@ ghost use Rattle.voting.specs.State.{size};
 ghost use Rattle.text.specs.Written.{Writes};
 ghost use Rattle.report.specs.Table.{checkText};
 ghost use Rattle.report.specs.Verdict.{sevenLines, judgedText, met, verdictText, inputText};
-ghost use Rattle.report.specs.Run.{siteLine, callLine, stateLines, endLines, ranText, runText};
+ghost use Rattle.report.specs.Run.{siteLine, callLine, callLines, stateLines, endLines, ranText, runText};
 use image::Reading;
 use questions::Greatest;
 use questions::Sharing;
@@ -153,26 +153,26 @@ fn put_sites(room: &mut [u8], at: usize, n: u64, drill: u64, live: u64) -> usize
 }
 
 // The line of one call.
-fn put_call(room: &mut [u8], at: usize, answers: &[u8], i: usize) -> usize
-    requires { ⌜ (at + 47 ≤ length (now room)) × (i < length (now answers)) ⌝ }
-    ensures { λ r. ⌜ Writes (callLine (now (answers .entry)) i) (now (room .entry)) at r (now (room .exit)) ⌝ }
+fn put_call(room: &mut [u8], at: usize, i: usize, answer: u8) -> usize
+    requires { ⌜ at + 47 ≤ length (now room) ⌝ }
+    ensures { λ r. ⌜ Writes (callLine i answer) (now (room .entry)) at r (now (room .exit)) ⌝ }
 {
     let at = text::put(room, at, b"call ");
     let at = text::put_decimal(room, at, i as u64);
     let at = text::put(room, at, b" ");
-    let at = text::put_decimal(room, at, answers[i] as u64);
+    let at = text::put_decimal(room, at, answer as u64);
     text::put(room, at, b"\n")
 }
 
 // The line of each call.
 fn put_calls(room: &mut [u8], at: usize, answers: &[u8]) -> usize
     requires { ⌜ at + 47 * length (now answers) ≤ length (now room) ⌝ }
-    ensures { λ r. ⌜ Writes (cat (callLine (now (answers .entry))) (length (now (answers .entry)))) (now (room .entry)) at r (now (room .exit)) ⌝ }
+    ensures { λ r. ⌜ Writes (callLines (now (answers .entry))) (now (room .entry)) at r (now (room .exit)) ⌝ }
 {
     let mut end = at;
     let mut i: usize = 0;
     while i < answers.len() {
-        end = put_call(room, end, answers, i);
+        end = put_call(room, end, i, answers[i]);
         i += 1;
     }
     end
