@@ -5,6 +5,8 @@ use denote.Ref.{now}
 use Rattle.ground.specs.Coincide.{All}
 use Rattle.report.proofs.check.Kinds as check-kinds
 use Rattle.report.proofs.check.Reads as check-reads
+use Rattle.report.proofs.run.Kinds as run-kinds
+use Rattle.report.proofs.run.Reads as run-reads
 use Rattle.report.proofs.verdict.Kinds as verdict-kinds
 use Rattle.report.proofs.verdict.Reads as verdict-reads
 use Rattle.report.proofs.verdict_on.Kinds as verdict-on-kinds
@@ -19,3 +21,6 @@ verdict-coincide κs a x y s t p q = once p q
 
 pub verdict-on-coincide : All verdict-on-kinds.ps verdict-on-kinds.r (List ℕ) (λ κs s. now (s .1 .0)) verdict-on-reads.Post
 verdict-on-coincide κs a x y s t p q = once p q
+
+pub run-coincide : All run-kinds.ps run-kinds.r (List ℕ) (λ κs s. now (s .1 .1 .1 .0)) run-reads.Post
+run-coincide κs a x y s t p q = once p q

@@ -2,7 +2,7 @@
 use Prim.Native.Nat.{ℕ, zero, suc, _+_, _*_, _≤_}
 use mathlib.Core.Bool.{Bool, true, false, cond}
 use mathlib.Core.List.{List, _++_, append-assoc}
-use mathlib.Core.Path.{_≡_, sym, ap, _∙_}
+use mathlib.Core.Path.{_≡_, refl, sym, ap, _∙_}
 use native.Mathlib.Numerals.{add-one}
 use native.Mathlib.Omega.{arith}
 use lib.Dec.{eqb}
@@ -12,11 +12,12 @@ use Rattle.mark.specs.Mark.{mark as markOf}
 use Rattle.report.proofs.Chain.{as-text}
 use Rattle.report.proofs.Lengths.{length-line}
 use Rattle.report.specs.Lines.{newline, line, sides}
-use Rattle.report.specs.Run.{siteLine, callLine}
+use Rattle.report.specs.Run.{siteLine, callLine, stateLines}
 use Rattle.text.proofs.Width.{length-decimal, length-mask}
 use Rattle.text.proofs.Written.{then, written-nothing}
 use Rattle.text.specs.Text.{ascii, decimal, mask}
 use Rattle.text.specs.Written.{Writes}
+use Rattle.voting.specs.State.{get, voted, accepted, confirmed}
 
 -- the line of a site, by its mark
 pub site-drill : (drill live v : ℕ) → markOf v drill live ≡ 1 → ascii "site " ++ (decimal v ++ ascii " drill\n") ≡ siteLine drill live v
@@ -65,3 +66,42 @@ unfolding callLine
 length-call i a =
     rw (length-line (ascii "call ") (decimal i ++ (ascii " " ++ decimal a)))
     (omega (arith, length-append (decimal i) (ascii " " ++ decimal a), length-decimal i, length-decimal a))
+
+pub length-state : (n : ℕ) (s : List ℕ) → length (stateLines n s) ≤ 130 + 32 * n
+unfolding stateLines
+length-state n s =
+    let v = sides (ascii "voted ") (get s (voted n 0)) (get s (voted n 1)) in
+    let a = sides (ascii "accepted ") (get s (accepted n 0)) (get s (accepted n 1)) in
+    let drill = get s (confirmed n 0) in
+    let live = get s (confirmed n 1) in
+    let c = sides (ascii "confirmed ") drill live in
+    let r = cat (siteLine drill live) n in
+    omega (
+      arith,
+      length-append v (a ++ (c ++ r)),
+      length-append a (c ++ r),
+      length-append c r,
+      length-sides (ascii "voted ") (get s (voted n 0)) (get s (voted n 1)),
+      length-sides (ascii "accepted ") (get s (accepted n 0)) (get s (accepted n 1)),
+      length-sides (ascii "confirmed ") drill live,
+      length-rows (siteLine drill live) 32 n (length-site drill live),
+    )
+
+-- the lines of a state, by the places of its masks
+by-places : (n : ℕ) (s : List ℕ) (a b c d e f : ℕ) → a ≡ voted n 0 → b ≡ voted n 1 → c ≡ accepted n 0 → d ≡ accepted n 1 → e ≡ confirmed n 0
+    → f ≡ confirmed n 1
+    → sides (ascii "voted ") (get s a) (get s b)
+    ++ (sides (ascii "accepted ") (get s c) (get s d)
+    ++ (sides (ascii "confirmed ") (get s e) (get s f) ++ cat (siteLine (get s e) (get s f)) n))
+    ≡ stateLines n s
+unfolding stateLines
+by-places n s a b c d e f ea eb ec ed ee ef = rw (ea, eb, ec, ed, ee, ef) refl
+
+pub state-lines : (n : ℕ) (s : List ℕ)
+    → sides (ascii "voted ") (get s (4 * n)) (get s (4 * n + 1))
+    ++ (sides (ascii "accepted ") (get s (4 * n + 2)) (get s (4 * n + 3))
+    ++ (sides (ascii "confirmed ") (get s (4 * n + 4)) (get s (4 * n + 5)) ++ cat (siteLine (get s (4 * n + 4)) (get s (4 * n + 5))) n))
+    ≡ stateLines n s
+state-lines n s =
+    by-places n s (4 * n) (4 * n + 1) (4 * n + 2) (4 * n + 3) (4 * n + 4) (4 * n + 5)
+    (omega arith) (omega arith) (omega arith) (omega arith) (omega arith) (omega arith)
