@@ -3,12 +3,17 @@ use Prim.Native.Nat.{ℕ, _≤_}
 use mathlib.Core.List.{List, _++_, append-assoc}
 use mathlib.Core.Path.{_≡_, subst}
 use lib.ListN.{length}
-use Rattle.text.proofs.Written.{then}
+use Rattle.io.specs.Counts.{Counts}
+use Rattle.text.proofs.Written.{then, counted}
 use Rattle.text.specs.Written.{Writes}
 
 -- the same text, said in another way
 pub as-text : {A B before after : List ℕ} {at end : ℕ} → A ≡ B → Writes A before at end after → Writes B before at end after
 as-text {before = before} {after = after} {at = at} {end = end} e w = subst (λ (T : List ℕ). Writes T before at end after) e w
+
+-- what a public function says of its text
+pub both : {T before after : List ℕ} {at end : ℕ} → Writes T before at end after → Writes T before at end after × Counts end after
+both w = (w, counted w)
 
 module _ {A B C r₀ r₁ r₂ r₃ : List ℕ} {p₀ p₁ p₂ p₃ : ℕ} (a : Writes A r₀ p₀ p₁ r₁) (b : Writes B r₁ p₁ p₂ r₂) (c : Writes C r₂ p₂ p₃ r₃) where
   pub three : p₀ ≤ length r₀ → Writes (A ++ (B ++ C)) r₀ p₀ p₃ r₃

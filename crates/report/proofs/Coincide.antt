@@ -14,13 +14,13 @@ use Rattle.report.proofs.verdict_on.Reads as verdict-on-reads
 use Rattle.text.proofs.Written.{once}
 
 pub check-coincide : All check-kinds.ps check-kinds.r (List ℕ) (λ κs s. now (s .1 .0)) check-reads.Post
-check-coincide κs a x y s t p q = once p q
+check-coincide κs a x y s t p q = once (p .0) (q .0)
 
 pub verdict-coincide : All verdict-kinds.ps verdict-kinds.r (List ℕ) (λ κs s. now (s .1 .1 .0)) verdict-reads.Post
-verdict-coincide κs a x y s t p q = once p q
+verdict-coincide κs a x y s t p q = once (p .0) (q .0)
 
 pub verdict-on-coincide : All verdict-on-kinds.ps verdict-on-kinds.r (List ℕ) (λ κs s. now (s .1 .0)) verdict-on-reads.Post
-verdict-on-coincide κs a x y s t p q = once p q
+verdict-on-coincide κs a x y s t p q = once (p .0) (q .0)
 
 pub run-coincide : All run-kinds.ps run-kinds.r (List ℕ) (λ κs s. now (s .1 .1 .1 .0)) run-reads.Post
-run-coincide κs a x y s t p q = once p q
+run-coincide κs a x y s t p q = once (p .0) (q .0)

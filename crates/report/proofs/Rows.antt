@@ -29,9 +29,9 @@ unfolding siteLine line
 site-live drill live v e = rw e (ap (λ (x : List ℕ). ascii "site " ++ x) (sym (append-assoc (decimal v) (ascii " live") newline)))
 
 -- no row
-pub no-row : (f : ℕ → List ℕ) (room : List ℕ) (at : ℕ) → Writes (cat f 0) room at at room
+pub no-row : (f : ℕ → List ℕ) (room : List ℕ) (at : ℕ) → at ≤ length room → Writes (cat f 0) room at at room
 unfolding cat
-no-row f room at = record { place = omega arith; memory = sym (written-nothing room at) }
+no-row f room at h = record { place = omega arith; memory = sym (written-nothing room at); inside = h }
 
 -- one row more
 pub row-more : (f : ℕ → List ℕ) (k : ℕ) {before room after : List ℕ} {at mid end : ℕ}

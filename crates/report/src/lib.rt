@@ -9,6 +9,7 @@ ghost use Prim.Native.Nat.{_+_, _*_, _≤_, _<_};
 ghost use lib.ListN.{length, getD};
 ghost use Rattle.ground.specs.Pieces.{cat};
 ghost use Rattle.voting.specs.State.{size};
+ghost use Rattle.io.specs.Counts.{Counts};
 ghost use Rattle.text.specs.Written.{Writes};
 ghost use Rattle.report.specs.Table.{checkText};
 ghost use Rattle.report.specs.Verdict.{sevenLines, judgedText, met, verdictText, inputText};
@@ -25,7 +26,8 @@ const ROOM: usize = 196608;
 
 // The check of an image: `sound N`, or the refusal and what it means. Answers the length of the text.
 pub fn check(image: &[u8], room: &mut [u8; ROOM]) -> usize
-    ensures { λ r. ⌜ Writes (checkText (now (image .entry))) (now (room .entry)) 0 r (now (room .exit)) ⌝ }
+    ensures text { λ r. ⌜ Writes (checkText (now (image .entry))) (now (room .entry)) 0 r (now (room .exit)) ⌝ }
+    ensures counts { λ r. ⌜ Counts r (now (room .exit)) ⌝ }
 {
     let mut table = [0u64; 4032];
     let q = image::read(image, &mut table);
@@ -102,7 +104,8 @@ fn meets(s: Sharing) -> bool
 
 // The verdict on an image: the seven lines, or the line of the refusal.
 pub fn verdict(faulty: u64, image: &[u8], room: &mut [u8; ROOM]) -> usize
-    ensures { λ r. ⌜ Writes (verdictText faulty (now (image .entry))) (now (room .entry)) 0 r (now (room .exit)) ⌝ }
+    ensures text { λ r. ⌜ Writes (verdictText faulty (now (image .entry))) (now (room .entry)) 0 r (now (room .exit)) ⌝ }
+    ensures counts { λ r. ⌜ Counts r (now (room .exit)) ⌝ }
 {
     let mut table = [0u64; 4032];
     let q = image::read(image, &mut table);
@@ -114,7 +117,8 @@ pub fn verdict(faulty: u64, image: &[u8], room: &mut [u8; ROOM]) -> usize
 
 // The verdict on what the verdict program is given: the faulty mask in 8 bytes, then an image.
 pub fn verdict_on(input: &[u8], room: &mut [u8; ROOM]) -> usize
-    ensures { λ r. ⌜ Writes (inputText (now (input .entry))) (now (room .entry)) 0 r (now (room .exit)) ⌝ }
+    ensures text { λ r. ⌜ Writes (inputText (now (input .entry))) (now (room .entry)) 0 r (now (room .exit)) ⌝ }
+    ensures counts { λ r. ⌜ Counts r (now (room .exit)) ⌝ }
 {
     if input.len() < 8 {
         return lines::put_refused(room, 0, Refusal::Length);
@@ -234,7 +238,8 @@ fn run_read(table: &[u64], n: usize, faulty: u64, list: &[u8], room: &mut [u8]) 
 
 // The run of a list of calls on an image: its lines, or the refusal and what it means.
 pub fn run(faulty: u64, image: &[u8], list: &[u8], room: &mut [u8; ROOM]) -> usize
-    ensures { λ r. ⌜ Writes (runText faulty (now (image .entry)) (now (list .entry))) (now (room .entry)) 0 r (now (room .exit)) ⌝ }
+    ensures text { λ r. ⌜ Writes (runText faulty (now (image .entry)) (now (list .entry))) (now (room .entry)) 0 r (now (room .exit)) ⌝ }
+    ensures counts { λ r. ⌜ Counts r (now (room .exit)) ⌝ }
 {
     let mut table = [0u64; 4032];
     let q = image::read(image, &mut table);

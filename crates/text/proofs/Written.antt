@@ -7,6 +7,7 @@ use native.Mathlib.Numerals.{add-one}
 use native.Mathlib.Omega.{arith}
 use lib.ListN.{length, take, drop, set, getD, length-append}
 use lib.Seq.{paste, paste-zero, paste-suc, length-paste, take-length, take-at, drop-at, drop-drop, length-take-le}
+use Rattle.io.specs.Counts.{Counts}
 use Rattle.text.specs.Written.{written, Writes}
 
 -- the text is a copy of all its bytes
@@ -46,8 +47,13 @@ pub then : {A B before after mid-room : List ℕ} {at mid end : ℕ}
 then {A} {B} {before} {at = at} a b h = record {
   place = b .place ∙ ap (λ (k : ℕ). k + length B) (a .place) ∙ add-assoc at (length A) (length B) ∙ ap (λ (k : ℕ). at + k) (sym (length-append A B));
   memory = b .memory ∙ rw (a .memory, a .place) (written-then A B before at h);
+  inside = b .inside;
 }
 
 -- a text is written in one way
 pub once : {T before m n : List ℕ} {at e f : ℕ} → Writes T before at e m → Writes T before at f n → (e ≡ f) × (m ≡ n)
 once a b = (a .place ∙ sym (b .place), a .memory ∙ sym (b .memory))
+
+-- so many bytes of the room are the text
+pub counted : {T before after : List ℕ} {at end : ℕ} → Writes T before at end after → Counts end after
+counted {after = after} {end = end} w = (w .inside, sym (length-take-le end after (w .inside)))

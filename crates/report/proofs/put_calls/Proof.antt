@@ -24,7 +24,7 @@ abbrev μ-loop : tie.MeasureT-loop
 μ-loop room₀ at answers end₀ i₀ room end i = length answers - i
 
 loop-holds : tie.Need-loop-holds Inv-loop μ-loop
-loop-holds c = let a = c .before .before .args in (omega arith, refl, no-row (row (now (a .answers))) (now (a .room)) (a .at))
+loop-holds c = let a = c .before .before .args in (omega arith, refl, no-row (row (now (a .answers))) (now (a .room)) (a .at) (omega (arith, c .before .before .pre)))
 
 put-call-requires : tie.Need-put-call-requires Inv-loop μ-loop
 put-call-requires c κs =

@@ -19,7 +19,7 @@ abbrev μ-loop : tie.MeasureT-loop
 μ-loop room₀ at n drill live end₀ v₀ room end v = n - v
 
 loop-holds : tie.Need-loop-holds Inv-loop μ-loop
-loop-holds c = let a = c .before .args in (omega arith, refl, no-row (siteLine (a .drill) (a .live)) (now (a .room)) (a .at))
+loop-holds c = let a = c .before .args in (omega arith, refl, no-row (siteLine (a .drill) (a .live)) (now (a .room)) (a .at) (omega (arith, c .before .pre)))
 
 put-site-requires : tie.Need-put-site-requires Inv-loop μ-loop
 put-site-requires c κs =

@@ -7,7 +7,7 @@ use denote.Ref.{now}
 use lib.ListN.{take}
 use lib.Seq.{length-take-le}
 use Rattle.image.specs.Read.{readInto}
-use Rattle.report.proofs.Chain.{as-text}
+use Rattle.report.proofs.Chain.{as-text, both}
 use Rattle.report.proofs.Ended.{run-taken, run-refused}
 use Rattle.report.proofs.Ways.{few}
 use Rattle.report.proofs.run.Statement.{statement}
@@ -31,15 +31,15 @@ returns c =
     let q = c .before .before .before .before in
     let r = q .before .before .before in
     let a = r .before .before .before .before .args in
-    as-text
+    both (as-text
     (run-taken (a .faulty) (now (a .image)) (now (a .list)) (q .q .given .0 .0) _ _ (sym (r .read .ensures .0) ∙ q .q .given .1)
     (ap (take (63 * q .q .given .0 .0)) (r .read .ensures .1 ∙ ap (λ x. readInto x (now (a .image)) _) (q .q .given .1))))
-    (c .run-read .ensures)
+    (c .run-read .ensures))
 
 returns-2 : tie.Need-returns-2
 returns-2 c =
     let a = c .before .before .before .before .before .before .before .before .before .before .args in
-    as-text (run-refused (a .faulty) (now (a .image)) (now (a .list)) _ (sym (c .before .before .before .before .before .before .read .ensures .0) ∙ c .before .before .before .q2 .given .1)) (c .put-explained .ensures)
+    both (as-text (run-refused (a .faulty) (now (a .image)) (now (a .list)) _ (sym (c .before .before .before .before .before .before .read .ensures .0) ∙ c .before .before .before .q2 .given .1)) (c .put-explained .ensures))
 
 pub run-spec : {M : Type 1} → statement M
 run-spec =

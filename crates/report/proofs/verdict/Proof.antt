@@ -7,7 +7,7 @@ use denote.Ref.{now}
 use lib.ListN.{take}
 use lib.Seq.{length-take-le}
 use Rattle.image.specs.Read.{readInto}
-use Rattle.report.proofs.Chain.{as-text}
+use Rattle.report.proofs.Chain.{as-text, both}
 use Rattle.report.proofs.Ways.{few, verdict-judged, verdict-refused}
 use Rattle.report.proofs.verdict.Statement.{statement}
 use Rattle.report.proofs.verdict.Tie as tie
@@ -44,17 +44,17 @@ returns c =
     let q = c .before .before .before .before in
     let r = q .before .before .before in
     let s = r .before .before .before in
-    as-text
+    both (as-text
     (verdict-judged (now (s .args .image)) (s .args .faulty) (q .q .given .0 .0) _ _ (sym (r .read .ensures .0) ∙ q .q .given .1)
     (ap (take (63 * q .q .given .0 .0)) (r .read .ensures .1 ∙ ap (λ x. readInto x (now (s .args .image)) _) (q .q .given .1))))
-    (c .judge .ensures)
+    (c .judge .ensures))
 
 returns-2 : tie.Need-returns-2
 returns-2 c =
     let q = c .before .before .before in
     let r = q .before .before .before in
     let s = r .before .before .before in
-    as-text (verdict-refused (now (s .args .image)) (s .args .faulty) _ (sym (r .read .ensures .0) ∙ q .q2 .given .1)) (c .put-refused .ensures)
+    both (as-text (verdict-refused (now (s .args .image)) (s .args .faulty) _ (sym (r .read .ensures .0) ∙ q .q2 .given .1)) (c .put-refused .ensures))
 
 pub verdict-spec : {M : Type 1} → statement M
 verdict-spec =

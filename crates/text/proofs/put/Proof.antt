@@ -33,7 +33,11 @@ returns c =
     let s = c .before .before in
     let l = c .before .loop in
     let e : l .i ≡ length (now (s .args .words)) = omega arith in
-    record { place = refl; memory = l .inv .2 ∙ rw e (written-paste (now (s .args .room)) (s .args .at) (now (s .args .words))) }
+    record {
+      place = refl;
+      memory = l .inv .2 ∙ rw e (written-paste (now (s .args .room)) (s .args .at) (now (s .args .words)));
+      inside = omega (arith, s .pre, l .inv .1);
+    }
 
 pub put-spec : {M : Type 1} → statement M
 put-spec =
