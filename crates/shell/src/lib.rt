@@ -91,7 +91,7 @@ fn faulty(call: &[u8], k: usize) -> Typed {
     typed
 }
 
-// desk check TABLE
+// desk check TABLE, where TABLE is an argument's number; so are the words of the others
 fn check(k: usize) {
     let mut image = io::large_buffer();
     let n = fetch(b"desk check TABLE", k, &mut image);
@@ -104,13 +104,13 @@ fn check(k: usize) {
 }
 
 // desk verdict TABLE FAULTY
-fn verdict_of(k: usize) {
+fn verdict_of(table: usize, sites: usize) {
     let mut image = io::large_buffer();
-    let n = fetch(b"desk verdict TABLE FAULTY", k, &mut image);
+    let n = fetch(b"desk verdict TABLE FAULTY", table, &mut image);
     if n == 65536 {
         return;
     }
-    let typed = faulty(b"desk verdict TABLE FAULTY", k + 1);
+    let typed = faulty(b"desk verdict TABLE FAULTY", sites);
     let Typed::Mask(faulty) = typed else {
         return;
     };
@@ -120,18 +120,18 @@ fn verdict_of(k: usize) {
 }
 
 // desk run TABLE FAULTY CALLS
-fn run_of(k: usize) {
+fn run_of(table: usize, sites: usize, calls: usize) {
     let mut image = io::large_buffer();
-    let n = fetch(b"desk run TABLE FAULTY CALLS", k, &mut image);
+    let n = fetch(b"desk run TABLE FAULTY CALLS", table, &mut image);
     if n == 65536 {
         return;
     }
-    let typed = faulty(b"desk run TABLE FAULTY CALLS", k + 1);
+    let typed = faulty(b"desk run TABLE FAULTY CALLS", sites);
     let Typed::Mask(faulty) = typed else {
         return;
     };
     let mut list = io::large_buffer();
-    let m = fetch(b"desk run TABLE FAULTY CALLS", k + 2, &mut list);
+    let m = fetch(b"desk run TABLE FAULTY CALLS", calls, &mut list);
     if m == 65536 {
         return;
     }
@@ -168,13 +168,13 @@ pub fn command(from: usize, n: usize) {
     }
     if n == 3 {
         if check::same(&word[..k], b"verdict") {
-            verdict_of(from + 1);
+            verdict_of(from + 1, from + 2);
             return;
         }
     }
     if n == 4 {
         if check::same(&word[..k], b"run") {
-            run_of(from + 1);
+            run_of(from + 1, from + 2, from + 3);
             return;
         }
     }
