@@ -1,0 +1,28 @@
+-- `main` meets its contract. The measure is the arguments that are left.
+use Prim.Native.Nat.{_-_}
+use borrow.Author.Needs.{needs}
+use Rattle.desk_cases.proofs.main.Statement.{statement}
+use Rattle.desk_cases.proofs.main.Tie as tie
+
+abbrev Inv-loop : tie.InvT-loop
+Inv-loop n start₀ k₀ start k = Unit {0}
+
+abbrev μ-loop : tie.MeasureT-loop
+μ-loop n start₀ k₀ start k = n - k
+
+pub main-spec : {M : Type 1} → statement M
+main-spec =
+    tie.close
+    (tie.spec
+    Inv-loop
+    μ-loop
+    (λ c κs. search needs)
+    (λ c. tt)
+    (λ c κs. search needs)
+    (λ c κs. search needs)
+    (λ c. search needs)
+    (λ c. search needs)
+    (λ c. search needs)
+    (λ c. tt)
+    (λ c κs. search needs)
+    (λ c. search needs))

@@ -1,0 +1,5 @@
+pub mod Lines
+pub mod Leaflet
+pub mod Table
+pub mod Verdict
+pub mod Run

@@ -1,0 +1,253 @@
+// What the programs print, as bytes in a lent room: the check of an image, the verdict, the run of a list of calls.
+mod leaflet;
+mod lines;
+
+ghost use mathlib.Core.Path.{_≡_};
+ghost use mathlib.Core.Bool.{cond, true};
+ghost use mathlib.Core.List.{_++_};
+ghost use Prim.Native.Nat.{_+_, _*_, _≤_, _<_};
+ghost use lib.ListN.{length, getD};
+ghost use Rattle.ground.specs.Pieces.{cat};
+ghost use Rattle.voting.specs.State.{size};
+ghost use Rattle.io.specs.Counts.{Counts};
+ghost use Rattle.text.specs.Written.{Writes};
+ghost use Rattle.report.specs.Table.{checkText};
+ghost use Rattle.report.specs.Verdict.{sevenLines, judgedText, met, verdictText, inputText};
+ghost use Rattle.report.specs.Run.{siteLine, callLine, callLines, stateLines, endLines, ranText, runText};
+use image::Reading;
+use questions::Greatest;
+use questions::Sharing;
+use questions::Standing;
+use refusals::Refusal;
+use run::Ran;
+
+// Room for the longest text, that of 64 sites and 4,096 calls.
+const ROOM: usize = 196608;
+
+// The check of an image: `sound N`, or the refusal and what it means. Answers the length of the text.
+pub fn check(image: &[u8], room: &mut [u8; ROOM]) -> usize
+    ensures text { λ r. ⌜ Writes (checkText (now (image .entry))) (now (room .entry)) 0 r (now (room .exit)) ⌝ }
+    ensures counts { λ r. ⌜ Counts r (now (room .exit)) ⌝ }
+{
+    let mut table = [0u64; 4032];
+    let q = image::read(image, &mut table);
+    match q {
+        Reading::Sites(n) => lines::line_decimal(room, 0, b"sound ", n),
+        Reading::Refused(r) => lines::put_explained(room, 0, r),
+    }
+}
+
+// The seven lines of a verdict.
+fn put_verdict(
+    room: &mut [u8],
+    faulty: u64,
+    sites: u64,
+    meet: bool,
+    intact: u64,
+    quorum: u64,
+    rounds: u64,
+) -> usize
+    requires { ⌜ (300 ≤ length (now room)) × (sites ≤ 64) ⌝ }
+    ensures { λ r. ⌜ Writes (sevenLines faulty sites meet intact quorum rounds) (now (room .entry)) 0 r (now (room .exit)) ⌝ }
+{
+    let at = lines::line_decimal(room, 0, b"sites ", sites);
+    let at = lines::line_mask(room, at, b"faulty ", faulty);
+    let at = lines::line_answer(room, at, b"meet ", meet);
+    let at = lines::line_mask(room, at, b"intact ", intact);
+    let befouled = masks::minus(masks::all_below(sites), intact);
+    let at = lines::line_mask(room, at, b"befouled ", befouled);
+    let at = lines::line_mask(room, at, b"quorum ", quorum);
+    lines::line_decimal(room, at, b"rounds ", rounds)
+}
+
+// Table, 10, 16, and the verdict, on a table that is read.
+fn judge(table: &[u64], sites: u64, faulty: u64, room: &mut [u8]) -> usize
+    requires { ⌜ (300 ≤ length (now room)) × (length (now table) ≡ 63 * sites) × (sites ≤ 64) ⌝ }
+    ensures { λ r. ⌜ Writes (judgedText faulty (now (table .entry))) (now (room .entry)) 0 r (now (room .exit)) ⌝ }
+{
+    let standing = questions::intact(table, faulty);
+    match standing {
+        Standing::Refused(r) => lines::put_refused(room, 0, r),
+        Standing::Intact(intact) => {
+            let others = masks::minus(masks::all_below(sites), faulty);
+            let shared = questions::shared(table);
+            let greatest = questions::largest(table, others);
+            match greatest {
+                Greatest::Refused(r) => lines::put_refused(room, 0, r),
+                Greatest::Set { set, rounds } => put_verdict(
+                    room,
+                    faulty,
+                    sites,
+                    meets(shared),
+                    intact,
+                    set,
+                    rounds,
+                ),
+            }
+        }
+    }
+}
+
+// Whether every two quorums meet.
+fn meets(s: Sharing) -> bool
+    ensures { λ r. ⌜ r ≡ met s ⌝ }
+{
+    match s {
+        Sharing::Meet => true,
+        Sharing::Apart {
+            first: _,
+            second: _,
+        } => false,
+        Sharing::Refused(_) => false,
+    }
+}
+
+// The verdict on an image: the seven lines, or the line of the refusal.
+pub fn verdict(faulty: u64, image: &[u8], room: &mut [u8; ROOM]) -> usize
+    ensures text { λ r. ⌜ Writes (verdictText faulty (now (image .entry))) (now (room .entry)) 0 r (now (room .exit)) ⌝ }
+    ensures counts { λ r. ⌜ Counts r (now (room .exit)) ⌝ }
+{
+    let mut table = [0u64; 4032];
+    let q = image::read(image, &mut table);
+    match q {
+        Reading::Sites(n) => judge(&table[..63 * (n as usize)], n, faulty, room),
+        Reading::Refused(r) => lines::put_refused(room, 0, r),
+    }
+}
+
+// The verdict on what the verdict program is given: the faulty mask in 8 bytes, then an image.
+pub fn verdict_on(input: &[u8], room: &mut [u8; ROOM]) -> usize
+    ensures text { λ r. ⌜ Writes (inputText (now (input .entry))) (now (room .entry)) 0 r (now (room .exit)) ⌝ }
+    ensures counts { λ r. ⌜ Counts r (now (room .exit)) ⌝ }
+{
+    if input.len() < 8 {
+        return lines::put_refused(room, 0, Refusal::Length);
+    }
+    if 32776 < input.len() {
+        return lines::put_refused(room, 0, Refusal::Length);
+    }
+    verdict(le::get64(input, 0), &input[8..], room)
+}
+
+// `site V drill` or `site V live`, by the mark.
+fn put_site(room: &mut [u8], at: usize, v: u64, drill: u64, live: u64) -> usize
+    requires { ⌜ at + 32 ≤ length (now room) ⌝ }
+    ensures { λ r. ⌜ Writes (siteLine drill live v) (now (room .entry)) at r (now (room .exit)) ⌝ }
+{
+    let at = text::put(room, at, b"site ");
+    let at = text::put_decimal(room, at, v);
+    if mark::mark(v, drill, live) == 1 {
+        return text::put(room, at, b" drill\n");
+    }
+    text::put(room, at, b" live\n")
+}
+
+// The line of each site.
+fn put_sites(room: &mut [u8], at: usize, n: u64, drill: u64, live: u64) -> usize
+    requires { ⌜ at + 32 * n ≤ length (now room) ⌝ }
+    ensures { λ r. ⌜ Writes (cat (siteLine drill live) n) (now (room .entry)) at r (now (room .exit)) ⌝ }
+{
+    let mut end = at;
+    let mut v: u64 = 0;
+    while v < n {
+        end = put_site(room, end, v, drill, live);
+        v += 1;
+    }
+    end
+}
+
+// The line of one call.
+fn put_call(room: &mut [u8], at: usize, i: usize, answer: u8) -> usize
+    requires { ⌜ at + 47 ≤ length (now room) ⌝ }
+    ensures { λ r. ⌜ Writes (callLine i answer) (now (room .entry)) at r (now (room .exit)) ⌝ }
+{
+    let at = text::put(room, at, b"call ");
+    let at = text::put_decimal(room, at, i as u64);
+    let at = text::put(room, at, b" ");
+    let at = text::put_decimal(room, at, answer as u64);
+    text::put(room, at, b"\n")
+}
+
+// The line of each call.
+fn put_calls(room: &mut [u8], at: usize, answers: &[u8]) -> usize
+    requires { ⌜ at + 47 * length (now answers) ≤ length (now room) ⌝ }
+    ensures { λ r. ⌜ Writes (callLines (now (answers .entry))) (now (room .entry)) at r (now (room .exit)) ⌝ }
+{
+    let mut end = at;
+    let mut i: usize = 0;
+    while i < answers.len() {
+        end = put_call(room, end, i, answers[i]);
+        i += 1;
+    }
+    end
+}
+
+// The masks of a state, and the line of each site.
+fn put_state(room: &mut [u8], at: usize, n: usize, state: &[u64]) -> usize
+    requires { ⌜ (at + 130 + 32 * n ≤ length (now room)) × (length (now state) ≡ size n) × (n ≤ 64) ⌝ }
+    ensures { λ r. ⌜ Writes (stateLines n (now (state .entry))) (now (room .entry)) at r (now (room .exit)) ⌝ }
+{
+    let base = 4 * n;
+    let drill = state[base + 4];
+    let live = state[base + 5];
+    let at = lines::line_sides(room, at, b"voted ", state[base], state[base + 1]);
+    let at = lines::line_sides(room, at, b"accepted ", state[base + 2], state[base + 3]);
+    let at = lines::line_sides(room, at, b"confirmed ", drill, live);
+    put_sites(room, at, n as u64, drill, live)
+}
+
+// The lines of a run.
+fn put_run(
+    room: &mut [u8],
+    faulty: u64,
+    n: usize,
+    passes: u64,
+    state: &[u64],
+    answers: &[u8],
+) -> usize
+    requires { ⌜ (196608 ≤ length (now room)) × (length (now state) ≡ size n) × (n ≤ 64) × (length (now answers) ≤ 4096) ⌝ }
+    ensures { λ r. ⌜ Writes (endLines faulty n passes (now (state .entry)) (now (answers .entry))) (now (room .entry)) 0 r (now (room .exit)) ⌝ }
+{
+    let at = lines::line_decimal(room, 0, b"sites ", n as u64);
+    let at = lines::line_mask(room, at, b"faulty ", faulty);
+    let at = lines::line_decimal(room, at, b"passes ", passes);
+    let at = put_state(room, at, n, state);
+    put_calls(room, at, answers)
+}
+
+// The run of a list on a table that is read.
+fn run_read(table: &[u64], n: usize, faulty: u64, list: &[u8], room: &mut [u8]) -> usize
+    requires { ⌜ (196608 ≤ length (now room)) × (length (now table) ≡ 63 * n) × (n ≤ 64) ⌝ }
+    ensures { λ r. ⌜ Writes (ranText faulty (now (table .entry)) (now (list .entry))) (now (room .entry)) 0 r (now (room .exit)) ⌝ }
+{
+    let mut state = [0u64; 262];
+    let mut answers = [0u8; 4096];
+    let ran = run::run(table, faulty, list, &mut state, &mut answers);
+    match ran {
+        Ran::Refused(r) => lines::put_explained(room, 0, r),
+        Ran::Passes(passes) => put_run(
+            room,
+            faulty,
+            n,
+            passes,
+            &state[..4 * n + 6],
+            &answers[..list.len() / 4],
+        ),
+    }
+}
+
+// The run of a list of calls on an image: its lines, or the refusal and what it means.
+pub fn run(faulty: u64, image: &[u8], list: &[u8], room: &mut [u8; ROOM]) -> usize
+    ensures text { λ r. ⌜ Writes (runText faulty (now (image .entry)) (now (list .entry))) (now (room .entry)) 0 r (now (room .exit)) ⌝ }
+    ensures counts { λ r. ⌜ Counts r (now (room .exit)) ⌝ }
+{
+    let mut table = [0u64; 4032];
+    let q = image::read(image, &mut table);
+    match q {
+        Reading::Sites(n) => {
+            let n = n as usize;
+            run_read(&table[..63 * n], n, faulty, list, room)
+        }
+        Reading::Refused(r) => lines::put_explained(room, 0, r),
+    }
+}

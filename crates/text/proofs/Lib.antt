@@ -1,0 +1,4 @@
+pub mod Written
+pub mod Width
+pub mod Digits
+pub mod Coincide

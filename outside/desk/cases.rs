@@ -1,0 +1,190 @@
+//! The cases of the two programs: what they are given, and what they are to print.
+
+use crate::expected::{self, Leaflet};
+use crate::files::*;
+use crate::model;
+
+/// A file of the verdict's cases: its name and its bytes.
+pub type File = (&'static str, Vec<u8>);
+
+/// The faulty mask, then an image.
+fn input(faulty: u64, image: &[u8]) -> Vec<u8> {
+    [&faulty.to_le_bytes()[..], image].concat()
+}
+
+fn put16(block: &mut [u8], at: usize, x: u16) {
+    block[at..at + 2].copy_from_slice(&x.to_le_bytes());
+}
+
+fn put64(block: &mut [u8], at: usize, x: u64) {
+    block[at..at + 8].copy_from_slice(&x.to_le_bytes());
+}
+
+/// What standard input holds, case by case: every length at an edge, every refusal, every kind of verdict.
+pub fn verdict_files() -> Vec<File> {
+    let (a, b) = (image(&table_a()), image(&table_b()));
+    let apart = image(&table_apart());
+    let twelve = image(&table_round_b(12));
+    let thirteen = image(&table_round_b(13));
+    let most = image(&table_round_b(64));
+    let full = image(&table_of_62());
+    let mut sixty_three = image(&table_alone());
+    for k in 0..62 {
+        put64(&mut sixty_three, 8 + 8 * k, 1);
+    }
+    vec![
+        ("length-0", vec![]),
+        ("length-7", vec![0; 7]),
+        ("length-8", vec![0; 8]),
+        ("image-of-511", input(0, &a[..511])),
+        ("image-of-513", input(0, &a[..513])),
+        ("zero-block", input(0, &[0; 512])),
+        ("length-32776", input(0, &most)),
+        ("length-32777", input(0, &[&most[..], &[0]].concat())),
+        ("length-33288", input(0, &[&most[..], &most[..512]].concat())),
+        ("length-40000", vec![7; 40000]),
+        ("a-8", input(8, &a)),
+        ("a-nobody", input(0, &a)),
+        ("a-everybody", input(31, &a)),
+        ("a-20", input(20, &a)),
+        ("a-1", input(1, &a)),
+        ("b-nobody", input(0, &b)),
+        ("b-8", input(8, &b)),
+        ("b-3", input(3, &b)),
+        ("b-everybody", input(15, &b)),
+        ("apart-nobody", input(0, &apart)),
+        ("apart-1", input(1, &apart)),
+        ("apart-3", input(3, &apart)),
+        ("apart-everybody", input(15, &apart)),
+        ("alone-nobody", input(0, &image(&table_alone()))),
+        ("alone-everybody", input(1, &image(&table_alone()))),
+        ("twelve-nobody", input(0, &twelve)),
+        ("twelve-8", input(8, &twelve)),
+        ("twelve-everybody", input(4095, &twelve)),
+        ("ring-of-twelve", input(1, &image(&table_ring(12)))),
+        ("sixty-two-slices", input(2, &full)),
+        ("thirteen", input(0, &thirteen)),
+        ("thirteen-set-outside", input(1 << 13, &thirteen)),
+        ("sixty-four-last-site", input(1 << 63, &most)),
+        ("a-set-outside", input(32, &a)),
+        ("a-set-far-outside", input(1 << 63, &a)),
+        ("damaged-first", input(0, &damaged(&a, 8))),
+        ("damaged-last", input(0, &damaged(&a, 4 * 512 + 100))),
+        ("damaged-check", input(0, &damaged(&a, 511))),
+        ("damaged-before-set", input(1 << 40, &damaged(&a, 8))),
+        ("other-site", input(0, &resealed(&a, 2, |block| put16(block, 0, 3)))),
+        ("other-n", input(0, &resealed(&a, 1, |block| put16(block, 2, 4)))),
+        ("bytes-6-to-7", input(0, &resealed(&a, 3, |block| put16(block, 6, 256)))),
+        ("no-slice", input(0, &resealed(&a, 4, |block| put16(block, 4, 0)))),
+        ("sixty-three-slices", input(0, &resealed(&sixty_three, 0, |block| put16(block, 4, 63)))),
+        ("owner-missing", input(0, &resealed(&a, 2, |block| put64(block, 8, 3)))),
+        ("site-n-named", input(0, &resealed(&a, 2, |block| put64(block, 8, 36)))),
+        ("slice-twice", input(0, &resealed(&b, 1, |block| put64(block, 16, 7)))),
+        ("slices-descend", input(0, &resealed(&b, 3, |block| put64(block, 24, 9)))),
+        ("filler", input(0, &resealed(&a, 0, |block| block[503] = 1))),
+        ("slice-behind-the-count", input(0, &resealed(&b, 0, |block| put16(block, 4, 2)))),
+        ("filler-before-damage", input(0, &damaged(&resealed(&a, 0, |block| block[400] = 9), 512))),
+        ("owner-before-order", input(0, &resealed(&b, 2, |block| put64(block, 16, 3)))),
+        ("blocks-swapped", input(0, &[&a[512..1024], &a[..512], &a[1024..]].concat())),
+        ("one-block-missing", input(0, &a[..4 * 512])),
+    ]
+}
+
+/// What the verdict's cases are to print, each with the file's name before it.
+pub fn verdict_text(files: &[File]) -> String {
+    files.iter().map(|(name, bytes)| format!("verdict < {name}\n{}", model::verdict(bytes))).collect()
+}
+
+/// The files that the desk's cases name.
+pub fn desk_files() -> Vec<File> {
+    let (a, b) = (image(&table_a()), image(&table_b()));
+    let most = image(&table_round_b(64));
+    let proposals: Vec<[u8; 4]> = (0..4096).map(|i| propose((i % 4) as u8, DRILL)).collect();
+    let late = [vote(0, 1, DRILL), propose(0, DRILL)];
+    let opposite = [propose(2, LIVE), propose(2, DRILL), propose(0, DRILL), propose(1, DRILL), vote(2, 0, LIVE)];
+    let bad = [[3, 0, 0, 0], [0, 4, 4, 0], [1, 0, 1, 2], [0, 0, 1, 0], [1, 0, 3, 0], [2, 1, 0, 0], [0, 0, 0, 0]];
+    vec![
+        ("a.table", a.clone()),
+        ("b.table", b.clone()),
+        ("apart.table", image(&table_apart())),
+        ("alone.table", image(&table_alone())),
+        ("twelve.table", image(&table_round_b(12))),
+        ("thirteen.table", image(&table_round_b(13))),
+        ("most.table", most.clone()),
+        ("over.table", [&most[..], &[0; 512]].concat()),
+        ("empty", vec![]),
+        ("cut.table", a[..1000].to_vec()),
+        ("damaged.table", damaged(&b, 512 + 9)),
+        ("head.table", resealed(&b, 2, |block| put16(block, 0, 3))),
+        ("count.table", resealed(&a, 4, |block| put16(block, 4, 0))),
+        ("owner.table", resealed(&a, 2, |block| put64(block, 8, 3))),
+        ("order.table", resealed(&b, 1, |block| put64(block, 16, 7))),
+        ("filler.table", resealed(&a, 3, |block| block[503] = 1)),
+        ("longest", vec![0; 65535]),
+        ("too-long", vec![0; 65536]),
+        ("drill.calls", bytes(&whole_vote(&[0, 1, 2, 3], DRILL))),
+        ("three.calls", bytes(&whole_vote(&[0, 1, 2], DRILL))),
+        ("live.calls", bytes(&whole_vote(&[0, 1, 2], LIVE))),
+        ("two-faced.calls", bytes(&two_faced())),
+        ("opposite.calls", bytes(&opposite)),
+        ("late.calls", bytes(&late)),
+        ("bad.calls", bytes(&bad)),
+        ("window.calls", bytes(&window_of_64())),
+        ("most.calls", bytes(&proposals)),
+        ("over.calls", bytes(&[&proposals[..], &[propose(0, DRILL)]].concat())),
+        ("cut.calls", bytes(&late)[..7].to_vec()),
+        ("one.calls", bytes(&[propose(0, DRILL)])),
+    ]
+}
+
+/// The desk's calls, word by word.
+pub fn desk_calls() -> Vec<Vec<&'static str>> {
+    let lines = "\
+        |check a.table|check b.table|check apart.table|check alone.table|check most.table|check empty|check over.table|check cut.table\
+        |check damaged.table|check head.table|check count.table|check owner.table|check order.table|check filler.table\
+        |check longest|check too-long|check missing.table|check folder|check|check a.table b.table|look a.table|CHECK a.table\
+        |verdict a.table 8|verdict a.table 0000000000000008|verdict a.table 0|verdict a.table 1f|verdict a.table 1F|verdict a.table 20\
+        |verdict a.table 00000000000000008|verdict a.table g|verdict a.table 0x8|verdict a.table -8|verdict a.table|verdict 8\
+        |verdict b.table 3|verdict b.table f|verdict apart.table 0|verdict alone.table 1|verdict twelve.table 8|verdict thirteen.table 8\
+        |verdict most.table 8000000000000000|verdict most.table ffffffffffffffff|verdict damaged.table 0|verdict damaged.table ffff\
+        |verdict empty 0|verdict missing.table 0|verdict folder 0|verdict too-long 0|verdict missing.table g\
+        |run b.table 0 empty|run b.table 0 drill.calls|run b.table 8 three.calls|run b.table 8 live.calls|run b.table 8 two-faced.calls\
+        |run b.table 0 late.calls|run b.table 0 opposite.calls|run b.table 8 bad.calls|run b.table f drill.calls|run a.table 8 three.calls\
+        |run alone.table 0 one.calls|run alone.table 1 one.calls|run apart.table 0 drill.calls|run most.table 0 window.calls\
+        |run b.table 0 most.calls|run b.table 0 over.calls|run b.table 0 cut.calls|run b.table 10 over.calls|run b.table 10 drill.calls\
+        |run damaged.table 10 cut.calls|run owner.table 0 drill.calls|run cut.table 0 drill.calls|run b.table 0 missing.calls\
+        |run b.table 0 too-long|run b.table 0 folder|run missing.table 0 drill.calls|run b.table zz drill.calls|run b.table 0\
+        |run b.table 0 drill.calls drill.calls|run";
+    lines.split('|').map(|line| line.split_whitespace().collect()).collect()
+}
+
+/// What a call of the desk is to print on standard output; nothing where the call itself is wrong.
+pub fn desk_answer(leaflet: &Leaflet, files: &[File], words: &[&str]) -> Option<String> {
+    let file =
+        |name: &str| files.iter().find(|(file, bytes)| *file == name && bytes.len() < 65536).map(|(_, bytes)| bytes);
+    let mask = |word: &str| {
+        let digits = (1..=16).contains(&word.len()) && word.bytes().all(|byte| byte.is_ascii_hexdigit());
+        digits.then(|| u64::from_str_radix(word, 16).expect("up to 16 digits fit"))
+    };
+    match words {
+        [] => Some(USAGE.to_string()),
+        ["check", table] => Some(expected::check(leaflet, file(table)?)),
+        ["verdict", table, faulty] => Some(expected::verdict(file(table)?, mask(faulty)?)),
+        ["run", table, faulty, calls] => Some(expected::run(leaflet, file(table)?, mask(faulty)?, file(calls)?)),
+        _ => None,
+    }
+}
+
+/// What `desk` alone prints.
+const USAGE: &str = "\
+desk check TABLE               is the table sound?
+desk verdict TABLE FAULTY      which sites can be relied on when the sites of FAULTY are faulty?
+desk run TABLE FAULTY CALLS    the vote: its passes, what was confirmed, drill or live for each site
+TABLE and CALLS name files; FAULTY is 1 to 16 hexadecimal digits, bit v for site v, 0 for nobody
+";
+
+/// What the desk's cases are to print, each with its call before it.
+pub fn desk_text(leaflet: &Leaflet, files: &[File], calls: &[Vec<&str>]) -> String {
+    let heading = |words: &[&str]| words.iter().fold("desk".to_string(), |line, word| line + " " + word) + "\n";
+    calls.iter().map(|words| heading(words) + &desk_answer(leaflet, files, words).unwrap_or_default()).collect()
+}

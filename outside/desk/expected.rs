@@ -1,0 +1,75 @@
+//! What the desk is to print, worked out by the model and by the words of the leaflet.
+
+use crate::model;
+
+/// What each refusal means: the second column of the leaflet's table.
+pub struct Leaflet(Vec<String>);
+
+impl Leaflet {
+    pub fn of(text: &str) -> Leaflet {
+        let cell = |line: &str, k: usize| line.split('|').nth(k).map(|cell| cell.trim().to_string());
+        let rows = text.lines().filter(|line| line.starts_with("| "));
+        let numbered = rows.filter(|line| cell(line, 1).is_some_and(|number| number.parse::<u64>().is_ok()));
+        Leaflet(numbered.map(|line| cell(line, 2).expect("a leaflet's row has a meaning")).collect())
+    }
+
+    pub fn len(&self) -> usize {
+        self.0.len()
+    }
+
+    fn refused(&self, answer: model::Answer) -> String {
+        format!("refused {} {}\n{}\n", answer.number, answer.place, self.0[answer.number as usize - 1])
+    }
+}
+
+/// The table in memory that an image holds, or the refusal.
+fn read(image: &[u8]) -> Result<Vec<u64>, model::Answer> {
+    let mut memory = vec![0; model::ROW * model::MOST_SITES];
+    let answer = model::image_read(image, &mut memory);
+    if answer.number != 0 {
+        return Err(answer);
+    }
+    memory.truncate(model::ROW * answer.values[0] as usize);
+    Ok(memory)
+}
+
+/// `desk check`
+pub fn check(leaflet: &Leaflet, image: &[u8]) -> String {
+    match read(image) {
+        Ok(memory) => format!("sound {}\n", memory.len() / model::ROW),
+        Err(answer) => leaflet.refused(answer),
+    }
+}
+
+/// `desk verdict`: the lines of the verdict program
+pub fn verdict(image: &[u8], faulty: u64) -> String {
+    model::verdict(&[&faulty.to_le_bytes(), image].concat())
+}
+
+/// `desk run`
+pub fn run(leaflet: &Leaflet, image: &[u8], faulty: u64, calls: &[u8]) -> String {
+    let memory = match read(image) {
+        Ok(memory) => memory,
+        Err(answer) => return leaflet.refused(answer),
+    };
+    let n = memory.len() / model::ROW;
+    let mut state = vec![0; model::state_length(n)];
+    let mut answers = vec![0; calls.len() / 4];
+    let ran = model::run(&memory, faulty, calls, &mut state, &mut answers);
+    if ran.number != 0 {
+        return leaflet.refused(ran);
+    }
+    let two = |at: fn(usize, usize) -> usize| format!("{:016x} {:016x}", state[at(n, 0)], state[at(n, 1)]);
+    let mut text = format!("sites {n}\nfaulty {faulty:016x}\npasses {}\n", ran.values[0]);
+    text += &format!("voted {}\n", two(model::voted_at));
+    text += &format!("accepted {}\n", two(model::accepted_at));
+    text += &format!("confirmed {}\n", two(model::confirmed_at));
+    for site in 0..n {
+        let mark = model::mark(site as u64, state[model::confirmed_at(n, 0)], state[model::confirmed_at(n, 1)]);
+        text += &format!("site {site} {}\n", if mark.values[0] == 1 { "drill" } else { "live" });
+    }
+    for (i, answer) in answers.iter().enumerate() {
+        text += &format!("call {i} {answer}\n");
+    }
+    text
+}

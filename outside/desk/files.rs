@@ -1,0 +1,112 @@
+//! Tables and lists of calls: those of the samples, and those that the cases of the programs need.
+
+use crate::model::{block_on_file, block_sums, ACCEPT, PROPOSE, VOTE};
+
+pub const DRILL: u8 = 0;
+pub const LIVE: u8 = 1;
+
+/// The image of a table, given each site's slices.
+pub fn image(slices: &[Vec<u64>]) -> Vec<u8> {
+    slices.iter().enumerate().flat_map(|(site, own)| block_on_file(site, slices.len(), own)).collect()
+}
+
+/// Table A of the rules: 3; 3; 7; 11; 24.
+pub fn table_a() -> Vec<Vec<u64>> {
+    [3, 3, 7, 11, 24].map(|slice| vec![slice]).to_vec()
+}
+
+/// Table B of the rules: four sites, all three-site sets with the owner.
+pub fn table_b() -> Vec<Vec<u64>> {
+    vec![vec![7, 11, 13], vec![7, 11, 14], vec![7, 13, 14], vec![11, 13, 14]]
+}
+
+/// The table of the rules that does not meet: 3; 3; 12; 12.
+pub fn table_apart() -> Vec<Vec<u64>> {
+    [3, 3, 12, 12].map(|slice| vec![slice]).to_vec()
+}
+
+/// One site that takes its own word.
+pub fn table_alone() -> Vec<Vec<u64>> {
+    vec![vec![1]]
+}
+
+/// Table B's four sites in the middle, and others that each take the word of any three of them.
+pub fn table_round_b(n: usize) -> Vec<Vec<u64>> {
+    let mut slices = table_b();
+    slices.extend((4..n).map(|site| [7, 11, 13, 14].map(|three| three | 1 << site).to_vec()));
+    slices
+}
+
+/// Each site takes its own word and the next one's, in a ring.
+pub fn table_ring(n: usize) -> Vec<Vec<u64>> {
+    (0..n).map(|site| vec![1 << site | 1 << ((site + 1) % n)]).collect()
+}
+
+/// Twelve sites; site 0 has 62 slices, the others take its word.
+pub fn table_of_62() -> Vec<Vec<u64>> {
+    let mut slices: Vec<Vec<u64>> = (1..12).map(|site| vec![1 | 1 << site]).collect();
+    slices.insert(0, (1..=62).map(|k| 2 * k + 1).collect());
+    slices
+}
+
+/// One block of an image, changed, with its check worked out anew.
+pub fn resealed(image: &[u8], block: usize, change: impl Fn(&mut [u8])) -> Vec<u8> {
+    let mut image = image.to_vec();
+    let bytes = &mut image[512 * block..512 * (block + 1)];
+    change(bytes);
+    let (s, t) = block_sums(bytes);
+    bytes[504..508].copy_from_slice(&(s as u32).to_le_bytes());
+    bytes[508..512].copy_from_slice(&(t as u32).to_le_bytes());
+    image
+}
+
+/// One byte of an image changed, and its check left as it was.
+pub fn damaged(image: &[u8], at: usize) -> Vec<u8> {
+    let mut image = image.to_vec();
+    image[at] ^= 4;
+    image
+}
+
+pub fn propose(site: u8, side: u8) -> [u8; 4] {
+    [PROPOSE, site, site, side]
+}
+
+pub fn vote(from: u8, to: u8, side: u8) -> [u8; 4] {
+    [VOTE, from, to, side]
+}
+
+pub fn accept(from: u8, to: u8, side: u8) -> [u8; 4] {
+    [ACCEPT, from, to, side]
+}
+
+/// Every word of some sites to all others of them: the proposals, the votes, the accepts.
+pub fn whole_vote(sites: &[u8], side: u8) -> Vec<[u8; 4]> {
+    let pairs: Vec<(u8, u8)> =
+        sites.iter().flat_map(|from| sites.iter().map(|to| (*from, *to))).filter(|(from, to)| from != to).collect();
+    let proposals = sites.iter().map(|site| propose(*site, side));
+    let votes = pairs.iter().map(|(from, to)| vote(*from, *to, side));
+    let accepts = pairs.iter().map(|(from, to)| accept(*from, *to, side));
+    proposals.chain(votes).chain(accepts).collect()
+}
+
+/// A test window in a table of 64 sites round table B: the four in the middle vote, the others hear them.
+pub fn window_of_64() -> Vec<[u8; 4]> {
+    let mut calls = whole_vote(&[0, 1, 2, 3], DRILL);
+    for site in 4..64 {
+        calls.push(propose(site, DRILL));
+        calls.extend((0..3).map(|from| vote(from, site, DRILL)));
+        calls.extend((0..3).map(|from| accept(from, site, DRILL)));
+    }
+    calls
+}
+
+/// The broken site 3 says live to some and drill to others, while the three correct ones hold a drill.
+pub fn two_faced() -> Vec<[u8; 4]> {
+    let mut calls = whole_vote(&[0, 1, 2], DRILL);
+    calls.extend([vote(3, 0, LIVE), vote(3, 1, DRILL), accept(3, 0, LIVE), accept(3, 2, LIVE), accept(3, 1, DRILL)]);
+    calls
+}
+
+pub fn bytes(calls: &[[u8; 4]]) -> Vec<u8> {
+    calls.concat()
+}

@@ -1,0 +1,82 @@
+//! The samples and the cases of the programs: `write ROOT` makes the files under ROOT, `try ROOT` runs the programs of
+//! ROOT/target/bin on them and compares.
+
+mod cases;
+mod expected;
+mod files;
+#[path = "../model/model.rs"]
+mod model;
+mod programs;
+
+use cases::File;
+use expected::Leaflet;
+use std::fs;
+use std::path::Path;
+
+/// The samples: a name, what it holds.
+fn samples() -> Vec<File> {
+    use files::*;
+    let b = image(&table_b());
+    let late = [vote(0, 1, DRILL), propose(0, DRILL)];
+    let opposite = [propose(2, LIVE), propose(2, DRILL), propose(0, DRILL), propose(1, DRILL), vote(2, 0, LIVE)];
+    vec![
+        ("a.table", image(&table_a())),
+        ("b.table", b.clone()),
+        ("apart.table", image(&table_apart())),
+        ("sixty-four.table", image(&table_round_b(64))),
+        ("damaged.table", damaged(&b, 512 + 9)),
+        ("drill.calls", bytes(&two_faced())),
+        ("live.calls", bytes(&whole_vote(&[0, 1, 2], LIVE))),
+        ("late.calls", bytes(&late)),
+        ("opposite.calls", bytes(&opposite)),
+        ("sixty-four.calls", bytes(&window_of_64())),
+        ("cut.calls", bytes(&late)[..7].to_vec()),
+        ("empty.calls", vec![]),
+    ]
+}
+
+fn put(folder: &Path, files: &[File]) {
+    fs::create_dir_all(folder).expect("a folder");
+    for (name, bytes) in files {
+        fs::write(folder.join(name), bytes).expect("a file");
+    }
+}
+
+/// The words of a program, one to a line.
+fn args(words: &[&str]) -> String {
+    words.iter().map(|word| format!("{word}\n")).collect()
+}
+
+fn write(root: &Path, leaflet: &Leaflet) {
+    put(&root.join("samples"), &samples());
+    let verdict = root.join("crates/verdict_cases");
+    let files = cases::verdict_files();
+    put(&verdict.join("data"), &files);
+    let names: Vec<&str> = files.iter().map(|(name, _)| *name).collect();
+    fs::write(verdict.join("args"), args(&names)).expect("args");
+    fs::write(verdict.join("stdout"), cases::verdict_text(&files)).expect("stdout");
+    let (program, (_, input)) = (root.join("crates/verdict"), &files[10]);
+    put(&program, &[("stdin", input.clone()), ("stdout", model::verdict(input).into_bytes())]);
+    let desk = root.join("crates/desk_cases");
+    let (files, calls) = (cases::desk_files(), cases::desk_calls());
+    put(&desk.join("data"), &files);
+    put(&desk.join("data/folder"), &[("inside", vec![])]);
+    fs::write(desk.join("args"), args(&calls.join(&"--"))).expect("args");
+    fs::write(desk.join("stdout"), cases::desk_text(leaflet, &files, &calls)).expect("stdout");
+    let (program, call) = (root.join("crates/desk"), ["run", "b.table", "8", "two-faced.calls"]);
+    let named: Vec<File> = files.iter().filter(|(name, _)| call.contains(name)).cloned().collect();
+    let text = cases::desk_answer(leaflet, &files, &call).expect("an answer");
+    put(&program.join("data"), &named);
+    put(&program, &[("args", args(&call).into_bytes()), ("stdout", text.into_bytes())]);
+}
+
+fn main() {
+    let words: Vec<String> = std::env::args().collect();
+    let leaflet = Leaflet::of(&fs::read_to_string("docs/LEAFLET.md").expect("the leaflet"));
+    assert_eq!(leaflet.len(), 18, "the leaflet has a row for each number");
+    match words.iter().map(String::as_str).collect::<Vec<_>>()[1..] {
+        ["write", root] => write(Path::new(root), &leaflet),
+        ["try", root] => programs::try_all(Path::new(root), &leaflet, &samples()),
+        _ => panic!("call it as: desk write ROOT, or desk try ROOT"),
+    }
+}
