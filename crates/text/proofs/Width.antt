@@ -10,8 +10,7 @@ use lib.Dec.{ltb}
 use lib.ListN.{length, length-append}
 use borrow.Author.Tests.{lt-ltb, le-ltb}
 use Rattle.ground.specs.Search.{least}
-use Rattle.ground.proofs.Least.{least-fails, least-found}
-use Rattle.ground.proofs.Search.{least-le}
+use Rattle.ground.proofs.Least.{least-le, least-fails, least-found}
 use Rattle.io.specs.Digits.{digits, Fewest}
 use Rattle.text.specs.Text.{width, decimal, mask}
 
