@@ -122,6 +122,23 @@ pub fn largest(table: &[u64], n: usize, w: u64) -> SetLeft
     largest_in(table, n, 0, w)
 }
 
+// Site v has a slice inside u.
+pub fn has_slice(table: &[u64], n: usize, v: usize, u: u64) -> bool
+    requires { ⌜ Table (now table) n × (v < n) ⌝ }
+    ensures { λ r. ⌜ r ≡ slicesOf (now (table .entry)) .inside v u ⌝ }
+{
+    has_inside(table, n, 0, v, u)
+}
+
+// Site v belongs to the largest quorum inside w.
+pub fn in_largest(table: &[u64], n: usize, v: usize, w: u64) -> bool
+    requires { ⌜ Table (now table) n × (v < n) ⌝ }
+    ensures { λ r. ⌜ r ≡ has (largest (slicesOf (now (table .entry)) .inside) n w) v ⌝ }
+{
+    let l = largest(table, n, w);
+    masks::has(l.set, v as u64)
+}
+
 // q is a quorum of the table with b deleted.
 fn is_quorum_in(table: &[u64], n: usize, b: u64, q: u64) -> bool
     requires { ⌜ Table (now table) n ⌝ }
