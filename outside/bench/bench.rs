@@ -133,7 +133,6 @@ fn main() {
     set_questions(&bench);
     states_and_steps(&bench);
     runs(&bench);
-    runs_of_records(&bench);
     verdicts(&bench);
     if !timed {
         println!("bench: the library, the best Rust and the model agree on {} rows", bench.compared.get());
@@ -251,37 +250,40 @@ fn states_and_steps(bench: &Bench) {
     }
 }
 
-fn runs(bench: &Bench) {
+/// A run of the library, over a list of bytes or of records.
+type Run<T> =
+    unsafe extern "C" fn(*const u64, usize, u64, *const T, usize, *mut u64, usize, *mut u8, usize, *mut u64) -> u64;
+
+/// A run in Rust over the same calls.
+type Told = fn(&[u64], u64, &[[u8; 4]], &mut [u64], &mut [u8]) -> Answer;
+
+/// The rows of a kind of run: all lists, or those over which the model does not take too long. `list` puts the calls as
+/// the library takes them.
+fn runs_of<T>(
+    bench: &Bench,
+    (kind, all): (&str, bool),
+    run: Run<T>,
+    list: fn(&[[u8; 4]]) -> (*const T, usize),
+    (fast, model): (Told, Told),
+) {
     for (name, table, faulty, calls, by_model) in inputs::lists() {
-        let row = format!("run, {name}");
-        if !bench.wants(&row) {
+        let row = format!("{kind}, {name}");
+        if !(all || by_model) || !bench.wants(&row) {
             continue;
         }
-        let (memory, bytes) = (memory(&table), calls.concat());
+        let memory = memory(&table);
         let rooms = || (vec![7; 4 * table.len() + 6], vec![7; calls.len()]);
         let ((mut state, mut answers), (mut other_state, mut other_answers)) = (rooms(), rooms());
         let mut library = || {
-            answer(|out| unsafe {
-                let (cells, cells_length) = (state.as_mut_ptr(), state.len());
-                let (room, room_length) = (answers.as_mut_ptr(), answers.len());
-                let (list, length) = (bytes.as_ptr(), bytes.len());
-                siren_run(
-                    memory.as_ptr(),
-                    memory.len(),
-                    faulty,
-                    list,
-                    length,
-                    cells,
-                    cells_length,
-                    room,
-                    room_length,
-                    out,
-                )
-            })
+            let (table, length) = (memory.as_ptr(), memory.len());
+            let (list, many) = list(&calls);
+            let (cells, cells_length) = (state.as_mut_ptr(), state.len());
+            let (room, room_length) = (answers.as_mut_ptr(), answers.len());
+            answer(|out| unsafe { run(table, length, faulty, list, many, cells, cells_length, room, room_length, out) })
         };
-        let mut rust = || fast::run(black_box(&memory), faulty, &bytes, &mut other_state, &mut other_answers);
+        let mut rust = || fast(black_box(&memory), faulty, &calls, &mut other_state, &mut other_answers);
         let (mut model_state, mut model_answers) = rooms();
-        let expected = by_model.then(|| model::run(&memory, faulty, &bytes, &mut model_state, &mut model_answers));
+        let expected = by_model.then(|| model(&memory, faulty, &calls, &mut model_state, &mut model_answers));
         bench.row(&row, expected, &mut library, &mut rust);
         assert!(state == other_state && answers == other_answers, "{row}: the rooms differ");
         if by_model {
@@ -290,43 +292,21 @@ fn runs(bench: &Bench) {
     }
 }
 
-/// The same run over a list of records.
-fn runs_of_records(bench: &Bench) {
-    for (name, table, faulty, calls, by_model) in inputs::lists().into_iter().filter(|list| list.4) {
-        let row = format!("run of records, {name}");
-        if !bench.wants(&row) {
-            continue;
-        }
-        let memory = memory(&table);
-        let rooms = || (vec![7; 4 * table.len() + 6], vec![7; calls.len()]);
-        let ((mut state, mut answers), (mut other_state, mut other_answers)) = (rooms(), rooms());
-        let mut library = || {
-            answer(|out| unsafe {
-                let (cells, cells_length) = (state.as_mut_ptr(), state.len());
-                let (room, room_length) = (answers.as_mut_ptr(), answers.len());
-                // A call of four bytes stands in memory as the record does.
-                let (list, length) = (calls.as_ptr().cast::<Call>(), calls.len());
-                siren_run_records(
-                    memory.as_ptr(),
-                    memory.len(),
-                    faulty,
-                    list,
-                    length,
-                    cells,
-                    cells_length,
-                    room,
-                    room_length,
-                    out,
-                )
-            })
-        };
-        let mut rust = || fast::run_records(black_box(&memory), faulty, &calls, &mut other_state, &mut other_answers);
-        let (mut model_state, mut model_answers) = rooms();
-        let expected =
-            by_model.then(|| model::run_records(&memory, faulty, &calls, &mut model_state, &mut model_answers));
-        bench.row(&row, expected, &mut library, &mut rust);
-        assert!(state == other_state && answers == other_answers, "{row}: the rooms differ");
-    }
+/// The run over a list of bytes, and the same run over a list of records.
+fn runs(bench: &Bench) {
+    runs_of(
+        bench,
+        ("run", true),
+        siren_run,
+        |calls| (calls.as_flattened().as_ptr(), calls.as_flattened().len()),
+        (
+            |table, faulty, calls, state, answers| fast::run(table, faulty, calls.as_flattened(), state, answers),
+            |table, faulty, calls, state, answers| model::run(table, faulty, calls.as_flattened(), state, answers),
+        ),
+    );
+    // A call of four bytes stands in memory as the record does.
+    let list = |calls: &[[u8; 4]]| (calls.as_ptr().cast::<Call>(), calls.len());
+    runs_of(bench, ("run of records", false), siren_run_records, list, (fast::run_records, model::run_records));
 }
 
 fn verdicts(bench: &Bench) {

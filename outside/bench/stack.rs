@@ -150,44 +150,18 @@ fn measure() -> Depths {
     for (name, rows, faulty, calls, _) in inputs::lists() {
         let table = memory(&rows);
         let (table, length) = (table.as_slice().as_ptr(), table.len());
+        macro_rules! note {
+            ($run:ident, $list:expr, $many:expr) => {
+                let many = $many;
+                let depth = depth!(unsafe {
+                    $run(table, length, faulty, $list, many, room, room_length, byte_room, byte_room_length, out)
+                });
+                depths.note(stringify!($run), depth, name);
+            };
+        }
         let list = calls.as_flattened();
-        depths.note(
-            "siren_run",
-            depth!(unsafe {
-                siren_run(
-                    table,
-                    length,
-                    faulty,
-                    list.as_ptr(),
-                    list.len(),
-                    room,
-                    room_length,
-                    byte_room,
-                    byte_room_length,
-                    out,
-                )
-            }),
-            name,
-        );
-        let records = calls.as_ptr().cast::<Call>();
-        depths.note(
-            "siren_run_records",
-            depth!(unsafe {
-                siren_run_records(
-                    table,
-                    length,
-                    faulty,
-                    records,
-                    calls.len(),
-                    room,
-                    room_length,
-                    byte_room,
-                    byte_room_length,
-                    out,
-                )
-            }),
-            name,
-        );
+        note!(siren_run, list.as_ptr(), list.len());
+        note!(siren_run_records, calls.as_ptr().cast::<Call>(), calls.len());
     }
     depths
 }
