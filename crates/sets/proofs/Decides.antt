@@ -9,10 +9,10 @@ use borrow.Author.Tests.{eqb-true, eqb-false, eq-eqb}
 use Rattle.ground.proofs.Logic.{and-l, and-r, and-i, cases, or-i, or-e}
 use Rattle.masks.proofs.Laws.AllBelow.{⊆-all, in-all}
 use Rattle.masks.proofs.Laws.Gather.{∈-gather, gather-∈, gather-lt}
-use Rattle.masks.proofs.Laws.Subsets.{⊆-trans, ∈-below, below-⊆}
+use Rattle.masks.proofs.Laws.Subsets.{⊆-trans, ∈-below, below-⊆, minus-⊆, ∈-minus, minus-not-in}
 use Rattle.masks.specs.Mask.{minus, allBelow, _∈_, _⊆_}
 use Rattle.sets.specs.Decides.{Greatest, Apart, Decides, TableIsFbqs, TableDecides}
-use Rattle.sets.specs.Paper.{Fbqs, Quorum, Intersection, Dispensable, Intact, Blocking}
+use Rattle.sets.specs.Paper.{Fbqs, Quorum, Intersection, Dispensable, Intact, Befouled, Blocking}
 use Rattle.sets.specs.Quorum.{quorum, largest}
 use Rattle.sets.specs.Slices.{Slices}
 use Rattle.sets.specs.Verdicts.{beside, firstApart, meets, dispensable, isIntact, intact}
@@ -126,6 +126,12 @@ module _ {S : Fbqs} {r : Slices} {n : ℕ} (lawful : Lawful S r n) where
     λ i. ∈-gather (isIntact r n f) (∈-below (ones-lt n) (subst (λ (x : ℕ). v ∈ x) (lawful .all-sites) (i .site))) (is-intact f v i),
   )
 
+  befouled-set-is : (f v : ℕ) → (v ∈ minus (allBelow n) (intact r n f)) ↔ Befouled S f v
+  befouled-set-is f v = (
+    λ h. (subst (λ (x : ℕ). v ∈ x) (sym (lawful .all-sites)) (minus-⊆ (allBelow n) (intact r n f) .each v h), λ i. minus-not-in (allBelow n) h (intact-set-is f v .1 i)),
+    λ b. ∈-minus (subst (λ (x : ℕ). v ∈ x) (lawful .all-sites) (b .0)) (λ h. b .1 (intact-set-is f v .0 h)),
+  )
+
   pub decides : Decides S r n
   decides =
       record {
@@ -137,6 +143,7 @@ module _ {S : Fbqs} {r : Slices} {n : ℕ} (lawful : Lawful S r n) where
         dispensable-decides = λ b sub. (dispensable-is b sub, is-dispensable);
         intact-decides = λ f v l. (intact-is f v l, is-intact f v);
         intact-set = intact-set-is;
+        befouled-set = befouled-set-is;
       }
 
 -- of a checked table

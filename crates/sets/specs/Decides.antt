@@ -5,8 +5,8 @@ use mathlib.Core.List.{List}
 use mathlib.Core.Logic.{_⊎_, _↔_}
 use mathlib.Core.Path.{_≡_}
 use lib.Bits.{bitAnd}
-use Rattle.masks.specs.Mask.{allBelow, size, _∈_, _⊆_}
-use Rattle.sets.specs.Paper.{Fbqs, WellFormed, Quorum, Intersection, Dispensable, Intact, Blocking}
+use Rattle.masks.specs.Mask.{minus, allBelow, size, _∈_, _⊆_}
+use Rattle.sets.specs.Paper.{Fbqs, WellFormed, Quorum, Intersection, Dispensable, Intact, Befouled, Blocking}
 use Rattle.sets.specs.Promises.{Promises, questionsOf}
 use Rattle.sets.specs.Quorum.{quorum, round, after, largest, rounds}
 use Rattle.sets.specs.Slices.{Slices, fbqsOf, slicesOf}
@@ -42,6 +42,7 @@ pub record Decides (S : Fbqs) (r : Slices) (n : ℕ) : Type 0 where
   pub dispensable-decides : (b : ℕ) → b ⊆ allBelow n → (dispensable r n b ≡ true) ↔ Dispensable S b
   pub intact-decides : (f v : ℕ) → v < n → (isIntact r n f v ≡ true) ↔ Intact S f v
   pub intact-set : (f v : ℕ) → (v ∈ intact r n f) ↔ Intact S f v
+  pub befouled-set : (f v : ℕ) → (v ∈ minus (allBelow n) (intact r n f)) ↔ Befouled S f v
 
 -- a checked table is a well-formed FBQS, its answers decide the paper's statements, and it keeps the promises that the voting rests on
 abbrev pub TableIsFbqs : Type 0
