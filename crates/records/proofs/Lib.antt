@@ -2,3 +2,4 @@ pub mod Coincide
 pub mod Ended
 pub mod Facts
 pub mod Packing
+pub mod Room

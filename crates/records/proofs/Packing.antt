@@ -1,23 +1,22 @@
--- The room that `pack` makes of a list of at most 4,096 calls begins with the list's bytes.
+-- A room that `pack` put a list of at most 4,096 calls in begins with the list's bytes.
 use Prim.Native.Nat.{ℕ, zero, suc, _+_, _*_, _≤_, _<_}
 use mathlib.Core.List.{List, [], _∷_, _++_, append-assoc}
 use mathlib.Core.Path.{_≡_, refl, sym, ap, _∙_}
 use native.Mathlib.Numerals.{add-one}
 use native.Mathlib.Omega.{arith}
-use lib.ListN.{length, getD, set, take, length-set, length-replicate}
+use lib.ListN.{length, getD, set, take, length-set}
 use lib.Seq.{take-suc-set, take-suc, take-length}
 use borrow.Author.Tests.{lt-ltb}
-use Rattle.records.specs.Pack.{bytesOf, none, stored, putAt, packTo, blank}
+use Rattle.records.specs.Pack.{bytesOf, none, stored, putAt, packTo}
 use Rattle.records.specs.declared.Call.{Call}
-use Rattle.records.specs.declared.Packed.{Packed}
 
-pub packTo-zero : (cs : List Call) → packTo cs 0 ≡ blank
+pub packTo-zero : (b : List ℕ) (cs : List Call) → packTo b cs 0 ≡ b
 unfolding packTo
-packTo-zero cs = refl
+packTo-zero b cs = refl
 
-pub packTo-suc : (cs : List Call) (n : ℕ) → packTo cs (suc n) ≡ putAt (packTo cs n) n (getD cs n none)
+pub packTo-suc : (b : List ℕ) (cs : List Call) (n : ℕ) → packTo b cs (suc n) ≡ putAt (packTo b cs n) n (getD cs n none)
 unfolding packTo
-packTo-suc cs n = refl
+packTo-suc b cs n = refl
 
 -- one call more at the end is its four bytes more
 bytesOf-snoc : (cs : List Call) (c : Call) → bytesOf (cs ++ (c ∷ [])) ≡ bytesOf cs ++ (c .kind ∷ c .from ∷ c .to ∷ c .side ∷ [])
@@ -68,25 +67,24 @@ bytes-none : bytesOf [] ≡ []
 unfolding bytesOf
 bytes-none = refl
 
-module _ (cs : List Call) where
+module _ (b : List ℕ) (room : length b ≡ 16384) (cs : List Call) where
   abbrev bs : ℕ → List ℕ
-  bs i = packTo cs i .bytes
+  bs i = packTo b cs i
 
   packed-step : (i : ℕ) → i < 4096 → bs (suc i) ≡ stored (bs i) i (getD cs i none)
   unfolding putAt
-  packed-step i h = ap (λ (p : Packed). p .bytes) (packTo-suc cs i) ∙ simp (lt-ltb i 4096 h)
+  packed-step i h = packTo-suc b cs i ∙ simp (lt-ltb i 4096 h)
 
   packed-length : (i : ℕ) → i ≤ 4096 → length (bs i) ≡ 16384
-  unfolding blank
-  packed-length zero h = ap (λ (p : Packed). length (p .bytes)) (packTo-zero cs) ∙ length-replicate {A = ℕ} 16384 0
+  packed-length zero h = ap length (packTo-zero b cs) ∙ room
   packed-length (suc i) h = ap length (packed-step i h) ∙ stored-length (bs i) i (getD cs i none) ∙ packed-length i (omega arith)
 
   packed-take : (i : ℕ) → i ≤ 4096 → i ≤ length cs → take (4 * i) (bs i) ≡ bytesOf (take i cs)
   packed-take zero h l = sym bytes-none
   packed-take (suc i) h l =
-      ap (λ (b : List ℕ). take (4 * suc i) b) (packed-step i h)
+      ap (λ (l : List ℕ). take (4 * suc i) l) (packed-step i h)
       ∙ stored-take (bs i) i (getD cs i none) (let e : length (bs i) ≡ 16384 = packed-length i (omega arith) in omega arith)
-      ∙ ap (λ (b : List ℕ). b ++ four (getD cs i none)) (packed-take i (omega arith) (omega arith))
+      ∙ ap (λ (l : List ℕ). l ++ four (getD cs i none)) (packed-take i (omega arith) (omega arith))
       ∙ sym (bytesOf-snoc (take i cs) (getD cs i none))
       ∙ ap bytesOf (sym (take-suc cs i none l))
 

@@ -4,9 +4,8 @@ use mathlib.Core.Bool.{Bool, true, false}
 use mathlib.Core.List.{List, [], _∷_}
 use mathlib.Core.Path.{_≡_}
 use lib.Dec.{ltb}
-use lib.ListN.{length, getD, set, take, replicate}
+use lib.ListN.{length, getD, set, take}
 use Rattle.records.specs.declared.Call.{Call}
-use Rattle.records.specs.declared.Packed.{Packed}
 use Rattle.run.specs.Run.{ran, stateInto, answersInto}
 use Rattle.run.specs.declared.Ran.{Ran}
 
@@ -23,21 +22,18 @@ none = record { kind = 0; from = 0; to = 0; side = 0 }
 abbrev pub stored : List ℕ → ℕ → Call → List ℕ
 stored b i c = set (set (set (set b (4 * i) (c .kind)) (4 * i + 1) (c .from)) (4 * i + 2) (c .to)) (4 * i + 3) (c .side)
 
-abbrev pub pick : Bool → Packed → Packed → Packed
+abbrev pub pick : Bool → List ℕ → List ℕ → List ℕ
 pick true a b = a
 pick false a b = b
 
 -- the room with call i put in its place; past the end nothing changes
-unfoldable pub putAt : Packed → ℕ → Call → Packed
-putAt p i c = pick (ltb i 4096) (record { bytes = stored (p .bytes) i c }) p
+unfoldable pub putAt : List ℕ → ℕ → Call → List ℕ
+putAt b i c = pick (ltb i 4096) (stored b i c) b
 
-unfoldable pub blank : Packed
-blank = record { bytes = replicate 16384 0 }
-
--- the first n calls of the list, put one after the other
-unfoldable pub packTo : List Call → ℕ → Packed
-packTo cs zero = blank
-packTo cs (suc n) = putAt (packTo cs n) n (getD cs n none)
+-- the room with the first n calls of the list put one after the other
+unfoldable pub packTo : List ℕ → List Call → ℕ → List ℕ
+packTo b cs zero = b
+packTo b cs (suc n) = putAt (packTo b cs n) n (getD cs n none)
 
 -- how a run of n calls that stand in a room of bytes ends: as the run of any list of 4n bytes that the room begins with, and if there are more calls
 -- than the room holds, as the run of any list of 4n bytes at all

@@ -1,9 +1,8 @@
 // The run of a list of calls given as records: the same run, over a lent slice of call structs.
 ghost use mathlib.Core.Path.{_≡_};
-ghost use Prim.Native.Nat.{_*_};
 ghost use lib.ListN.{length};
 ghost use Rattle.run.specs.Run.{ran, stateInto, answersInto};
-ghost use Rattle.records.specs.Pack.{bytesOf, blank, putAt, packTo, Ended};
+ghost use Rattle.records.specs.Pack.{bytesOf, putAt, packTo, Ended};
 use refusals::Check;
 use refusals::Refusal;
 use run::Ran;
@@ -17,59 +16,40 @@ pub struct Call {
     pub side: u8,
 }
 
-// Room for 4,096 calls, four bytes a call.
-struct Packed {
-    bytes: [u8; 16384],
-}
-
-fn empty() -> Packed
-    ensures { λ r. ⌜ r ≡ blank ⌝ }
-{
-    Packed {
-        bytes: [0u8; 16384],
-    }
-}
-
-// Call i put in its place; past the room nothing changes.
-fn put_call(p: Packed, i: usize, c: Call) -> Packed
-    ensures { λ r. ⌜ r ≡ putAt p i c ⌝ }
+// Call i put in its place in a room for 4,096 calls, four bytes a call; past the room nothing changes.
+fn put_call(room: &mut [u8; 16384], i: usize, c: Call)
+    ensures { λ r. ⌜ now (room .exit) ≡ putAt (now (room .entry)) i c ⌝ }
 {
     if i < 4096 {
         let at = 4 * i;
-        let mut q = p;
-        q.bytes[at] = c.kind;
-        q.bytes[at + 1] = c.from;
-        q.bytes[at + 2] = c.to;
-        q.bytes[at + 3] = c.side;
-        q
-    } else {
-        p
+        room[at] = c.kind;
+        room[at + 1] = c.from;
+        room[at + 2] = c.to;
+        room[at + 3] = c.side;
     }
 }
 
 // The calls as bytes, as far as the room goes.
-fn pack(calls: &[Call]) -> Packed
-    ensures { λ r. ⌜ r ≡ packTo (now (calls .entry)) (length (now (calls .entry))) ⌝ }
+fn pack(calls: &[Call], room: &mut [u8; 16384])
+    ensures { λ r. ⌜ now (room .exit) ≡ packTo (now (room .entry)) (now (calls .entry)) (length (now (calls .entry))) ⌝ }
 {
-    let mut p = empty();
     let mut i = 0;
     while i < calls.len() {
-        p = put_call(p, i, calls[i]);
+        put_call(room, i, calls[i]);
         i += 1;
     }
-    p
 }
 
 // The run of n calls that stand packed. A list of more than 4,096 calls is refused as one of 16,388 bytes is.
 fn run_packed(
     table: &[u64],
     faulty: u64,
-    p: Packed,
+    room: &[u8; 16384],
     n: usize,
     state: &mut [u64],
     answers: &mut [u8],
 ) -> Ran
-    ensures { λ r. ⌜ Ended (now (table .entry)) faulty (p .bytes) n (now (state .entry)) (now (answers .entry)) r (now (state .exit)) (now (answers .exit)) ⌝ }
+    ensures { λ r. ⌜ Ended (now (table .entry)) faulty (now (room .entry)) n (now (state .entry)) (now (answers .entry)) r (now (state .exit)) (now (answers .exit)) ⌝ }
 {
     if 4096 < n {
         let q = run::check(table, faulty, 16388, state.len(), answers.len());
@@ -78,9 +58,9 @@ fn run_packed(
         }
         return Ran::Refused(Refusal::List);
     }
-    let b = p.bytes;
+    let bytes: &[u8] = room;
     let end = 4 * n;
-    run::run(table, faulty, &b[..end], state, answers)
+    run::run(table, faulty, &bytes[..end], state, answers)
 }
 
 // The run of a list of calls: equal in everything to the run of its bytes.
@@ -95,5 +75,7 @@ pub fn run_records(
     ensures states { λ r. ⌜ now (state .exit) ≡ stateInto r (now (table .entry)) faulty (bytesOf (now (calls .entry))) (now (state .entry)) ⌝ }
     ensures bytes { λ r. ⌜ now (answers .exit) ≡ answersInto r (now (table .entry)) faulty (bytesOf (now (calls .entry))) (now (answers .entry)) ⌝ }
 {
-    run_packed(table, faulty, pack(calls), calls.len(), state, answers)
+    let mut room = [0u8; 16384];
+    pack(calls, &mut room);
+    run_packed(table, faulty, &room, calls.len(), state, answers)
 }

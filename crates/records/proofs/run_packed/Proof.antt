@@ -11,7 +11,7 @@ use Rattle.records.proofs.run_packed.Tie as tie
 returns : tie.Need-returns
 returns c =
     let a = c .before .before .before .before .before .before .before .before .args in
-    over-refused (now (a .table)) (a .faulty) (a .p .bytes) (a .n) (now (a .state)) (now (a .answers)) _ (c .before .before .before .before .if1 .taken)
+    over-refused (now (a .table)) (a .faulty) (now (a .room)) (a .n) (now (a .state)) (now (a .answers)) _ (c .before .before .before .before .if1 .taken)
     (sym (c .before .before .before .check .ensures) ∙ c .before .q .given .1)
 
 returns-2 : tie.Need-returns-2
@@ -19,21 +19,16 @@ returns-2 c =
     let a = c .before .before .before .before .before .before .before .args in
     absurd (long-unsound (now (a .table)) (a .faulty) (length (now (a .state))) (length (now (a .answers))) (sym (c .before .before .check .ensures) ∙ c .enum-told .given .1))
 
-array-share-prefix-b : tie.Need-array-share-prefix-b
-array-share-prefix-b c =
-    let h : length (c .before .before .before .before .before .args .p .bytes) ≡ 16384 = search needs in
-    omega arith
-
 slice-aggregate-run : tie.Need-slice-aggregate-run
 slice-aggregate-run c =
-    let h : length (c .before .before .before .before .before .before .args .p .bytes) ≡ 16384 = search needs in
+    let h : length (now (c .before .before .before .before .before .before .args .room)) ≡ 16384 = search needs in
     simp length-take (omega arith)
 
 returns-3 : tie.Need-returns-3
 returns-3 c =
     let a = c .before .before .before .before .before .before .before .before .before .before .before .before .before .args in
     let e = c .before .before .before .before .run .ensures in
-    held-ends (now (a .table)) (a .faulty) (a .p .bytes) (a .n) (now (a .state)) (now (a .answers)) _ _ _ (c .before .before .before .before .before .before .before .before .before .if1 .left) (e .0) (e .1 .0) (e .1 .1)
+    held-ends (now (a .table)) (a .faulty) (now (a .room)) (a .n) (now (a .state)) (now (a .answers)) _ _ _ (c .before .before .before .before .before .before .before .before .before .if1 .left) (e .0) (e .1 .0) (e .1 .1)
 
 pub run-packed-spec : {M : Type 1} → statement M
 run-packed-spec =
@@ -45,7 +40,6 @@ run-packed-spec =
     (λ c. search needs)
     returns-2
     (λ c. search needs)
-    array-share-prefix-b
     slice-aggregate-run
     (λ c κs. search needs)
     (λ c. search needs)
