@@ -25,8 +25,7 @@ fn in_quorum(table: &[u64], n: usize, v: usize, w: u64) -> bool
     requires { ⌜ Table (now table) n × (v < n) ⌝ }
     ensures { λ r. ⌜ r ≡ questionsOf (slicesOf (now (table .entry))) n .inQuorum v w ⌝ }
 {
-    let l = sets::largest(table, n, w);
-    masks::has(l.set, v as u64)
+    sets::in_largest(table, n, v, w)
 }
 
 // Site v accepts from the votes and accepts that it heard, its own accept not counted.
