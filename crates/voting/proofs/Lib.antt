@@ -13,3 +13,4 @@ pub mod Exact
 pub mod StepWays
 pub mod Coincide
 pub mod Ways
+pub mod Asked

@@ -1,6 +1,6 @@
 -- Laws of the two rules: they grow with what was heard, leave the own accept out, and say no where nothing was heard.
 use Prim.Native.Nat.{ℕ, _<_}
-use mathlib.Core.Bool.{Bool, true, false, _||_}
+use mathlib.Core.Bool.{Bool, true, false, _||_, or-false}
 use mathlib.Core.Logic.{_⊎_, ⊎-elim}
 use mathlib.Core.Path.{_≡_, refl, sym, ap, subst}
 use lib.Bits.{bitOr}
@@ -49,6 +49,11 @@ module _ (Q : Questions) (v a b : ℕ) where
   pub by-blocked : Q .blocked v (others b v) ≡ true → accepting Q v a b ≡ true
   unfolding accepting
   by-blocked e = or-i (Q .inQuorum v (bitOr a (others b v))) (Q .blocked v (others b v)) e
+
+  -- not blocked: it accepts exactly by a quorum
+  pub unblocked : Q .blocked v (others b v) ≡ false → accepting Q v a b ≡ Q .inQuorum v (bitOr a (others b v))
+  unfolding accepting
+  unblocked e = rw (e, or-false (Q .inQuorum v (bitOr a (others b v)))) refl
 
   pub accepting-either : accepting Q v a b ≡ true → (Q .inQuorum v (bitOr a (others b v)) ≡ true) ⊎ (Q .blocked v (others b v) ≡ true)
   unfolding accepting

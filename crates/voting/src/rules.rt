@@ -29,19 +29,19 @@ fn in_quorum(table: &[u64], n: usize, v: usize, w: u64) -> bool
 }
 
 // Site v accepts from the votes and accepts that it heard, its own accept not counted.
-pub fn is_accepting(table: &[u64], n: usize, v: usize, votes: u64, accepts: u64) -> bool
+fn is_accepting(table: &[u64], n: usize, v: usize, votes: u64, accepts: u64) -> bool
     requires { ⌜ Table (now table) n × (v < n) ⌝ }
     ensures { λ r. ⌜ r ≡ accepting (questionsOf (slicesOf (now (table .entry))) n) v votes accepts ⌝ }
 {
     let others = masks::minus(accepts, masks::single(v as u64));
-    if in_quorum(table, n, v, votes | others) {
+    if sets::blocks(table, n, others, v) {
         return true;
     }
-    sets::blocks(table, n, others, v)
+    in_quorum(table, n, v, votes | others)
 }
 
 // Site v confirms from the accepts that it heard, its own counted.
-pub fn is_confirming(table: &[u64], n: usize, v: usize, accepts: u64) -> bool
+fn is_confirming(table: &[u64], n: usize, v: usize, accepts: u64) -> bool
     requires { ⌜ Table (now table) n × (v < n) ⌝ }
     ensures { λ r. ⌜ r ≡ confirming (questionsOf (slicesOf (now (table .entry))) n) v accepts ⌝ }
 {
