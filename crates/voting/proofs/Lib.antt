@@ -14,3 +14,4 @@ pub mod StepWays
 pub mod Coincide
 pub mod Ways
 pub mod Asked
+pub mod Since

@@ -2,12 +2,12 @@
 use Prim.Native.Nat.{ℕ, _<_}
 use mathlib.Core.Bool.{Bool, true, false, _||_, or-false}
 use mathlib.Core.Logic.{_⊎_, ⊎-elim}
-use mathlib.Core.Path.{_≡_, refl, sym, ap, subst}
+use mathlib.Core.Path.{_≡_, refl, sym, ap, _∙_, subst}
 use lib.Bits.{bitOr}
 use Rattle.ground.proofs.Logic.{is-false, clash, or-i, or-e}
 use Rattle.masks.proofs.Laws.Single.{∈-single, single-⊆, ∈-or, or-grows, minus-grows, minus-added}
 use Rattle.masks.proofs.Laws.Subsets.{not-in-zero, ⊆-refl, ⊆-zero, minus-⊆}
-use Rattle.masks.specs.Mask.{single, _∈_, _⊆_}
+use Rattle.masks.specs.Mask.{single, minus, _∈_, _⊆_}
 use Rattle.sets.specs.Paper.{Fbqs}
 use Rattle.sets.specs.Promises.{Questions, Promises}
 use Rattle.voting.specs.Rules.{only, others, accepting, confirming}
@@ -34,6 +34,10 @@ pub only-grows : (a b : Bool) (v : ℕ) → (a ≡ true → b ≡ true) → only
 only-grows a b v f = only-still a v (λ e. ∈-only v (f e))
 
 -- the two rules
+
+-- the accepts of the others, as the code finds them
+pub others-found : (v b : ℕ) {m o : ℕ} → m ≡ single v → o ≡ minus b m → o ≡ others b v
+others-found v b em eo = eo ∙ ap (minus b) em
 
 -- the own accept is not counted
 pub accepting-own : (Q : Questions) (v a b : ℕ) {m : ℕ} → m ⊆ single v → accepting Q v a (bitOr b m) ≡ accepting Q v a b
