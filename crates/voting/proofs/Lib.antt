@@ -13,3 +13,5 @@ pub mod Exact
 pub mod StepWays
 pub mod Coincide
 pub mod Ways
+pub mod Asked
+pub mod Since

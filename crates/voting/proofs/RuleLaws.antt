@@ -1,13 +1,13 @@
 -- Laws of the two rules: they grow with what was heard, leave the own accept out, and say no where nothing was heard.
 use Prim.Native.Nat.{ℕ, _<_}
-use mathlib.Core.Bool.{Bool, true, false, _||_}
+use mathlib.Core.Bool.{Bool, true, false, _||_, or-false}
 use mathlib.Core.Logic.{_⊎_, ⊎-elim}
-use mathlib.Core.Path.{_≡_, refl, sym, ap, subst}
+use mathlib.Core.Path.{_≡_, refl, sym, ap, _∙_, subst}
 use lib.Bits.{bitOr}
 use Rattle.ground.proofs.Logic.{is-false, clash, or-i, or-e}
 use Rattle.masks.proofs.Laws.Single.{∈-single, single-⊆, ∈-or, or-grows, minus-grows, minus-added}
 use Rattle.masks.proofs.Laws.Subsets.{not-in-zero, ⊆-refl, ⊆-zero, minus-⊆}
-use Rattle.masks.specs.Mask.{single, _∈_, _⊆_}
+use Rattle.masks.specs.Mask.{single, minus, _∈_, _⊆_}
 use Rattle.sets.specs.Paper.{Fbqs}
 use Rattle.sets.specs.Promises.{Questions, Promises}
 use Rattle.voting.specs.Rules.{only, others, accepting, confirming}
@@ -35,6 +35,10 @@ only-grows a b v f = only-still a v (λ e. ∈-only v (f e))
 
 -- the two rules
 
+-- the accepts of the others, as the code finds them
+pub others-found : (v b : ℕ) {m o : ℕ} → m ≡ single v → o ≡ minus b m → o ≡ others b v
+others-found v b em eo = eo ∙ ap (minus b) em
+
 -- the own accept is not counted
 pub accepting-own : (Q : Questions) (v a b : ℕ) {m : ℕ} → m ⊆ single v → accepting Q v a (bitOr b m) ≡ accepting Q v a b
 unfolding accepting
@@ -49,6 +53,11 @@ module _ (Q : Questions) (v a b : ℕ) where
   pub by-blocked : Q .blocked v (others b v) ≡ true → accepting Q v a b ≡ true
   unfolding accepting
   by-blocked e = or-i (Q .inQuorum v (bitOr a (others b v))) (Q .blocked v (others b v)) e
+
+  -- not blocked: it accepts exactly by a quorum
+  pub unblocked : Q .blocked v (others b v) ≡ false → accepting Q v a b ≡ Q .inQuorum v (bitOr a (others b v))
+  unfolding accepting
+  unblocked e = rw (e, or-false (Q .inQuorum v (bitOr a (others b v)))) refl
 
   pub accepting-either : accepting Q v a b ≡ true → (Q .inQuorum v (bitOr a (others b v)) ≡ true) ⊎ (Q .blocked v (others b v) ≡ true)
   unfolding accepting

@@ -18,7 +18,7 @@ use Rattle.sets.specs.Slices.{fbqsOf, slicesOf}
 use Rattle.table.proofs.SetCheck.{set-table}
 use Rattle.table.specs.Table.{Table, sites, setCheck}
 use Rattle.voting.specs.Inner.{call, Works}
-use Rattle.voting.specs.Rules.{Call, only, others, accepting, confirming, nowAccepts, nowConfirms, hears, taken}
+use Rattle.voting.specs.Rules.{Call, only, accepting, confirming, nowAccepts, nowConfirms, hears, taken}
 use Rattle.voting.specs.Sound.{Sound, unsound}
 use Rattle.voting.specs.State.{votes, accepts, voted, accepted, confirmed, get, add}
 use Rattle.voting.specs.Step.{questions, soundCheck, stepCheck, toStepped, stepInto}
@@ -26,7 +26,7 @@ use Rattle.voting.specs.Theorems.{Rests}
 use Rattle.voting.specs.declared.Stepped.{Stepped}
 use Rattle.voting.proofs.Exact.{sound-of}
 use Rattle.voting.proofs.Heard.{hears-proposal, hears-vote, hears-accept}
-use Rattle.voting.proofs.RuleLaws.{by-quorum}
+use Rattle.voting.proofs.RuleLaws.{others-found, by-blocked, unblocked}
 
 -- what the rules rest on, of a checked table
 pub table-rests : {t : List ℕ} {n : ℕ} → Table t n → Rests (λ v. fbqsOf t n) (questionsOf (slicesOf t) n) n
@@ -34,19 +34,13 @@ table-rests {t} {n} table = record { promises = table-promises t n table; sites 
 
 -- the rule for accepting, with the accepts of the others in o
 module _ (Q : Questions) (v heardVotes heardAccepts : ℕ) {m o : ℕ} (em : m ≡ single v) (eo : o ≡ minus heardAccepts m) where
-  rest : o ≡ others heardAccepts v
-  rest = eo ∙ ap (minus heardAccepts) em
+  pub accepts-by-blocking : Q .blocked v o ≡ true → true ≡ accepting Q v heardVotes heardAccepts
+  accepts-by-blocking e = sym (by-blocked Q v heardVotes heardAccepts (ap (Q .blocked v) (sym (others-found v heardAccepts em eo)) ∙ e))
 
-  asked : {b : Bool} → Q .inQuorum v (bitOr heardVotes o) ≡ b → Q .inQuorum v (bitOr heardVotes (others heardAccepts v)) ≡ b
-  asked e = ap (λ (x : ℕ). Q .inQuorum v (bitOr heardVotes x)) (sym rest) ∙ e
-
-  pub accepts-by-quorum : Q .inQuorum v (bitOr heardVotes o) ≡ true → true ≡ accepting Q v heardVotes heardAccepts
-  accepts-by-quorum e = sym (by-quorum Q v heardVotes heardAccepts (asked e))
-
-  pub accepts-by-blocking : Q .inQuorum v (bitOr heardVotes o) ≡ false → {b : Bool} → b ≡ Q .blocked v o → b ≡ accepting Q v heardVotes heardAccepts
-  unfolding accepting
-  accepts-by-blocking e p =
-      p ∙ ap (Q .blocked v) rest ∙ sym (ap (λ (x : Bool). x || Q .blocked v (others heardAccepts v)) (asked e))
+  pub accepts-by-quorum : Q .blocked v o ≡ false → Q .inQuorum v (bitOr heardVotes o) ≡ accepting Q v heardVotes heardAccepts
+  accepts-by-quorum e =
+      let rest = others-found v heardAccepts em eo in
+      ap (λ (x : ℕ). Q .inQuorum v (bitOr heardVotes x)) rest ∙ sym (unblocked Q v heardVotes heardAccepts (ap (Q .blocked v) (sym rest) ∙ e))
 
 -- hearing, by the kind of the call
 module _ (n to side : ℕ) (s : List ℕ) where

@@ -1,6 +1,6 @@
 -- One law for each way out of the functions that answer a call or test a state: the tests before it failed, and what its own test says.
 use Prim.Native.Nat.{ℕ, _+_, _*_, _-_, _≤_, _<_}
-use mathlib.Core.Bool.{Bool, true, false, not, or-false}
+use mathlib.Core.Bool.{Bool, true, false, not, or-true, or-false}
 use mathlib.Core.List.{List}
 use mathlib.Core.Path.{_≡_, refl, sym, ap, _∙_}
 use native.Mathlib.Nat.{add-zero}
@@ -153,13 +153,13 @@ module _ (Q : Questions) (n F : ℕ) (s : List ℕ) where
       unfolding badSide
       side-own a = rw (f, a) refl
 
-      pub side-rule : unowned ≡ false → unruled ≡ true → true ≡ badSide Q n F s v side
+      pub side-sent : unowned ≡ false → unheard ≡ true → true ≡ badSide Q n F s v side
       unfolding badSide
-      side-rule a b = rw (f, a, b) refl
+      side-sent a b = rw (f, a, b, or-true unruled) refl
 
-      pub side-sent : unowned ≡ false → unruled ≡ false → unheard ≡ badSide Q n F s v side
+      pub side-rule : unowned ≡ false → unheard ≡ false → unruled ≡ badSide Q n F s v side
       unfolding badSide
-      side-sent a b = rw (f, a, b) refl
+      side-rule a b = rw (f, a, b, or-false unruled) refl
 
   pub site-drill : (v : ℕ) → badSide Q n F s v 0 ≡ true → true ≡ badSite Q n F s v
   unfolding badSite

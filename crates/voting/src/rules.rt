@@ -1,13 +1,15 @@
 // What a site accepts and confirms, and the state after a taken call.
 ghost use mathlib.Core.Path.{_≡_};
+ghost use mathlib.Core.Bool.{true, false};
 ghost use Prim.Native.Nat.{_<_, _≤_};
 ghost use lib.ListN.{length};
 ghost use Rattle.table.specs.Table.{Table};
 ghost use Rattle.sets.specs.Slices.{slicesOf};
 ghost use Rattle.sets.specs.Promises.{questionsOf};
-ghost use Rattle.voting.specs.State.{size, add};
+ghost use Rattle.masks.specs.Mask.{_∈_};
+ghost use Rattle.voting.specs.State.{votes, accepts, confirmed, size, get, add};
 ghost use Rattle.voting.specs.Rules.{only, accepting, confirming, nowAccepts, nowConfirms, hears, taken};
-ghost use Rattle.voting.specs.Inner.{call, InRange};
+ghost use Rattle.voting.specs.Inner.{call, InRange, New, Since};
 
 // The site alone if b, else nobody.
 fn only(b: bool, v: usize) -> u64
@@ -25,28 +27,60 @@ fn in_quorum(table: &[u64], n: usize, v: usize, w: u64) -> bool
     requires { ⌜ Table (now table) n × (v < n) ⌝ }
     ensures { λ r. ⌜ r ≡ questionsOf (slicesOf (now (table .entry))) n .inQuorum v w ⌝ }
 {
-    let l = sets::largest(table, n, w);
-    masks::has(l.set, v as u64)
+    sets::in_largest(table, n, v, w)
 }
 
-// Site v accepts from the votes and accepts that it heard, its own accept not counted.
-pub fn is_accepting(table: &[u64], n: usize, v: usize, votes: u64, accepts: u64) -> bool
-    requires { ⌜ Table (now table) n × (v < n) ⌝ }
-    ensures { λ r. ⌜ r ≡ accepting (questionsOf (slicesOf (now (table .entry))) n) v votes accepts ⌝ }
+// The same of a site v that does not belong to the largest quorum inside before, where only sites u and v are new. If u has no slice inside w, it
+// brings nobody in.
+fn now_in_quorum(table: &[u64], n: usize, u: usize, v: usize, before: u64, w: u64) -> bool
+    requires { ⌜ Table (now table) n × (u < n) × (v < n) × (questionsOf (slicesOf (now table)) n .inQuorum v before ≡ false) × New u v before w ⌝ }
+    ensures { λ r. ⌜ r ≡ questionsOf (slicesOf (now (table .entry))) n .inQuorum v w ⌝ }
 {
-    let others = masks::minus(accepts, masks::single(v as u64));
-    if in_quorum(table, n, v, votes | others) {
-        return true;
+    if w == before {
+        return false;
+    }
+    if !masks::has(before, v as u64) {
+        return in_quorum(table, n, v, w);
+    }
+    if !sets::has_slice(table, n, u, w) {
+        return false;
+    }
+    in_quorum(table, n, v, w)
+}
+
+// The sites of others block site v. Those of before do not.
+fn now_blocked(table: &[u64], n: usize, v: usize, before: u64, others: u64) -> bool
+    requires { ⌜ Table (now table) n × (v < n) × (questionsOf (slicesOf (now table)) n .blocked v before ≡ false) ⌝ }
+    ensures { λ r. ⌜ r ≡ questionsOf (slicesOf (now (table .entry))) n .blocked v others ⌝ }
+{
+    if others == before {
+        return false;
     }
     sets::blocks(table, n, others, v)
 }
 
-// Site v confirms from the accepts that it heard, its own counted.
-pub fn is_confirming(table: &[u64], n: usize, v: usize, accepts: u64) -> bool
-    requires { ⌜ Table (now table) n × (v < n) ⌝ }
-    ensures { λ r. ⌜ r ≡ confirming (questionsOf (slicesOf (now (table .entry))) n) v accepts ⌝ }
+// Site v accepts from the votes and accepts that it heard, its own accept not counted. From the votes a and the accepts b it does not, and only sites u
+// and v are new.
+fn now_accepting(
+    table: &[u64],
+    n: usize,
+    u: usize,
+    v: usize,
+    a: u64,
+    b: u64,
+    votes: u64,
+    accepts: u64,
+) -> bool
+    requires { ⌜ Table (now table) n × (u < n) × (v < n) × (accepting (questionsOf (slicesOf (now table)) n) v a b ≡ false) × New u v a votes × New u v b accepts ⌝ }
+    ensures { λ r. ⌜ r ≡ accepting (questionsOf (slicesOf (now (table .entry))) n) v votes accepts ⌝ }
 {
-    in_quorum(table, n, v, accepts)
+    let own = masks::single(v as u64);
+    let before = masks::minus(b, own);
+    let others = masks::minus(accepts, own);
+    if now_blocked(table, n, v, before, others) {
+        return true;
+    }
+    now_in_quorum(table, n, u, v, a | before, votes | others)
 }
 
 // The sites of m put into the set at place i.
@@ -84,29 +118,44 @@ fn hear(n: usize, state: &mut [u64], kind: usize, from: usize, to: usize, side: 
     put(state, 4 * to + 2 + side, masks::single(from as u64));
 }
 
-// The receiver accepts if the rule says so, and hears its own accept.
-fn now_accepts(table: &[u64], n: usize, state: &mut [u64], v: usize, side: usize)
-    requires { ⌜ Table (now table) n × (length (now state) ≡ size n) × (v < n) × (side < 2) ⌝ }
+// The receiver accepts if the rule says so, and hears its own accept. If it has accepted, nothing is asked.
+fn now_accepts(
+    table: &[u64],
+    n: usize,
+    state: &mut [u64],
+    u: usize,
+    v: usize,
+    side: usize,
+    a: u64,
+    b: u64,
+)
+    requires { ⌜ Table (now table) n × (length (now state) ≡ size n) × (u < n) × (v < n) × (side < 2) × Since (questionsOf (slicesOf (now table)) n) n u v side a b (now state) ⌝ }
     ensures { λ r. ⌜ now (state .exit) ≡ nowAccepts (questionsOf (slicesOf (now (table .entry))) n) n v side (now (state .entry)) ⌝ }
 {
+    if masks::has(state[4 * n + 2 + side], v as u64) {
+        return;
+    }
     let votes = state[4 * v + side];
     let accepts = state[4 * v + 2 + side];
-    let a = only(is_accepting(table, n, v, votes, accepts), v);
-    put(state, 4 * n + 2 + side, a);
-    put(state, 4 * v + 2 + side, a);
+    let m = only(now_accepting(table, n, u, v, a, b, votes, accepts), v);
+    put(state, 4 * n + 2 + side, m);
+    put(state, 4 * v + 2 + side, m);
 }
 
-// The receiver confirms if the rule says so.
-fn now_confirms(table: &[u64], n: usize, state: &mut [u64], v: usize, side: usize)
-    requires { ⌜ Table (now table) n × (length (now state) ≡ size n) × (v < n) × (side < 2) ⌝ }
+// The receiver confirms if the rule says so. If it has confirmed, nothing is asked.
+fn now_confirms(table: &[u64], n: usize, state: &mut [u64], u: usize, v: usize, side: usize, b: u64)
+    requires { ⌜ Table (now table) n × (length (now state) ≡ size n) × (u < n) × (v < n) × (side < 2) × New u v b (get (now state) (accepts side v)) × (confirming (questionsOf (slicesOf (now table)) n) v b ≡ true → v ∈ get (now state) (confirmed n side)) ⌝ }
     ensures { λ r. ⌜ now (state .exit) ≡ nowConfirms (questionsOf (slicesOf (now (table .entry))) n) n v side (now (state .entry)) ⌝ }
 {
+    if masks::has(state[4 * n + 4 + side], v as u64) {
+        return;
+    }
     let accepts = state[4 * v + 2 + side];
-    let a = only(is_confirming(table, n, v, accepts), v);
-    put(state, 4 * n + 4 + side, a);
+    let m = only(now_in_quorum(table, n, u, v, b, accepts), v);
+    put(state, 4 * n + 4 + side, m);
 }
 
-// The state after a taken call: the receiver alone is worked out again, for the call's side.
+// The state after a taken call: the receiver alone is worked out again, for the call's side, and asked only what the call has changed.
 pub fn take(
     table: &[u64],
     n: usize,
@@ -116,10 +165,12 @@ pub fn take(
     to: usize,
     side: usize,
 )
-    requires { ⌜ Table (now table) n × (length (now state) ≡ size n) × InRange n (call kind from to side) ⌝ }
+    requires { ⌜ Table (now table) n × (length (now state) ≡ size n) × InRange n (call kind from to side) × Since (questionsOf (slicesOf (now table)) n) n from to side (get (now state) (votes side to)) (get (now state) (accepts side to)) (now state) ⌝ }
     ensures { λ r. ⌜ now (state .exit) ≡ taken (questionsOf (slicesOf (now (table .entry))) n) n (call kind from to side) (now (state .entry)) ⌝ }
 {
+    let a = state[4 * to + side];
+    let b = state[4 * to + 2 + side];
     hear(n, state, kind, from, to, side);
-    now_accepts(table, n, state, to, side);
-    now_confirms(table, n, state, to, side);
+    now_accepts(table, n, state, from, to, side, a, b);
+    now_confirms(table, n, state, from, to, side, b);
 }

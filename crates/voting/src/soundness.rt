@@ -9,8 +9,9 @@ ghost use Rattle.table.specs.Table.{Table};
 ghost use Rattle.sets.specs.Slices.{slicesOf};
 ghost use Rattle.sets.specs.Promises.{questionsOf};
 ghost use Rattle.voting.specs.State.{size, get};
+ghost use Rattle.voting.specs.Rules.{accepting};
 ghost use Rattle.voting.specs.Sound.{differ, notZero, notOwn, notRule, notSent, badSide, badSite, unsound};
-use super::rules;
+ghost use Rattle.voting.specs.Inner.{Asked};
 
 // One test holds and not the other.
 fn differ(a: bool, b: bool) -> bool
@@ -63,6 +64,47 @@ fn is_not_own(v: usize, votes: u64, accepts: u64, voted: u64, accepted: u64) -> 
     )
 }
 
+// Site v belongs to the largest quorum inside w. The set asked last and its largest quorum are kept: sites that heard the same need no second search.
+fn belongs(table: &[u64], n: usize, v: usize, w: u64, asked: &mut [u64; 2]) -> bool
+    requires { ⌜ Table (now table) n × (v < n) × Asked (now table) n (now asked) ⌝ }
+    ensures { λ r. ⌜ r ≡ questionsOf (slicesOf (now (table .entry))) n .inQuorum v w ⌝ }
+    ensures { λ r. ⌜ Asked (now (table .entry)) n (now (asked .exit)) ⌝ }
+{
+    if !masks::has(w, v as u64) {
+        return false;
+    }
+    if w == asked[0] {
+        return masks::has(asked[1], v as u64);
+    }
+    if !sets::has_slice(table, n, v, w) {
+        return false;
+    }
+    let l = sets::largest(table, n, w);
+    asked[0] = w;
+    asked[1] = l.set;
+    masks::has(l.set, v as u64)
+}
+
+// Site v accepts from the votes and accepts that it heard, its own accept not counted.
+fn is_accepting(
+    table: &[u64],
+    n: usize,
+    v: usize,
+    votes: u64,
+    accepts: u64,
+    asked: &mut [u64; 2],
+) -> bool
+    requires { ⌜ Table (now table) n × (v < n) × Asked (now table) n (now asked) ⌝ }
+    ensures { λ r. ⌜ r ≡ accepting (questionsOf (slicesOf (now (table .entry))) n) v votes accepts ⌝ }
+    ensures { λ r. ⌜ Asked (now (table .entry)) n (now (asked .exit)) ⌝ }
+{
+    let others = masks::minus(accepts, masks::single(v as u64));
+    if sets::blocks(table, n, others, v) {
+        return true;
+    }
+    belongs(table, n, v, votes | others, asked)
+}
+
 // Accepted or confirmed other than the rules give from what was heard.
 fn is_not_rule(
     table: &[u64],
@@ -72,19 +114,21 @@ fn is_not_rule(
     accepts: u64,
     accepted: u64,
     confirmed: u64,
+    asked: &mut [u64; 2],
 ) -> bool
-    requires { ⌜ Table (now table) n × (v < n) ⌝ }
+    requires { ⌜ Table (now table) n × (v < n) × Asked (now table) n (now asked) ⌝ }
     ensures { λ r. ⌜ r ≡ notRule (questionsOf (slicesOf (now (table .entry))) n) v votes accepts accepted confirmed ⌝ }
+    ensures { λ r. ⌜ Asked (now (table .entry)) n (now (asked .exit)) ⌝ }
 {
     if differ(
         masks::has(accepted, v as u64),
-        rules::is_accepting(table, n, v, votes, accepts),
+        is_accepting(table, n, v, votes, accepts, asked),
     ) {
         return true;
     }
     differ(
         masks::has(confirmed, v as u64),
-        rules::is_confirming(table, n, v, accepts),
+        belongs(table, n, v, accepts, asked),
     )
 }
 
@@ -98,10 +142,19 @@ fn is_not_sent(faulty: u64, votes: u64, accepts: u64, voted: u64, accepted: u64)
     !masks::within(masks::minus(accepts, faulty), accepted)
 }
 
-// One site and one side.
-fn is_bad_side(table: &[u64], n: usize, faulty: u64, state: &[u64], v: usize, side: usize) -> bool
-    requires { ⌜ Table (now table) n × (length (now state) ≡ size n) × (v < n) × (side < 2) ⌝ }
+// One site and one side. The rules are asked last: they cost most.
+fn is_bad_side(
+    table: &[u64],
+    n: usize,
+    faulty: u64,
+    state: &[u64],
+    v: usize,
+    side: usize,
+    asked: &mut [u64; 2],
+) -> bool
+    requires { ⌜ Table (now table) n × (length (now state) ≡ size n) × (v < n) × (side < 2) × Asked (now table) n (now asked) ⌝ }
     ensures { λ r. ⌜ r ≡ badSide (questionsOf (slicesOf (now (table .entry))) n) n faulty (now (state .entry)) v side ⌝ }
+    ensures { λ r. ⌜ Asked (now (table .entry)) n (now (asked .exit)) ⌝ }
 {
     let votes = state[4 * v + side];
     let accepts = state[4 * v + 2 + side];
@@ -114,21 +167,29 @@ fn is_bad_side(table: &[u64], n: usize, faulty: u64, state: &[u64], v: usize, si
     if is_not_own(v, votes, accepts, voted, accepted) {
         return true;
     }
-    if is_not_rule(table, n, v, votes, accepts, accepted, confirmed) {
+    if is_not_sent(faulty, votes, accepts, voted, accepted) {
         return true;
     }
-    is_not_sent(faulty, votes, accepts, voted, accepted)
+    is_not_rule(table, n, v, votes, accepts, accepted, confirmed, asked)
 }
 
 // One site, both sides.
-fn is_bad_site(table: &[u64], n: usize, faulty: u64, state: &[u64], v: usize) -> bool
-    requires { ⌜ Table (now table) n × (length (now state) ≡ size n) × (v < n) ⌝ }
+fn is_bad_site(
+    table: &[u64],
+    n: usize,
+    faulty: u64,
+    state: &[u64],
+    v: usize,
+    asked: &mut [u64; 2],
+) -> bool
+    requires { ⌜ Table (now table) n × (length (now state) ≡ size n) × (v < n) × Asked (now table) n (now asked) ⌝ }
     ensures { λ r. ⌜ r ≡ badSite (questionsOf (slicesOf (now (table .entry))) n) n faulty (now (state .entry)) v ⌝ }
+    ensures { λ r. ⌜ Asked (now (table .entry)) n (now (asked .exit)) ⌝ }
 {
-    if is_bad_side(table, n, faulty, state, v, 0) {
+    if is_bad_side(table, n, faulty, state, v, 0, asked) {
         return true;
     }
-    is_bad_side(table, n, faulty, state, v, 1)
+    is_bad_side(table, n, faulty, state, v, 1, asked)
 }
 
 // Some site is bad.
@@ -136,9 +197,10 @@ fn some_bad_site(table: &[u64], n: usize, faulty: u64, state: &[u64]) -> bool
     requires { ⌜ Table (now table) n × (length (now state) ≡ size n) ⌝ }
     ensures { λ r. ⌜ r ≡ some n (badSite (questionsOf (slicesOf (now (table .entry))) n) n faulty (now (state .entry))) ⌝ }
 {
+    let mut asked = [0u64; 2];
     let mut v: usize = 0;
     while v < n {
-        if is_bad_site(table, n, faulty, state, v) {
+        if is_bad_site(table, n, faulty, state, v, &mut asked) {
             return true;
         }
         v += 1;

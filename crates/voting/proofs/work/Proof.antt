@@ -5,6 +5,7 @@ use denote.Ref.{now}
 use Rattle.voting.specs.Inner.{call}
 use Rattle.voting.proofs.Answer.{takes}
 use Rattle.voting.proofs.Inner.{works-refused, works-heard, works-taken}
+use Rattle.voting.proofs.Since.{sound-since}
 use Rattle.voting.proofs.work.Statement.{statement}
 use Rattle.voting.proofs.work.Tie as tie
 
@@ -33,7 +34,9 @@ take-requires c κs =
     let b = c .before .before .before .before .before .before .before .before .before .before in
     let a = b .args in
     let e = sym (c .before .before .before .before .before .before .answer .ensures) ∙ c .before .before .before .before .enum-told .given .1 in
-    (b .pre .0, b .pre .1 .long, takes (a .n) (a .faulty) (call (a .kind) (a .from) (a .to) (a .side)) (now (a .state)) e .range)
+    let K = takes (a .n) (a .faulty) (call (a .kind) (a .from) (a .to) (a .side)) (now (a .state)) e in
+    let r = K .range in
+    (b .pre .0, b .pre .1 .long, r, sound-since (b .pre .1) (a .from) (r .side-in) (r .to-in) (K .correct))
 
 returns-3 : tie.Need-returns-3
 returns-3 c =
