@@ -1,6 +1,7 @@
 pub mod Examples
 pub mod Passes
 pub mod Loops
+pub mod Waiting
 pub mod Turns
 pub mod RunWays
 pub mod Order

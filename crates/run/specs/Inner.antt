@@ -3,15 +3,15 @@ use Prim.Native.Nat.{ℕ, suc, _≤_, _<_}
 use mathlib.Core.Bool.{Bool, _&&_, not, true}
 use mathlib.Core.List.{List, [], _∷_, _++_}
 use mathlib.Core.Path.{_≡_}
-use lib.ListN.{length, take, drop}
+use lib.ListN.{length, getD, take, drop}
 use Rattle.ground.specs.Alike.{alike}
 use Rattle.refusals.specs.Refusal.{code}
 use Rattle.run.specs.Passes.{pass, iter, answersOf}
-use Rattle.run.specs.Run.{calls, runVotes}
+use Rattle.run.specs.Run.{calls, callAt, runVotes}
 use Rattle.sets.specs.Promises.{Questions}
 use Rattle.voting.specs.Rules.{Call, answer, step}
 use Rattle.voting.specs.Sound.{Sound}
-use Rattle.voting.specs.State.{fresh}
+use Rattle.voting.specs.State.{fresh, Below}
 
 -- no call of the pass changed anything
 module _ {S C : Type 0} (step : C → S → S) (same : S → S → Bool) where
@@ -38,6 +38,15 @@ module _ (Q : Questions) (n F : ℕ) where
     pub state : s ≡ pass (step Q n F) l s₀
     pub answers : out ≡ answersFrom l s₀
     pub flag : changed ≡ not (quiet (step Q n F) alike l s₀)
+
+  -- a call that waits for nothing: it answers with this byte and changes nothing, in this state and in each later one
+  pub record Settled (c : Call) (a : ℕ) (s : List ℕ) : Type 0 where
+    pub answers-so : {t : List ℕ} → Below s t → Sound Q n F t → code (answer n F c t) ≡ a
+    pub still : {t : List ℕ} → Below s t → Sound Q n F t → step Q n F c t ≡ t
+
+  -- each call of the list is settled with its answer byte, or waits: its byte is 15
+  pub record Told (list s out : List ℕ) : Type 0 where
+    pub settled : (i : ℕ) → i < length out → (getD out i 0 ≡ 15 → ⊥) → Settled (callAt list i) (getD out i 0) s
 
   -- k passes from a fresh state, each of which changed something
   pub record Going (l : List Call) (k : ℕ) (s : List ℕ) : Type 0 where
