@@ -10,7 +10,7 @@ ghost use Rattle.voting.specs.State.{size, fresh};
 ghost use Rattle.voting.specs.Sound.{Sound};
 ghost use Rattle.voting.specs.Inner.{Works};
 ghost use Rattle.run.specs.Run.{calls, callAt, runCheck, ran, stateInto, answersInto};
-ghost use Rattle.run.specs.Inner.{Passed, Whole};
+ghost use Rattle.run.specs.Inner.{Passed, Told, Going, Whole};
 use refusals::Check;
 use refusals::Refusal;
 
@@ -80,6 +80,54 @@ fn pass_over(
     changed
 }
 
+// One pass more: only the calls that wait can change anything or answer otherwise.
+fn pass_again(
+    table: &[u64],
+    n: usize,
+    faulty: u64,
+    list: &[u8],
+    state: &mut [u64],
+    answers: &mut [u8],
+) -> bool
+    requires { ⌜ Table (now table) n × Sound (questionsOf (slicesOf (now table)) n) n faulty (now state) × (length (now list) ≡ 4 * length (now answers)) × Told (questionsOf (slicesOf (now table)) n) n faulty (now list) (now state) (now answers) ⌝ }
+    ensures { λ r. ⌜ Passed (questionsOf (slicesOf (now (table .entry))) n) n faulty (calls (now (list .entry))) (now (state .entry)) r (now (state .exit)) (now (answers .exit)) ⌝ }
+{
+    let mut changed = false;
+    let mut i: usize = 0;
+    while i < answers.len() {
+        if answers[i] == 15 {
+            let w = work_at(table, n, faulty, list, i, state);
+            let a = w.answer;
+            answers[i] = refusals::code(a);
+            changed = either(changed, w.changed);
+        }
+        i += 1;
+    }
+    changed
+}
+
+// Passes after a first one that changed the state, until one changes nothing: how many, the first and the last counted.
+fn run_on(
+    table: &[u64],
+    n: usize,
+    faulty: u64,
+    list: &[u8],
+    state: &mut [u64],
+    answers: &mut [u8],
+) -> u64
+    requires { ⌜ Table (now table) n × Going (questionsOf (slicesOf (now table)) n) n faulty (calls (now list)) 1 (now state) × (length (now list) ≡ 4 * length (now answers)) × Told (questionsOf (slicesOf (now table)) n) n faulty (now list) (now state) (now answers) × (length (now answers) ≤ 4096) ⌝ }
+    ensures { λ r. ⌜ Whole (questionsOf (slicesOf (now (table .entry))) n) n faulty (calls (now (list .entry))) r (now (state .exit)) (now (answers .exit)) ⌝ }
+{
+    let mut passes = 1u64;
+    loop {
+        let changed = pass_again(table, n, faulty, list, state, answers);
+        passes += 1;
+        if !changed {
+            return passes;
+        }
+    }
+}
+
 // Passes from a fresh state until one changes nothing: how many, that one counted.
 fn run_fresh(
     table: &[u64],
@@ -92,14 +140,11 @@ fn run_fresh(
     requires { ⌜ Table (now table) n × (now state ≡ fresh n) × (length (now list) ≡ 4 * length (now answers)) × (length (now answers) ≤ 4096) ⌝ }
     ensures { λ r. ⌜ Whole (questionsOf (slicesOf (now (table .entry))) n) n faulty (calls (now (list .entry))) r (now (state .exit)) (now (answers .exit)) ⌝ }
 {
-    let mut passes = 0u64;
-    loop {
-        let changed = pass_over(table, n, faulty, list, state, answers);
-        passes += 1;
-        if !changed {
-            return passes;
-        }
+    let changed = pass_over(table, n, faulty, list, state, answers);
+    if !changed {
+        return 1;
     }
+    run_on(table, n, faulty, list, state, answers)
 }
 
 // Zeros all over.
