@@ -1,10 +1,11 @@
 -- `run_fresh` meets its contract: the first pass, and those after it if it changed something.
+use Prim.Native.Nat.{ℕ}
 use mathlib.Core.Path.{_≡_}
 use native.Mathlib.Omega.{arith}
 use borrow.Author.Needs.{needs}
 use borrow.Author.Tests.{not-true, not-false}
 use denote.Ref.{now}
-use lib.ListN.{length}
+use lib.ListN.{length, replicate, length-replicate}
 use Rattle.run.proofs.Turns.{going-none, going-more, going-done, passed-long, passed-told}
 use Rattle.run.specs.Run.{calls}
 use Rattle.voting.proofs.StepWays.{table-rests}
@@ -27,19 +28,21 @@ returns c =
 
 run-on-requires : tie.Need-run-on-requires
 run-on-requires c κs =
-    let a = c .before .before .before .before .before .before .before .before .before .before .before .before .before .before .args in
-    let p = c .before .before .before .before .before .before .before .before .before .before .before .before .before .before .pre in
+    let a = c .before .before .before .before .before .before .before .before .before .before .before .before .before .before .before .args in
+    let p = c .before .before .before .before .before .before .before .before .before .before .before .before .before .before .before .pre in
     let R = table-rests (p .0) in
     let l = calls (now (a .list)) in
     let G = going-none R (a .faulty) l (p .1) in
-    let Z = c .before .before .before .before .before .before .before .pass-over .ensures in
+    let Z = c .before .before .before .before .before .before .before .before .pass-over .ensures in
     let k = length (now (a .answers)) in
-    let e = passed-long R (a .faulty) (now (a .list)) k (p .2) Z in (
+    let e = passed-long R (a .faulty) (now (a .list)) k (p .2) Z in
+    let room : length {A = ℕ} (replicate 4096 0) ≡ 4096 = length-replicate {A = ℕ} 4096 0 in (
       p .0,
-      going-more R (a .faulty) l 0 G Z (not-false _ (c .before .before .if1 .left)),
+      going-more R (a .faulty) l 0 G Z (not-false _ (c .before .before .before .if1 .left)),
       omega (arith, p .2, e),
       passed-told R (a .faulty) (now (a .list)) k (p .2) (G .sound) Z,
       omega (arith, p .3, e),
+      omega (arith, p .3, e, room),
     )
 
 pub run-fresh-spec : {M : Type 1} → statement M
@@ -50,6 +53,7 @@ run-fresh-spec =
     (λ c. search needs)
     (λ c. search needs)
     returns
+    (λ c. search needs)
     run-on-requires
     (λ c. search needs)
     (λ c. search needs)
