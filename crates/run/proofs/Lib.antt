@@ -1,7 +1,10 @@
 pub mod Examples
 pub mod Passes
 pub mod Loops
+pub mod Places
+pub mod Waiting
 pub mod Turns
+pub mod Rounds
 pub mod RunWays
 pub mod Order
 pub mod Calls

@@ -1,15 +1,16 @@
 -- One turn of each loop of the run, and its end.
-use Prim.Native.Nat.{ℕ, suc, _+_, _*_, _≤_, _<_}
+use Prim.Native.Nat.{ℕ, suc, _+_, _-_, _*_, _≤_, _<_}
 use mathlib.Core.Bool.{Bool, true, false, _&&_, _||_, not}
 use mathlib.Core.List.{List, [], _∷_, _++_, append-nil}
 use mathlib.Core.Logic.{⊎-elim}
-use mathlib.Core.Path.{_≡_, refl, sym, ap, ap₂, subst, _∙_}
+use mathlib.Core.Path.{_≡_, refl, sym, ap, ap₂, subst, subst₂, _∙_}
 use native.Mathlib.Nat.{eq-or-lt-of-le, le-of-suc-le-suc}
 use native.Mathlib.Numerals.{add-one}
 use native.Mathlib.Omega.{arith}
 use lib.ListN.{length, getD, take, drop, set, length-set, drop-of-length-le}
-use lib.Seq.{take-suc, length-take-le, take-all}
+use lib.Seq.{take-suc, length-take-le, take-all, getD-append-add, getD-drop, set-getD}
 use borrow.Author.Tests.{not-true, not-false}
+use Rattle.ground.proofs.Alike.{eq-alike}
 use Rattle.ground.proofs.Logic.{clash}
 use Rattle.ground.proofs.Pieces.{fill-one}
 use Rattle.ground.specs.Alike.{alike}
@@ -18,8 +19,9 @@ use Rattle.refusals.specs.declared.Check.{Check}
 use Rattle.run.proofs.Calls.{calls-at, calls-length}
 use Rattle.run.proofs.Loops.{quiet-still, still-quiet, iter-more, changed-few, run-unique}
 use Rattle.run.proofs.Order.{spends}
-use Rattle.run.proofs.Passes.{pass-more, answers-more, pass-inv}
-use Rattle.run.specs.Inner.{quiet, answersFrom, After, Passed, Going, Whole}
+use Rattle.run.proofs.Passes.{pass-more, answers-more, pass-inv, pass-up}
+use Rattle.run.proofs.Waiting.{pass-settles}
+use Rattle.run.specs.Inner.{quiet, answersFrom, After, Passed, Settled, Told, Going, Whole}
 use Rattle.run.specs.Passes.{Run, pass, iter, answersOf, run}
 use Rattle.run.specs.Run.{calls, callAt, runVotes}
 use Rattle.sets.specs.Paper.{Fbqs}
@@ -30,7 +32,7 @@ use Rattle.voting.proofs.Steps.{step-sound}
 use Rattle.voting.specs.Inner.{call, Works}
 use Rattle.voting.specs.Rules.{Call, answer, step}
 use Rattle.voting.specs.Sound.{Sound}
-use Rattle.voting.specs.State.{fresh}
+use Rattle.voting.specs.State.{size, fresh, Below}
 use Rattle.voting.specs.Theorems.{Rests}
 
 -- a call read from four bytes of the list is its call i
@@ -46,6 +48,10 @@ and-assoc false b c = refl
 and-t : (a : Bool) → a && true ≡ a
 and-t true = refl
 and-t false = refl
+
+or-f : (a : Bool) → a ≡ a || false
+or-f true = refl
+or-f false = refl
 
 not-and : (a b : Bool) → not a || not b ≡ not (a && b)
 not-and true b = refl
@@ -77,6 +83,9 @@ module _ {Σ : ℕ → Fbqs} {Q : Questions} {n : ℕ} (R : Rests Σ Q n) (F : �
     pub after-none : Sound Q n F s₀ → After Q n F list s₀ out₀ 0 false s₀ out₀
     after-none S = record { within = omega arith; long = refl; sound = S; state = refl; answers = refl; flag = refl }
 
+    so-many : (i : ℕ) → i ≤ length out₀ → length (answersFrom Q n F (take i (calls list)) s₀) ≡ i
+    so-many i h = length-answers Q n F (take i (calls list)) s₀ ∙ length-take-le i (calls list) (omega (arith, calls-length list (length out₀) fits))
+
     pub after-more : (i a : ℕ) (x : Bool) (s out : List ℕ) {changed b : Bool} {q : Check} {s′ : List ℕ} → After Q n F list s₀ out₀ i changed s out →
         i < length out₀ → Works Q n F (callAt list i) s q b s′ → a ≡ code q → x ≡ changed || b → After Q n F list s₀ out₀ (i + 1) x s′ (set out i a)
     after-more i a x s out {changed} {b} {q} {s′} A h Z ea ex = record {
@@ -88,7 +97,7 @@ module _ {Σ : ℕ → Fbqs} {Q : Questions} {n : ℕ} (R : Rests Σ Q n) (F : �
       answers =
           ap₂ (λ (l : List ℕ) (y : ℕ). set l i y) (A .answers) (ea ∙ ap code (Z .answers-so) ∙ ap₂ ans (sym at) (A .state))
           ∙ fill-one (answersFrom Q n F (take i (calls list)) s₀) out₀ i (ans (getD (calls list) i d) (pass (step Q n F) (take i (calls list)) s₀))
-          (length-answers Q n F (take i (calls list)) s₀ ∙ length-take-le i (calls list) (omega (arith, few))) h
+          (so-many i (A .within)) h
           ∙ ap (λ (l : List ℕ). l ++ drop (i + 1) out₀) (sym (answers-more (step Q n F) ans (calls list) s₀ i d few))
           ∙ ap (λ (k : ℕ). answersFrom Q n F (take k (calls list)) s₀ ++ drop (i + 1) out₀) (sym (add-one i));
       flag =
@@ -108,6 +117,30 @@ module _ {Σ : ℕ → Fbqs} {Q : Questions} {n : ℕ} (R : Rests Σ Q n) (F : �
 
         at : getD (calls list) i (callAt list i) ≡ callAt list i
         at = calls-at list i (callAt list i) (omega arith)
+
+    -- the answer byte of a call that is still to come
+    pub after-byte : (i j : ℕ) {s out : List ℕ} {changed : Bool} → After Q n F list s₀ out₀ i changed s out → i ≤ j → getD out j 0 ≡ getD out₀ j 0
+    after-byte i j A h =
+        let p = answersFrom Q n F (take i (calls list)) s₀ in
+        let e = so-many i (A .within) in
+        let at : length p + (j - i) ≡ j = omega (arith, e) in
+        let up : i + (j - i) ≡ j = omega arith in
+        ap (λ (l : List ℕ). getD l j 0) (A .answers) ∙ ap (λ (k : ℕ). getD (p ++ drop i out₀) k 0) (sym at)
+        ∙ getD-append-add p (drop i out₀) (j - i) 0 ∙ getD-drop i out₀ (j - i) 0 ∙ ap (λ (k : ℕ). getD out₀ k 0) up
+
+    -- a settled call can be passed over
+    pub after-skip : (i : ℕ) {s out : List ℕ} {changed : Bool} → Sound Q n F s₀ → Told Q n F list s₀ out₀ → After Q n F list s₀ out₀ i changed s out →
+        i < length out₀ → (getD out₀ i 0 ≡ 15 → ⊥) → After Q n F list s₀ out₀ (i + 1) changed s out
+    after-skip i {s} {out} {changed} S T A h w =
+        let c = callAt list i in
+        let Z = T .settled i h w in
+        let b : Below s₀ s = subst (Below s₀) (sym (A .state)) (pass-up (step Q n F) alike (spends R F) (take i (calls list)) s₀ S) in
+        let e : s ≡ step Q n F c s = sym (Z .still b (A .sound)) in
+        let kept : set out i (code (answer n F c s)) ≡ out =
+        ap (set out i) (Z .answers-so b (A .sound) ∙ sym (after-byte i i A (omega arith))) ∙ set-getD out i 0 in
+        subst (After Q n F list s₀ out₀ (i + 1) changed s) kept
+        (after-more i (code (answer n F c s)) changed s out A h
+        (record { answers-so = refl; changes = sym (ap not (eq-alike s (step Q n F c s) e)); state = e }) refl (or-f changed))
 
     pub after-all : (i : ℕ) (s out : List ℕ) {changed : Bool} → After Q n F list s₀ out₀ i changed s out → length out₀ ≤ i →
         Passed Q n F (calls list) s₀ changed s out
@@ -169,10 +202,20 @@ module _ {Σ : ℕ → Fbqs} {Q : Questions} {n : ℕ} (R : Rests Σ Q n) (F : �
             run-unique (step Q n F) alike (spends R F) ans (fresh n) (fresh-sound Σ Q n F R) l k (G .each)
             (subst (λ (x : List ℕ). pass (step Q n F) l x ≡ x) (G .state) fixed)
 
-    pub passed-size : {k : ℕ} {s₀ s s₁ out : List ℕ} {changed : Bool} → s₀ ≡ fresh n → Going Q n F l k s → Passed Q n F l s changed s₁ out →
-        length s₁ ≡ length s₀
-    passed-size {s = s} e G Z = ap length (Z .state) ∙ passes-sound s (G .sound) .long ∙ sym (ap length e ∙ fresh-sound Σ Q n F R .long)
+    pub passed-size : {k : ℕ} {s s₁ out : List ℕ} {changed : Bool} → Going Q n F l k s → Passed Q n F l s changed s₁ out → length s₁ ≡ size n
+    passed-size {s = s} G Z = ap length (Z .state) ∙ passes-sound s (G .sound) .long
 
   pub passed-long : (list : List ℕ) (k : ℕ) {s s₁ out : List ℕ} {changed : Bool} → length list ≡ 4 * k → Passed Q n F (calls list) s changed s₁ out →
       length out ≡ k
   passed-long list k {s} h Z = ap length (Z .answers) ∙ length-answers Q n F (calls list) s ∙ calls-length list k h
+
+  -- after a pass each call waits or is settled
+  pub passed-told : (list : List ℕ) (k : ℕ) {s s₁ out : List ℕ} {changed : Bool} → length list ≡ 4 * k → Sound Q n F s →
+      Passed Q n F (calls list) s changed s₁ out → Told Q n F list s₁ out
+  passed-told list k {s} h S Z = subst₂ (Told Q n F list) (sym (Z .state)) (sym (Z .answers)) (record {
+    settled = λ i l w.
+        let few : i < length (calls list) = omega (arith, l, length-answers Q n F (calls list) s) in
+        subst (λ (c : Call). Settled Q n F c (getD (answersFrom Q n F (calls list) s) i 0) (pass (step Q n F) (calls list) s))
+        (calls-at list i (callAt list i) (omega (arith, h, few, calls-length list k h)))
+        (pass-settles R F (calls list) s S i (callAt list i) few w);
+  })

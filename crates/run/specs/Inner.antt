@@ -3,21 +3,31 @@ use Prim.Native.Nat.{ℕ, suc, _≤_, _<_}
 use mathlib.Core.Bool.{Bool, _&&_, not, true}
 use mathlib.Core.List.{List, [], _∷_, _++_}
 use mathlib.Core.Path.{_≡_}
-use lib.ListN.{length, take, drop}
+use lib.Dec.{eqb}
+use lib.ListN.{length, getD, take, drop, set}
 use Rattle.ground.specs.Alike.{alike}
 use Rattle.refusals.specs.Refusal.{code}
 use Rattle.run.specs.Passes.{pass, iter, answersOf}
-use Rattle.run.specs.Run.{calls, runVotes}
+use Rattle.run.specs.Run.{calls, callAt, runVotes}
 use Rattle.sets.specs.Promises.{Questions}
+use Rattle.voting.specs.Inner.{Works}
 use Rattle.voting.specs.Rules.{Call, answer, step}
 use Rattle.voting.specs.Sound.{Sound}
-use Rattle.voting.specs.State.{fresh}
+use Rattle.voting.specs.State.{fresh, Below}
 
 -- no call of the pass changed anything
 module _ {S C : Type 0} (step : C → S → S) (same : S → S → Bool) where
   abbrev pub quiet : List C → S → Bool
   quiet [] s = true
   quiet (c ∷ l) s = same s (step c s) && quiet l (step c s)
+
+-- of w the numbers from a on and before b are the places from p on and before q where the answer byte is 15, in order
+pub record Listed (out : List ℕ) (p q : ℕ) (w : List ℕ) (a b : ℕ) : Type 0 where
+  pub from : (k : ℕ) → a ≤ k → k < b → p ≤ getD w k 0
+  pub below : (k : ℕ) → a ≤ k → k < b → getD w k 0 < q
+  pub waits : (k : ℕ) → a ≤ k → k < b → getD out (getD w k 0) 0 ≡ 15
+  pub rises : (j k : ℕ) → a ≤ j → j < k → k < b → getD w j 0 < getD w k 0
+  pub all : (i : ℕ) → p ≤ i → i < q → getD out i 0 ≡ 15 → (k : ℕ) × (a ≤ k) × (k < b) × (getD w k 0 ≡ i)
 
 module _ (Q : Questions) (n F : ℕ) where
   -- the answers of a pass
@@ -38,6 +48,30 @@ module _ (Q : Questions) (n F : ℕ) where
     pub state : s ≡ pass (step Q n F) l s₀
     pub answers : out ≡ answersFrom l s₀
     pub flag : changed ≡ not (quiet (step Q n F) alike l s₀)
+
+  -- a call that waits for nothing: it answers with this byte and changes nothing, in this state and in each later one
+  pub record Settled (c : Call) (a : ℕ) (s : List ℕ) : Type 0 where
+    pub answers-so : {t : List ℕ} → Below s t → Sound Q n F t → code (answer n F c t) ≡ a
+    pub still : {t : List ℕ} → Below s t → Sound Q n F t → step Q n F c t ≡ t
+
+  -- each call of the list is settled with its answer byte, or waits: its byte is 15
+  pub record Told (list s out : List ℕ) : Type 0 where
+    pub settled : (i : ℕ) → i < length out → (getD out i 0 ≡ 15 → ⊥) → Settled (callAt list i) (getD out i 0) s
+
+  -- one call again, that has waited: its byte is written, and whether it waits still
+  pub record Again (c : Call) (i : ℕ) (s out : List ℕ) (changed waits : Bool) (s₁ out₁ : List ℕ) : Type 0 where
+    pub works : Works Q n F c s (answer n F c s) changed s₁
+    pub byte : out₁ ≡ set out i (code (answer n F c s))
+    pub waits-so : waits ≡ eqb (code (answer n F c s)) 15
+
+  -- amid a later pass that began with the state s₀ and the bytes out₀: the first k of the calls that wait are behind it, and `left` of them wait still
+  pub record Amid (list s₀ out₀ : List ℕ) (count k left : ℕ) (changed : Bool) (s out w : List ℕ) : Type 0 where
+    pub at : ℕ
+    pub after : After list s₀ out₀ at changed s out
+    pub kept : Listed out 0 at w 0 left
+    pub rest : Listed out₀ at (length out₀) w k count
+    pub few : left ≤ k
+    pub within : k ≤ count
 
   -- k passes from a fresh state, each of which changed something
   pub record Going (l : List Call) (k : ℕ) (s : List ℕ) : Type 0 where

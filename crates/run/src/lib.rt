@@ -1,8 +1,8 @@
 // The run of a list of calls, given as bytes: passes from first to last until a pass changes nothing.
 ghost use mathlib.Core.Path.{_≡_};
-ghost use mathlib.Core.Bool.{_||_};
+ghost use mathlib.Core.Bool.{_||_, cond};
 ghost use Prim.Native.Nat.{_+_, _*_, _<_, _≤_};
-ghost use lib.ListN.{length, replicate};
+ghost use lib.ListN.{length, getD, set, replicate};
 ghost use Rattle.table.specs.Table.{Table};
 ghost use Rattle.sets.specs.Slices.{slicesOf};
 ghost use Rattle.sets.specs.Promises.{questionsOf};
@@ -10,7 +10,7 @@ ghost use Rattle.voting.specs.State.{size, fresh};
 ghost use Rattle.voting.specs.Sound.{Sound};
 ghost use Rattle.voting.specs.Inner.{Works};
 ghost use Rattle.run.specs.Run.{calls, callAt, runCheck, ran, stateInto, answersInto};
-ghost use Rattle.run.specs.Inner.{Passed, Whole};
+ghost use Rattle.run.specs.Inner.{Passed, Told, Listed, Again, Going, Whole};
 use refusals::Check;
 use refusals::Refusal;
 
@@ -25,6 +25,20 @@ fn wide(x: u8) -> usize
     ensures { λ r. ⌜ r ≡ x ⌝ }
 {
     x as usize
+}
+
+// The number of a place in the list, as it is read and as it is kept.
+fn place(x: u16) -> usize
+    ensures { λ r. ⌜ r ≡ x ⌝ }
+{
+    x as usize
+}
+
+fn narrow(i: usize) -> u16
+    requires { ⌜ i < 65536 ⌝ }
+    ensures { λ r. ⌜ r ≡ i ⌝ }
+{
+    i as u16
 }
 
 // One of two holds.
@@ -80,6 +94,128 @@ fn pass_over(
     changed
 }
 
+// Place i behind the first `count` of the places that wait, if its call waits: how many they are then.
+fn keep(waiting: &mut [u16], count: usize, i: usize, waits: bool) -> usize
+    requires { ⌜ (count < length (now waiting)) × (i < 65536) ⌝ }
+    ensures { λ r. ⌜ (r ≡ cond waits (count + 1) count) × (now (waiting .exit) ≡ cond waits (set (now (waiting .entry)) count i) (now (waiting .entry))) ⌝ }
+{
+    if !waits {
+        return count;
+    }
+    waiting[count] = narrow(i);
+    count + 1
+}
+
+// The places of the calls that were refused with 15, in order: how many they are.
+fn gather(answers: &[u8], waiting: &mut [u16]) -> usize
+    requires { ⌜ (length (now answers) ≤ length (now waiting)) × (length (now answers) ≤ 4096) ⌝ }
+    ensures { λ r. ⌜ Listed (now (answers .entry)) 0 (length (now (answers .entry))) (now (waiting .exit)) 0 r × (r ≤ length (now (answers .entry))) ⌝ }
+{
+    let mut count: usize = 0;
+    let mut i: usize = 0;
+    while i < answers.len() {
+        count = keep(waiting, count, i, answers[i] == 15);
+        i += 1;
+    }
+    count
+}
+
+// Whether a call that has waited changed the state, and whether it waits still.
+struct Turn {
+    changed: bool,
+    waits: bool,
+}
+
+// Call i again, that has waited: its answer byte is 15 already.
+fn work_again(
+    table: &[u64],
+    n: usize,
+    faulty: u64,
+    list: &[u8],
+    i: usize,
+    state: &mut [u64],
+    answers: &mut [u8],
+) -> Turn
+    requires { ⌜ Table (now table) n × Sound (questionsOf (slicesOf (now table)) n) n faulty (now state) × (4 * i + 3 < length (now list)) × (i < length (now answers)) × (getD (now answers) i 0 ≡ 15) ⌝ }
+    ensures { λ r. ⌜ Again (questionsOf (slicesOf (now (table .entry))) n) n faulty (callAt (now (list .entry)) i) i (now (state .entry)) (now (answers .entry)) (r .changed) (r .waits) (now (state .exit)) (now (answers .exit)) ⌝ }
+{
+    let w = work_at(table, n, faulty, list, i, state);
+    let a = w.answer;
+    let byte = refusals::code(a);
+    if byte == 15 {
+        return Turn {
+            changed: w.changed,
+            waits: true,
+        };
+    }
+    answers[i] = byte;
+    Turn {
+        changed: w.changed,
+        waits: false,
+    }
+}
+
+// Whether a pass changed the state, and how many calls wait still.
+struct Round {
+    changed: bool,
+    count: usize,
+}
+
+// One pass more: only the calls that wait can change anything or answer otherwise.
+fn pass_again(
+    table: &[u64],
+    n: usize,
+    faulty: u64,
+    list: &[u8],
+    state: &mut [u64],
+    answers: &mut [u8],
+    waiting: &mut [u16],
+    count: usize,
+) -> Round
+    requires { ⌜ Table (now table) n × Sound (questionsOf (slicesOf (now table)) n) n faulty (now state) × (length (now list) ≡ 4 * length (now answers)) × Told (questionsOf (slicesOf (now table)) n) n faulty (now list) (now state) (now answers) × Listed (now answers) 0 (length (now answers)) (now waiting) 0 count × (count ≤ length (now waiting)) × (length (now answers) ≤ 4096) ⌝ }
+    ensures { λ r. ⌜ Passed (questionsOf (slicesOf (now (table .entry))) n) n faulty (calls (now (list .entry))) (now (state .entry)) (r .changed) (now (state .exit)) (now (answers .exit)) × Listed (now (answers .exit)) 0 (length (now (answers .exit))) (now (waiting .exit)) 0 (r .count) × (r .count ≤ count) ⌝ }
+{
+    let mut changed = false;
+    let mut left: usize = 0;
+    let mut k: usize = 0;
+    while k < count {
+        let i = place(waiting[k]);
+        let t = work_again(table, n, faulty, list, i, state, answers);
+        changed = either(changed, t.changed);
+        left = keep(waiting, left, i, t.waits);
+        k += 1;
+    }
+    Round {
+        changed: changed,
+        count: left,
+    }
+}
+
+// Passes after a first one that changed the state, until one changes nothing: how many, the first and the last counted.
+fn run_on(
+    table: &[u64],
+    n: usize,
+    faulty: u64,
+    list: &[u8],
+    state: &mut [u64],
+    answers: &mut [u8],
+    waiting: &mut [u16],
+) -> u64
+    requires { ⌜ Table (now table) n × Going (questionsOf (slicesOf (now table)) n) n faulty (calls (now list)) 1 (now state) × (length (now list) ≡ 4 * length (now answers)) × Told (questionsOf (slicesOf (now table)) n) n faulty (now list) (now state) (now answers) × (length (now answers) ≤ 4096) × (length (now answers) ≤ length (now waiting)) ⌝ }
+    ensures { λ r. ⌜ Whole (questionsOf (slicesOf (now (table .entry))) n) n faulty (calls (now (list .entry))) r (now (state .exit)) (now (answers .exit)) ⌝ }
+{
+    let mut count = gather(answers, waiting);
+    let mut passes = 1u64;
+    loop {
+        let r = pass_again(table, n, faulty, list, state, answers, waiting, count);
+        passes += 1;
+        if !r.changed {
+            return passes;
+        }
+        count = r.count;
+    }
+}
+
 // Passes from a fresh state until one changes nothing: how many, that one counted.
 fn run_fresh(
     table: &[u64],
@@ -92,14 +228,12 @@ fn run_fresh(
     requires { ⌜ Table (now table) n × (now state ≡ fresh n) × (length (now list) ≡ 4 * length (now answers)) × (length (now answers) ≤ 4096) ⌝ }
     ensures { λ r. ⌜ Whole (questionsOf (slicesOf (now (table .entry))) n) n faulty (calls (now (list .entry))) r (now (state .exit)) (now (answers .exit)) ⌝ }
 {
-    let mut passes = 0u64;
-    loop {
-        let changed = pass_over(table, n, faulty, list, state, answers);
-        passes += 1;
-        if !changed {
-            return passes;
-        }
+    let changed = pass_over(table, n, faulty, list, state, answers);
+    if !changed {
+        return 1;
     }
+    let mut waiting = [0u16; 4096];
+    run_on(table, n, faulty, list, state, answers, &mut waiting)
 }
 
 // Zeros all over.

@@ -1,97 +1,60 @@
--- `run_fresh` meets its contract: so many passes changed something, and the last one nothing.
-use Prim.Native.Nat.{_+_, _-_, _≤_}
-use mathlib.Core.Path.{_≡_, refl}
+-- `run_fresh` meets its contract: the first pass, and those after it if it changed something.
+use Prim.Native.Nat.{ℕ}
+use mathlib.Core.Path.{_≡_}
 use native.Mathlib.Omega.{arith}
+use borrow.Author.Needs.{needs}
 use borrow.Author.Tests.{not-true, not-false}
 use denote.Ref.{now}
-use lib.ListN.{length}
-use Rattle.run.proofs.Calls.{calls-length}
-use Rattle.run.proofs.Turns.{going-none, going-few, going-more, going-done, passed-long, passed-size}
-use Rattle.run.specs.Inner.{Going}
+use lib.ListN.{length, replicate, length-replicate}
+use Rattle.run.proofs.Turns.{going-none, going-more, going-done, passed-long, passed-told}
 use Rattle.run.specs.Run.{calls}
-use Rattle.sets.specs.Promises.{questionsOf}
-use Rattle.sets.specs.Slices.{slicesOf}
 use Rattle.voting.proofs.StepWays.{table-rests}
 use Rattle.run.proofs.run_fresh.Statement.{statement}
 use Rattle.run.proofs.run_fresh.Tie as tie
 
-abbrev Inv-loop : tie.InvT-loop
-Inv-loop table n faulty list state₀ answers₀ passes₀ state answers passes =
-    Going (questionsOf (slicesOf table) n) n faulty (calls list) passes state × (length answers ≡ length answers₀)
-
-abbrev μ-loop : tie.MeasureT-loop
-μ-loop table n faulty list state₀ answers₀ passes₀ state answers passes = length answers₀ + 1 - passes
-
-loop-holds : tie.Need-loop-holds Inv-loop μ-loop
-loop-holds c =
-    let a = c .before .before .before .before .args in
-    let p = c .before .before .before .before .pre in
-    (going-none (table-rests (p .0)) (a .faulty) (calls (now (a .list))) (p .1), refl)
-
-pass-over-requires : tie.Need-pass-over-requires Inv-loop μ-loop
+pass-over-requires : tie.Need-pass-over-requires
 pass-over-requires c κs =
-    let L = c .before .before .loop in
-    let p = c .before .before .before .before .before .before .before .pre in
-    (p .0, L .inv .0 .sound, omega (arith, p .2, L .inv .1))
+    let a = c .before .before .before .before .before .before .args in
+    let p = c .before .before .before .before .before .before .pre in
+    (p .0, going-none (table-rests (p .0)) (a .faulty) (calls (now (a .list))) (p .1) .sound, p .2)
 
-add-passes : tie.Need-add-passes Inv-loop μ-loop
-add-passes c =
+returns : tie.Need-returns
+returns c =
     let a = c .before .before .before .before .before .before .before .before .before .before .before .before .args in
     let p = c .before .before .before .before .before .before .before .before .before .before .before .before .pre in
-    let L = c .before .before .before .before .before .before .before .loop in
-    let few : L .passes ≤ length (calls (now (a .list))) = going-few (table-rests (p .0)) (a .faulty) (calls (now (a .list))) (L .inv .0) in
-    let many = calls-length (now (a .list)) (length (now (a .answers))) (p .2) in
-    omega (arith, few, many, p .3)
+    let R = table-rests (p .0) in
+    let l = calls (now (a .list)) in
+    going-done R (a .faulty) l 0 (going-none R (a .faulty) l (p .1)) (c .before .before .before .before .before .pass-over .ensures) (not-true _ (c .if1 .taken))
 
-same-length : tie.Need-same-length Inv-loop μ-loop
-same-length c =
-    let a = c .before .before .before .before .before .before .before .before .before .before .before .before .before .args in
-    let p = c .before .before .before .before .before .before .before .before .before .before .before .before .before .pre in
-    passed-size (table-rests (p .0)) (a .faulty) (calls (now (a .list))) (p .1) (c .before .before .before .before .before .before .before .before .loop .inv .0) (c .before .before .before .before .before .pass-over .ensures)
-
-same-length-2 : tie.Need-same-length-2 Inv-loop μ-loop
-same-length-2 c =
-    let a = c .before .before .before .before .before .before .before .before .before .before .before .before .before .args in
-    let p = c .before .before .before .before .before .before .before .before .before .before .before .before .before .pre in
-    passed-long (table-rests (p .0)) (a .faulty) (now (a .list)) (length (now (a .answers))) (p .2) (c .before .before .before .before .before .pass-over .ensures)
-
-returns : tie.Need-returns Inv-loop μ-loop
-returns c =
-    let a = c .before .before .before .before .before .before .before .before .before .before .before .before .before .args in
-    let p = c .before .before .before .before .before .before .before .before .before .before .before .before .before .pre in
-    let L = c .before .before .before .before .before .before .before .before .loop in
-    going-done (table-rests (p .0)) (a .faulty) (calls (now (a .list))) (L .passes) (L .inv .0) (c .before .before .before .before .before .pass-over .ensures) (not-true _ (c .if1 .taken))
-
-loop-less : tie.Need-loop-less Inv-loop μ-loop
-loop-less c =
-    let a = c .before .before .before .before .before .before .before .before .before .before .before .before .before .args in
-    let p = c .before .before .before .before .before .before .before .before .before .before .before .before .before .pre in
-    let L = c .before .before .before .before .before .before .before .before .loop in
-    let few : L .passes ≤ length (calls (now (a .list))) = going-few (table-rests (p .0)) (a .faulty) (calls (now (a .list))) (L .inv .0) in
-    let many = calls-length (now (a .list)) (length (now (a .answers))) (p .2) in
-    omega (arith, few, many)
-
-loop-again : tie.Need-loop-again Inv-loop μ-loop
-loop-again c =
-    let a = c .before .before .before .before .before .before .before .before .before .before .before .before .before .args in
-    let p = c .before .before .before .before .before .before .before .before .before .before .before .before .before .pre in
-    let L = c .before .before .before .before .before .before .before .before .loop in
-    let Z = c .before .before .before .before .before .pass-over .ensures in (
-      going-more (table-rests (p .0)) (a .faulty) (calls (now (a .list))) (L .passes) (L .inv .0) Z (not-false _ (c .if1 .left)),
-      passed-long (table-rests (p .0)) (a .faulty) (now (a .list)) (length (now (a .answers))) (p .2) Z,
+run-on-requires : tie.Need-run-on-requires
+run-on-requires c κs =
+    let a = c .before .before .before .before .before .before .before .before .before .before .before .before .before .before .before .args in
+    let p = c .before .before .before .before .before .before .before .before .before .before .before .before .before .before .before .pre in
+    let R = table-rests (p .0) in
+    let l = calls (now (a .list)) in
+    let G = going-none R (a .faulty) l (p .1) in
+    let Z = c .before .before .before .before .before .before .before .before .pass-over .ensures in
+    let k = length (now (a .answers)) in
+    let e = passed-long R (a .faulty) (now (a .list)) k (p .2) Z in
+    let room : length {A = ℕ} (replicate 4096 0) ≡ 4096 = length-replicate {A = ℕ} 4096 0 in (
+      p .0,
+      going-more R (a .faulty) l 0 G Z (not-false _ (c .before .before .before .if1 .left)),
+      omega (arith, p .2, e),
+      passed-told R (a .faulty) (now (a .list)) k (p .2) (G .sound) Z,
+      omega (arith, p .3, e),
+      omega (arith, p .3, e, room),
     )
 
 pub run-fresh-spec : {M : Type 1} → statement M
 run-fresh-spec =
     tie.close
     (tie.spec
-    Inv-loop
-    μ-loop
-    loop-holds
     pass-over-requires
-    add-passes
-    same-length
-    same-length-2
+    (λ c. search needs)
+    (λ c. search needs)
     returns
-    loop-less
-    loop-again)
+    (λ c. search needs)
+    run-on-requires
+    (λ c. search needs)
+    (λ c. search needs)
+    (λ c. search needs))

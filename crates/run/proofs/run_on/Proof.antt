@@ -1,0 +1,114 @@
+-- `run_on` meets its contract: so many passes changed something, and the last one nothing.
+use Prim.Native.Nat.{_+_, _-_, _≤_}
+use mathlib.Core.Path.{_≡_, refl, sym, _∙_}
+use native.Mathlib.Omega.{arith}
+use borrow.Author.Needs.{needs}
+use borrow.Author.Tests.{not-true, not-false}
+use denote.Ref.{now}
+use lib.ListN.{length}
+use Rattle.run.proofs.Calls.{calls-length}
+use Rattle.run.proofs.Turns.{going-few, going-more, going-done, passed-long, passed-size, passed-told}
+use Rattle.run.specs.Inner.{Listed, Told, Going}
+use Rattle.run.specs.Run.{calls}
+use Rattle.sets.specs.Promises.{questionsOf}
+use Rattle.sets.specs.Slices.{slicesOf}
+use Rattle.voting.proofs.StepWays.{table-rests}
+use Rattle.run.proofs.run_on.Statement.{statement}
+use Rattle.run.proofs.run_on.Tie as tie
+
+abbrev Inv-loop : tie.InvT-loop
+Inv-loop table n faulty list state₀ answers₀ waiting₀ count₀ passes₀ state answers waiting count passes =
+    Going (questionsOf (slicesOf table) n) n faulty (calls list) passes state × (length answers ≡ length answers₀)
+    × Told (questionsOf (slicesOf table) n) n faulty list state answers × Listed answers 0 (length answers) waiting 0 count
+    × (count ≤ length waiting) × (length waiting ≡ length waiting₀)
+
+abbrev μ-loop : tie.MeasureT-loop
+μ-loop table n faulty list state₀ answers₀ waiting₀ count₀ passes₀ state answers waiting count passes = length answers₀ + 1 - passes
+
+gather-requires : tie.Need-gather-requires Inv-loop μ-loop
+gather-requires c κs = let p = c .before .before .before .before .before .before .before .pre in (p .5, p .4)
+
+loop-holds : tie.Need-loop-holds Inv-loop μ-loop
+loop-holds c =
+    let p = c .before .before .before .before .before .before .before .before .before .before .pre in
+    let g = c .before .before .gather in
+    (p .1, refl, p .3, g .ensures .0, omega (arith, g .ensures .1, g .kept .1 .0, p .5), refl)
+
+pass-again-requires : tie.Need-pass-again-requires Inv-loop μ-loop
+pass-again-requires c κs =
+    let I = c .before .before .before .loop .inv in
+    let p = c .before .before .before .before .before .before .before .before .before .before .before .before .before .before .pre in
+    (p .0, I .0 .sound, omega (arith, p .2, I .1), I .2, I .3, I .4, omega (arith, p .4, I .1))
+
+add-passes : tie.Need-add-passes Inv-loop μ-loop
+add-passes c =
+    let a = c .before .before .before .before .before .before .before .before .before .before .before .before .before .before .before .before .before .before .before .before .before .args in
+    let p = c .before .before .before .before .before .before .before .before .before .before .before .before .before .before .before .before .before .before .before .before .before .pre in
+    let L = c .before .before .before .before .before .before .before .before .before .before .loop in
+    let few : L .passes ≤ length (calls (now (a .list))) = going-few (table-rests (p .0)) (a .faulty) (calls (now (a .list))) (L .inv .0) in
+    let many = calls-length (now (a .list)) (length (now (a .answers))) (p .2) in
+    omega (arith, few, many, p .4)
+
+same-length : tie.Need-same-length Inv-loop μ-loop
+same-length c =
+    let a = c .before .before .before .before .before .before .before .before .before .before .before .before .before .before .before .before .before .before .before .before .before .before .before .args in
+    let p = c .before .before .before .before .before .before .before .before .before .before .before .before .before .before .before .before .before .before .before .before .before .before .before .pre in
+    passed-size (table-rests (p .0)) (a .faulty) (calls (now (a .list))) (c .before .before .before .before .before .before .before .before .before .before .before .before .loop .inv .0) (c .before .before .before .before .before .before .before .before .pass-again .ensures .0) ∙ sym (p .1 .sound .long)
+
+same-length-2 : tie.Need-same-length-2 Inv-loop μ-loop
+same-length-2 c =
+    let a = c .before .before .before .before .before .before .before .before .before .before .before .before .before .before .before .before .before .before .before .before .before .before .before .args in
+    let p = c .before .before .before .before .before .before .before .before .before .before .before .before .before .before .before .before .before .before .before .before .before .before .before .pre in
+    passed-long (table-rests (p .0)) (a .faulty) (now (a .list)) (length (now (a .answers))) (p .2) (c .before .before .before .before .before .before .before .before .pass-again .ensures .0)
+
+same-length-3 : tie.Need-same-length-3 Inv-loop μ-loop
+same-length-3 c = c .before .before .before .before .before .before .before .before .pass-again .kept .1 .1 .1 .1 .1 .1 .0 ∙ c .before .before .before .before .before .before .before .before .before .before .before .before .loop .inv .5 ∙ c .before .before .before .before .before .before .before .before .before .before .before .before .before .before .before .gather .kept .1 .0
+
+returns : tie.Need-returns Inv-loop μ-loop
+returns c =
+    let a = c .before .before .before .before .before .before .before .before .before .before .before .before .before .before .before .before .before .before .before .before .before .before .before .args in
+    let p = c .before .before .before .before .before .before .before .before .before .before .before .before .before .before .before .before .before .before .before .before .before .before .before .pre in
+    let L = c .before .before .before .before .before .before .before .before .before .before .before .before .loop in
+    going-done (table-rests (p .0)) (a .faulty) (calls (now (a .list))) (L .passes) (L .inv .0) (c .before .before .before .before .before .before .before .before .pass-again .ensures .0) (not-true _ (c .if1 .taken))
+
+loop-less : tie.Need-loop-less Inv-loop μ-loop
+loop-less c =
+    let a = c .before .before .before .before .before .before .before .before .before .before .before .before .before .before .before .before .before .before .before .before .before .before .before .args in
+    let p = c .before .before .before .before .before .before .before .before .before .before .before .before .before .before .before .before .before .before .before .before .before .before .before .pre in
+    let L = c .before .before .before .before .before .before .before .before .before .before .before .before .loop in
+    let few : L .passes ≤ length (calls (now (a .list))) = going-few (table-rests (p .0)) (a .faulty) (calls (now (a .list))) (L .inv .0) in
+    let many = calls-length (now (a .list)) (length (now (a .answers))) (p .2) in
+    omega (arith, few, many)
+
+loop-again : tie.Need-loop-again Inv-loop μ-loop
+loop-again c =
+    let a = c .before .before .before .before .before .before .before .before .before .before .before .before .before .before .before .before .before .before .before .before .before .before .before .args in
+    let p = c .before .before .before .before .before .before .before .before .before .before .before .before .before .before .before .before .before .before .before .before .before .before .before .pre in
+    let L = c .before .before .before .before .before .before .before .before .before .before .before .before .loop in
+    let r = c .before .before .before .before .before .before .before .before .pass-again in
+    let Z = r .ensures .0 in
+    let e = r .kept .1 .1 .1 .1 .1 .1 .0 in (
+      going-more (table-rests (p .0)) (a .faulty) (calls (now (a .list))) (L .passes) (L .inv .0) Z (not-false _ (c .if1 .left)),
+      passed-long (table-rests (p .0)) (a .faulty) (now (a .list)) (length (now (a .answers))) (p .2) Z,
+      passed-told (table-rests (p .0)) (a .faulty) (now (a .list)) (length (now (a .answers))) (p .2) (L .inv .0 .sound) Z,
+      r .ensures .1,
+      omega (arith, r .ensures .2, L .inv .4, e),
+      e ∙ L .inv .5,
+    )
+
+pub run-on-spec : {M : Type 1} → statement M
+run-on-spec =
+    tie.close
+    (tie.spec
+    Inv-loop
+    μ-loop
+    gather-requires
+    loop-holds
+    pass-again-requires
+    add-passes
+    same-length
+    same-length-2
+    same-length-3
+    returns
+    loop-less
+    loop-again)
