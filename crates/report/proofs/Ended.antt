@@ -9,12 +9,13 @@ use Rattle.image.proofs.Load.{loads-front}
 use Rattle.image.specs.Image.{loads}
 use Rattle.image.specs.Read.{read, readInto}
 use Rattle.image.specs.declared.Reading.{Reading}
+use Rattle.lines.specs.Lines.{explained}
 use Rattle.refusals.specs.declared.Check.{Check}
 use Rattle.refusals.specs.declared.Check.the-variants.{Sound, Refused}
 use Rattle.refusals.specs.declared.Refusal.{Refusal}
+use Rattle.register.specs.Register.{endLines}
 use Rattle.report.proofs.Ways.{image-sound, image-refused}
-use Rattle.report.specs.Lines.{explained}
-use Rattle.report.specs.Run.{endLines, ranText, runText}
+use Rattle.report.specs.Run.{ranText, runText}
 use Rattle.run.proofs.RunWays.{Fits, fits}
 use Rattle.run.specs.Run.{runCheck, runOf, toRan, ran, stateInto, answersInto}
 use Rattle.run.specs.declared.Ran.{Ran}

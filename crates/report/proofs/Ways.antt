@@ -13,6 +13,7 @@ use Rattle.image.specs.Image.{loads}
 use Rattle.image.specs.Read.{read, readCheck, readInto, toReading}
 use Rattle.image.specs.declared.Reading.{Reading}
 use Rattle.le.specs.Le.{field}
+use Rattle.lines.specs.Lines.{line, refused, explained}
 use Rattle.masks.proofs.Laws.Subsets.{minus-⊆, ⊆-within}
 use Rattle.masks.specs.Mask.{allBelow, minus}
 use Rattle.questions.specs.Answers.{sitesOf, verdictCheck, toGreatest, toSharing, toStanding}
@@ -24,7 +25,6 @@ use Rattle.refusals.specs.declared.Check.{Check}
 use Rattle.refusals.specs.declared.Check.the-variants.{Sound, Refused}
 use Rattle.refusals.specs.declared.Refusal.{Refusal}
 use Rattle.refusals.specs.declared.Refusal.the-variants.{Length}
-use Rattle.report.specs.Lines.{line, refused, explained}
 use Rattle.report.specs.Table.{sitesOn, imageCheck, checkText}
 use Rattle.report.specs.Verdict.{sevenLines, judgedText, verdictText, inputText, met}
 use Rattle.sets.specs.Quorum as Quorum

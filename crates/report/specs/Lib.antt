@@ -1,5 +1,3 @@
-pub mod Lines
-pub mod Leaflet
 pub mod Table
 pub mod Verdict
 pub mod Run

@@ -4,10 +4,10 @@ use mathlib.Core.List.{List}
 use lib.ListN.{length}
 use Rattle.image.specs.Image.{loads}
 use Rattle.image.specs.Read.{readCheck}
+use Rattle.lines.specs.Lines.{line, explained}
 use Rattle.refusals.specs.declared.Check.{Check}
 use Rattle.refusals.specs.declared.Check.the-variants.{Sound, Refused}
 use Rattle.refusals.specs.declared.Refusal.{Refusal}
-use Rattle.report.specs.Lines.{line, explained}
 use Rattle.text.specs.Text.{ascii, decimal}
 
 -- one block a site

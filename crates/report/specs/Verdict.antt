@@ -5,12 +5,12 @@ use mathlib.Core.List.{List, _++_}
 use lib.Dec.{ltb}
 use lib.ListN.{length, drop}
 use Rattle.le.specs.Le.{field}
+use Rattle.lines.specs.Lines.{line, refused}
 use Rattle.masks.specs.Mask.{allBelow, minus}
 use Rattle.questions.specs.Answers.{verdictCheck}
 use Rattle.questions.specs.declared.Sharing.{Sharing}
 use Rattle.questions.specs.declared.Sharing.the-variants.{Meet, Apart}
 use Rattle.refusals.specs.declared.Refusal.the-variants.{Length}
-use Rattle.report.specs.Lines.{line, refused}
 use Rattle.report.specs.Table.{tableOn, imageCheck, unless}
 use Rattle.sets.specs.Quorum.{largest, rounds}
 use Rattle.sets.specs.Slices.{slicesOf}

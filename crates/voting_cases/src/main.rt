@@ -38,6 +38,23 @@ fn step(table: &[u64], faulty: u64, state: &mut [u64], kind: u8, from: u8, to: u
     }
 }
 
+// One call after the other: kind, from, to, side.
+fn steps(table: &[u64], faulty: u64, state: &mut [u64], calls: &[u8]) {
+    let mut i: usize = 0;
+    while i < calls.len() / 4 {
+        step(
+            table,
+            faulty,
+            state,
+            calls[4 * i],
+            calls[4 * i + 1],
+            calls[4 * i + 2],
+            calls[4 * i + 3],
+        );
+        i += 1;
+    }
+}
+
 // Whether a state is sound.
 fn sound(name: &[u8], table: &[u64], faulty: u64, state: &[u64]) {
     say(name);
@@ -75,6 +92,15 @@ fn put(numbers: &mut [u64], i: usize, x: u64) {
     }
 }
 
+// A place and what stands there, pair by pair.
+fn plant(numbers: &mut [u64], pairs: &[u64]) {
+    let mut i: usize = 0;
+    while i < pairs.len() / 2 {
+        put(numbers, pairs[2 * i] as usize, pairs[2 * i + 1]);
+        i += 1;
+    }
+}
+
 // Site v has the three slices a, b and c.
 fn three(table: &mut [u64], v: u32, a: u64, b: u64, c: u64) {
     let at = 63 * (v as usize);
@@ -93,17 +119,14 @@ fn make_b(table: &mut [u64]) {
 }
 
 // Site 3 is faulty: proposals, a vote not yet cast; then votes, and an accept by quorum.
-fn proposals(table: &[u64], state: &mut [u64]) {
-    step(table, 8, state, 0, 0, 0, 0);
-    step(table, 8, state, 0, 0, 0, 1);
-    step(table, 8, state, 0, 0, 0, 0);
-    step(table, 8, state, 1, 1, 0, 0);
-}
-
 fn votes_of_others(table: &[u64], state: &mut [u64]) {
-    step(table, 8, state, 0, 1, 1, 0);
-    step(table, 8, state, 0, 2, 2, 0);
-    step(table, 8, state, 1, 1, 0, 0);
+    steps(
+        table,
+        8,
+        state,
+        &[0, 0, 0, 0, 0, 0, 0, 1, 0, 0, 0, 0, 1, 1, 0, 0],
+    );
+    steps(table, 8, state, &[0, 1, 1, 0, 0, 2, 2, 0, 1, 1, 0, 0]);
     masks_of(state, 4);
     step(table, 8, state, 1, 2, 0, 0);
     masks_of(state, 4);
@@ -115,127 +138,122 @@ fn accept_by_blocking(table: &[u64], state: &mut [u64]) {
     masks_of(state, 4);
     step(table, 8, state, 2, 3, 1, 0);
     masks_of(state, 4);
-}
-
-fn words_of_the_faulty(table: &[u64], state: &mut [u64]) {
-    step(table, 8, state, 1, 3, 0, 0);
-    step(table, 8, state, 1, 3, 0, 1);
-    step(table, 8, state, 2, 3, 2, 1);
-    step(table, 8, state, 2, 1, 2, 1);
-    step(table, 8, state, 1, 2, 2, 0);
+    steps(
+        table,
+        8,
+        state,
+        &[1, 3, 0, 0, 1, 3, 0, 1, 2, 3, 2, 1, 2, 1, 2, 1, 1, 2, 2, 0],
+    );
     masks_of(state, 4);
 }
 
-// Refusals of a call, in their order.
+// Refusals of a call, in their order: 11; 13, 12, 14; 10 and 18 before them.
 fn refuse_calls(table: &[u64], state: &mut [u64]) {
-    step(table, 8, state, 3, 0, 0, 0);
-    step(table, 8, state, 0, 4, 4, 0);
-    step(table, 8, state, 1, 0, 4, 0);
-    step(table, 8, state, 1, 0, 1, 2);
-}
-
-fn refuse_later(table: &[u64], state: &mut [u64]) {
-    step(table, 8, state, 0, 0, 3, 0);
-    step(table, 8, state, 0, 3, 3, 0);
-    step(table, 8, state, 1, 0, 3, 0);
-    step(table, 8, state, 0, 1, 1, 1);
-}
-
-fn refuse_before(table: &[u64], state: &mut [u64]) {
+    steps(
+        table,
+        8,
+        state,
+        &[3, 0, 0, 0, 0, 4, 4, 0, 1, 0, 4, 0, 1, 0, 1, 2],
+    );
+    steps(
+        table,
+        8,
+        state,
+        &[0, 0, 3, 0, 0, 3, 3, 0, 1, 0, 3, 0, 0, 1, 1, 1],
+    );
     step(table, 16, state, 9, 9, 9, 9);
     step(table, 0, state, 9, 9, 9, 9);
 }
 
+// Whether the state of table B with these numbers, and else zeros, is sound.
+fn planted(name: &[u8], table: &[u64], faulty: u64, pairs: &[u64]) {
+    let mut state = [0u64; 22];
+    plant(&mut state, pairs);
+    sound(name, table, faulty, &state);
+}
+
 // States that the rules do not explain, one kind each, and those that they do: n = 4, nobody faulty but where said.
-fn planted_first(table: &[u64], state: &mut [u64]) {
-    sound(b"fresh", table, 0, state);
-    put(state, 0, 16);
-    sound(b"bit above n", table, 0, state);
-    put(state, 0, 8);
-    sound(b"vote of a faulty site heard", table, 8, state);
-    sound(
+fn planted_votes(table: &[u64]) {
+    planted(b"fresh", table, 0, &[0, 0]);
+    planted(b"bit above n", table, 0, &[0, 16]);
+    planted(b"vote of a faulty site heard", table, 8, &[0, 8]);
+    planted(
         b"vote of a correct site heard and not cast",
         table,
         0,
-        state,
+        &[0, 8],
     );
-    put(state, 0, 0);
+    planted(b"faulty receiver heard a vote", table, 9, &[12, 1]);
+    planted(b"faulty receiver voted", table, 8, &[16, 8]);
+    planted(b"voted and own vote not heard", table, 0, &[16, 1]);
+    planted(b"voted and own vote heard", table, 0, &[0, 1, 16, 1]);
+    planted(b"voted both sides", table, 0, &[0, 1, 16, 1, 1, 1, 17, 1]);
 }
 
-fn planted_faulty(table: &[u64], state: &mut [u64]) {
-    put(state, 12, 1);
-    sound(b"faulty receiver heard a vote", table, 9, state);
-    put(state, 12, 0);
-    put(state, 16, 8);
-    sound(b"faulty receiver voted", table, 8, state);
-    put(state, 16, 0);
-}
-
-fn planted_second(table: &[u64], state: &mut [u64]) {
-    put(state, 16, 1);
-    sound(b"voted and own vote not heard", table, 0, state);
-    put(state, 0, 1);
-    sound(b"voted and own vote heard", table, 0, state);
-}
-
-fn planted_both(table: &[u64], state: &mut [u64]) {
-    put(state, 1, 1);
-    put(state, 17, 1);
-    sound(b"voted both sides", table, 0, state);
-    put(state, 1, 0);
-    put(state, 17, 0);
-}
-
-fn planted_confirmed(table: &[u64], state: &mut [u64]) {
-    put(state, 20, 1);
-    sound(b"confirmed without the rule", table, 0, state);
-    put(state, 20, 0);
-}
-
-fn planted_third(table: &[u64], state: &mut [u64]) {
-    put(state, 18, 1);
-    sound(b"accepted and own accept not heard", table, 0, state);
-    put(state, 2, 1);
-    sound(b"accepted by its own accept alone", table, 0, state);
-}
-
-fn planted_accepts(table: &[u64], state: &mut [u64]) {
-    put(state, 0, 7);
-    put(state, 4, 2);
-    put(state, 8, 4);
-    put(state, 16, 7);
-    sound(b"accepted by quorum", table, 0, state);
-}
-
-fn planted_denied(table: &[u64], state: &mut [u64]) {
-    put(state, 2, 0);
-    put(state, 18, 0);
-    sound(b"not accepted where the rule accepts", table, 0, state);
+fn planted_masks(table: &[u64]) {
+    planted(
+        b"confirmed without the rule",
+        table,
+        0,
+        &[0, 1, 16, 1, 20, 1],
+    );
+    planted(
+        b"accepted and own accept not heard",
+        table,
+        0,
+        &[0, 1, 16, 1, 18, 1],
+    );
+    planted(
+        b"accepted by its own accept alone",
+        table,
+        0,
+        &[0, 1, 16, 1, 18, 1, 2, 1],
+    );
+    planted(
+        b"accepted by quorum",
+        table,
+        0,
+        &[0, 7, 4, 2, 8, 4, 16, 7, 18, 1, 2, 1],
+    );
+    planted(
+        b"not accepted where the rule accepts",
+        table,
+        0,
+        &[0, 7, 4, 2, 8, 4, 16, 7],
+    );
 }
 
 // Sites 0, 1 and 2 hold each other's accepts for both sides, and nobody has voted: sound, though no run reaches it.
-fn make_circular(state: &mut [u64]) {
-    put(state, 2, 7);
-    put(state, 3, 7);
-    put(state, 6, 7);
-    put(state, 7, 7);
-    put(state, 10, 7);
-    put(state, 11, 7);
-}
-
-fn make_circular_masks(state: &mut [u64]) {
-    put(state, 18, 7);
-    put(state, 19, 7);
-    put(state, 20, 7);
-    put(state, 21, 7);
-}
-
-fn circular(table: &[u64], state: &mut [u64]) {
-    make_circular(state);
-    make_circular_masks(state);
-    sound(b"circular", table, 0, state);
-    step(table, 0, state, 0, 3, 3, 1);
-    masks_of(state, 4);
+fn circular(table: &[u64]) {
+    let mut state = [0u64; 22];
+    plant(
+        &mut state,
+        &[
+            2,
+            7,
+            3,
+            7,
+            6,
+            7,
+            7,
+            7,
+            10,
+            7,
+            11,
+            7,
+            18,
+            7,
+            19,
+            7,
+            20,
+            7,
+            21,
+            7,
+        ],
+    );
+    sound(b"circular", table, 0, &state);
+    step(table, 0, &mut state, 0, 3, 3, 1);
+    masks_of(&state, 4);
 }
 
 // Site v has the one slice q.
@@ -261,51 +279,18 @@ fn vote_alone(table: &[u64], state: &mut [u64]) {
     step(table, 9223372036854775808, state, 0, 62, 62, 0);
 }
 
-fn vote_on_b(table: &[u64], state: &mut [u64]) {
-    proposals(table, state);
-    votes_of_others(table, state);
-    accept_by_blocking(table, state);
-    words_of_the_faulty(table, state);
-}
-
-fn refuse_on_b(table: &[u64], state: &mut [u64]) {
-    refuse_calls(table, state);
-    refuse_later(table, state);
-    refuse_before(table, state);
-}
-
 fn on_b() {
     let mut table = [0u64; 252];
     make_b(&mut table);
     let mut state = [0u64; 22];
-    vote_on_b(&table, &mut state);
-    refuse_on_b(&table, &mut state);
+    votes_of_others(&table, &mut state);
+    accept_by_blocking(&table, &mut state);
+    refuse_calls(&table, &mut state);
     let short = [0u64; 21];
     sound(b"short", &table, 8, &short);
-}
-
-fn planted_votes(table: &[u64], state: &mut [u64]) {
-    planted_first(table, state);
-    planted_faulty(table, state);
-    planted_second(table, state);
-    planted_both(table, state);
-}
-
-fn planted_masks(table: &[u64], state: &mut [u64]) {
-    planted_confirmed(table, state);
-    planted_third(table, state);
-    planted_accepts(table, state);
-    planted_denied(table, state);
-}
-
-fn planted() {
-    let mut table = [0u64; 252];
-    make_b(&mut table);
-    let mut state = [0u64; 22];
-    planted_votes(&table, &mut state);
-    planted_masks(&table, &mut state);
-    let mut round = [0u64; 22];
-    circular(&table, &mut round);
+    planted_votes(&table);
+    planted_masks(&table);
+    circular(&table);
 }
 
 fn on_alone() {
@@ -324,7 +309,6 @@ fn on_bad() {
 
 fn main() {
     on_b();
-    planted();
     on_alone();
     on_bad();
 }

@@ -2,7 +2,7 @@
 use mathlib.Core.Path.{sym, _∙_}
 use borrow.Author.Needs.{needs}
 use denote.Ref.{now}
-use Rattle.report.proofs.Chain.{as-text, both}
+use Rattle.lines.proofs.Chain.{as-text, both}
 use Rattle.report.proofs.Ways.{check-sound, check-refused}
 use Rattle.report.proofs.check.Statement.{statement}
 use Rattle.report.proofs.check.Tie as tie

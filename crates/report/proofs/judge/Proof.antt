@@ -3,9 +3,9 @@ use mathlib.Core.Path.{_≡_, sym, ap, _∙_}
 use native.Mathlib.Omega.{arith}
 use borrow.Author.Needs.{needs}
 use denote.Ref.{now}
+use Rattle.lines.proofs.Chain.{as-text}
 use Rattle.masks.specs.Mask.{minus}
 use Rattle.questions.specs.Answers.{sitesOf}
-use Rattle.report.proofs.Chain.{as-text}
 use Rattle.report.proofs.Ways.{judged-refused, others-taken, judged-is}
 use Rattle.report.specs.Verdict.{met}
 use Rattle.report.proofs.judge.Statement.{statement}

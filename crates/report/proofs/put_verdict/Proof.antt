@@ -2,10 +2,10 @@
 use mathlib.Core.Path.{ap, _∙_}
 use native.Mathlib.Omega.{arith}
 use borrow.Author.Needs.{needs}
+use Rattle.lines.proofs.Chain.{as-text, seven}
+use Rattle.lines.proofs.Lengths.{decimal-line, mask-line, answer-line}
+use Rattle.lines.specs.Lines.{line}
 use Rattle.masks.specs.Mask.{minus}
-use Rattle.report.proofs.Chain.{as-text, seven}
-use Rattle.report.proofs.Lengths.{decimal-line, mask-line, answer-line}
-use Rattle.report.specs.Lines.{line}
 use Rattle.report.specs.Verdict.{sevenLines}
 use Rattle.text.specs.Text.{ascii, mask}
 use Rattle.report.proofs.put_verdict.Statement.{statement}

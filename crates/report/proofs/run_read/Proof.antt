@@ -6,7 +6,7 @@ use lib.ListN.{length}
 use lib.Seq.{length-take-le}
 use borrow.Author.Needs.{needs}
 use denote.Ref.{now}
-use Rattle.report.proofs.Chain.{as-text}
+use Rattle.lines.proofs.Chain.{as-text}
 use Rattle.report.proofs.Ended.{ran-refused, fitting, ran-ended}
 use Rattle.run.specs.Run.{stateInto, answersInto}
 use Rattle.table.specs.Table.{sites}

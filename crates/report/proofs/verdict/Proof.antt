@@ -7,7 +7,7 @@ use denote.Ref.{now}
 use lib.ListN.{take}
 use lib.Seq.{length-take-le}
 use Rattle.image.specs.Read.{readInto}
-use Rattle.report.proofs.Chain.{as-text, both}
+use Rattle.lines.proofs.Chain.{as-text, both}
 use Rattle.report.proofs.Ways.{few, verdict-judged, verdict-refused}
 use Rattle.report.proofs.verdict.Statement.{statement}
 use Rattle.report.proofs.verdict.Tie as tie

@@ -2,7 +2,7 @@
 use mathlib.Core.Path.{refl}
 use borrow.Author.Needs.{needs}
 use denote.Ref.{now}
-use Rattle.report.proofs.Chain.{as-text, both}
+use Rattle.lines.proofs.Chain.{as-text, both}
 use Rattle.report.proofs.Ways.{too-short, too-long, input-taken}
 use Rattle.report.proofs.verdict_on.Statement.{statement}
 use Rattle.report.proofs.verdict_on.Tie as tie

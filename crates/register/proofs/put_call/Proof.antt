@@ -1,0 +1,39 @@
+-- `put_call` meets its contract: the number of the call, a space, its answer.
+use native.Mathlib.Omega.{arith}
+use borrow.Author.Needs.{needs}
+use Rattle.lines.proofs.Chain.{five}
+use Rattle.lines.specs.Lines.{line}
+use Rattle.register.specs.Register.{callLine}
+use Rattle.text.proofs.Width.{length-decimal}
+use Rattle.register.proofs.put_call.Statement.{statement}
+use Rattle.register.proofs.put_call.Tie as tie
+
+put-requires-2 : tie.Need-put-requires-2
+put-requires-2 c κs = omega (arith, length-decimal (c .before .before .before .before .before .before .before .before .before .before .before .before .args .i))
+
+put-decimal-requires-2 : tie.Need-put-decimal-requires-2
+put-decimal-requires-2 c κs = omega (arith, length-decimal (c .before .before .before .before .before .before .before .before .before .before .before .before .before .before .before .before .args .i))
+
+put-requires-3 : tie.Need-put-requires-3
+put-requires-3 c κs = let a = c .before .before .before .before .before .before .before .before .before .before .before .before .before .before .before .before .before .before .before .before .before .args in omega (arith, length-decimal (a .i), length-decimal (a .answer))
+
+returns : tie.Need-returns
+unfolding callLine line
+returns c =
+    five (c .before .before .before .before .before .before .before .before .before .before .before .before .before .before .before .before .before .before .before .before .put .ensures) (c .before .before .before .before .before .before .before .before .before .before .before .before .before .before .before .before .put-decimal .ensures) (c .before .before .before .before .before .before .before .before .before .before .before .put2 .ensures) (c .before .before .before .before .before .before .before .put-decimal2 .ensures)
+    (c .before .before .put3 .ensures) (omega arith)
+
+pub put-call-spec : {M : Type 1} → statement M
+put-call-spec =
+    tie.close
+    (tie.spec
+    (λ c. search needs)
+    (λ c κs. search needs)
+    (λ c κs. search needs)
+    (λ c. search needs)
+    put-requires-2
+    put-decimal-requires-2
+    (λ c. search needs)
+    put-requires-3
+    (λ c. search needs)
+    returns)
