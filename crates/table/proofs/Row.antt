@@ -1,14 +1,15 @@
 -- Laws of one site's slices: one for each way out of their check, and what a sound site has.
-use Prim.Native.Nat.{ℕ, zero, suc, _-_, _≤_, _<_}
-use mathlib.Core.Bool.{Bool, true, false, _||_, not, or-true}
-use mathlib.Core.Logic.{⊎-elim}
+use Prim.Native.Nat.{ℕ, zero, suc, _+_, _-_, _≤_, _<_}
+use mathlib.Core.Bool.{Bool, true, false, _&&_, _||_, not, or-true}
+use mathlib.Core.Logic.{_⊎_, ⊎-elim}
 use mathlib.Core.Path.{_≡_, refl, sym, ap, subst, _∙_}
-use native.Mathlib.Nat.{not-suc-le-zero, suc-ne-zero}
+use native.Mathlib.Nat.{not-suc-le-zero, suc-ne-zero, eq-or-lt-of-le}
 use native.Mathlib.Omega.{arith}
+use lib.Bits.{bitAnd, bitOr}
 use lib.Dec.{eqb, eqb·suc-zero, ltb}
 use borrow.Author.Tests.{eq-eqb, ne-eqb, lt-ltb, le-ltb, eqb-false, ltb-true, ltb-false, not-false}
-use Rattle.ground.proofs.Logic.{or-none, cases}
-use Rattle.masks.proofs.Laws.Subsets.{mem, within-⊆, ⊆-within}
+use Rattle.ground.proofs.Logic.{and-l, and-r, or-none, cases}
+use Rattle.masks.proofs.Laws.Subsets.{mem, ⊆-refl, ⊆-trans, within-⊆, ⊆-within, and-⊆-l, and-⊆-r, or-⊆-l, or-⊆-r}
 use Rattle.masks.specs.Mask.{has, within, allBelow, _∈_, _⊆_}
 use Rattle.refusals.proofs.First.{orElse-sound, first-all, first-sound, first-alike, kept, missed}
 use Rattle.refusals.specs.First.{orElse, refuse, first}
@@ -66,6 +67,58 @@ slice-ascends n v slice i h =
     let e : not (ltb (slice i) (slice (suc i))) ≡ false = rw (eqb·suc-zero i, pred-suc i) at (neither n v slice (suc i) h .1) in
     ltb-true (slice i) (slice (suc i)) (not-false (ltb (slice i) (slice (suc i))) e)
 
+-- slices that contain their owner, name no site at or above n and ascend are sound
+slices-sound : (n v count : ℕ) (slice : ℕ → ℕ) → ((i : ℕ) → i < count → v ∈ slice i) → ((i : ℕ) → i < count → slice i ⊆ allBelow n)
+    → ((i : ℕ) → suc i < count → slice i < slice (suc i)) → first (sliceCheck n v slice) count ≡ Sound
+slices-sound n v count slice owner below ascend = first-sound (sliceCheck n v slice) count each
+  where
+    each : (i : ℕ) → i < count → sliceCheck n v slice i ≡ Sound
+    each zero l = is-first n v slice 0 (owner 0 l .holds) (⊆-within (below 0 l)) refl
+    each (suc i) l =
+        is-above n v slice (suc i) (owner (suc i) l .holds) (⊆-within (below (suc i) l)) (suc-ne-zero i)
+        (subst (λ (k : ℕ). slice k < slice (suc i)) (sym (pred-suc i)) (ascend i l))
+
+-- What is gathered of the first k slices: what all have in common, what they name together, and whether each is above the one before.
+pub record Gathered (slice : ℕ → ℕ) (k every some : ℕ) (ascend : Bool) : Type 0 where
+  pub common : (i : ℕ) → i < k → every ⊆ slice i
+  pub together : (i : ℕ) → i < k → slice i ⊆ some
+  pub above : ascend ≡ true → (i : ℕ) → suc i < k → slice i < slice (suc i)
+
+only-zero : (i : ℕ) → i < 1 → i ≡ 0
+only-zero i l = omega arith
+
+module _ (slice : ℕ → ℕ) where
+  pub gathered-first : Gathered slice 1 (slice 0) (slice 0) true
+  gathered-first =
+      record {
+        common = λ i l. subst (λ (j : ℕ). slice 0 ⊆ slice j) (sym (only-zero i l)) (⊆-refl (slice 0));
+        together = λ i l. subst (λ (j : ℕ). slice j ⊆ slice 0) (sym (only-zero i l)) (⊆-refl (slice 0));
+        above = λ e i l. absurd (omega arith);
+      }
+
+  pub gathered-more : (k every some before : ℕ) (ascend : Bool) → before ≡ slice (k - 1) → Gathered slice k every some ascend
+      → Gathered slice (k + 1) (bitAnd every (slice k)) (bitOr some (slice k)) (ascend && ltb before (slice k))
+  gathered-more k every some before ascend eb g =
+      record {
+        common = λ i l. ⊎-elim (λ e. subst (λ (j : ℕ). bitAnd every (slice k) ⊆ slice j) (sym e) (and-⊆-r every (slice k)))
+            (λ b. ⊆-trans (and-⊆-l every (slice k)) (g .common i b)) (last-or i l);
+        together = λ i l. ⊎-elim (λ e. subst (λ (j : ℕ). slice j ⊆ bitOr some (slice k)) (sym e) (or-⊆-r some (slice k)))
+            (λ b. ⊆-trans (g .together i b) (or-⊆-l some (slice k))) (last-or i l);
+        above = λ h i l. ⊎-elim (λ e. step i e (ltb-true before (slice k) (and-r ascend _ h))) (λ b. g .above (and-l ascend _ h) i b) (last-or (suc i) l);
+      }
+    where
+      last-or : (i : ℕ) → i < k + 1 → (i ≡ k) ⊎ (i < k)
+      last-or i l = eq-or-lt-of-le (omega arith)
+
+      step : (i : ℕ) → suc i ≡ k → before < slice k → slice i < slice (suc i)
+      step i e l = subst (λ (j : ℕ). slice i < slice j) (sym e) (subst (λ (x : ℕ). x < slice k) (eb ∙ ap slice (omega arith)) l)
+
+  pub gathered-sound : (n v count k every some : ℕ) (ascend : Bool) → Gathered slice k every some ascend → count ≤ k
+      → ascend ≡ true → has every v ≡ true → within some (allBelow n) ≡ true → first (sliceCheck n v slice) count ≡ Sound
+  gathered-sound n v count k every some ascend g l up own below =
+      slices-sound n v count slice (λ i b. g .common i (omega arith) .each v (mem own))
+      (λ i b. ⊆-trans (g .together i (omega arith)) (within-⊆ some (allBelow n) below)) (λ i b. g .above up i (omega arith))
+
 -- What a sound site has.
 pub record Row (n v count : ℕ) (slice : ℕ → ℕ) (unclean : Bool) : Type 0 where
   pub some-slice : 1 ≤ count
@@ -112,14 +165,9 @@ module _ (n v count : ℕ) (slice : ℕ → ℕ) (unclean : Bool) where
 
   pub sound-row : Row n v count slice unclean → rowCheck n v count slice unclean ≡ Sound
   sound-row r =
-      good-slices (λ e. not-suc-le-zero (subst (λ (k : ℕ). 1 ≤ k) e (r .some-slice))) (r .few-slices) (first-sound (sliceCheck n v slice) count each)
+      good-slices (λ e. not-suc-le-zero (subst (λ (k : ℕ). 1 ≤ k) e (r .some-slice))) (r .few-slices)
+      (slices-sound n v count slice (r .owner) (r .below) (r .ascend))
       ∙ ap (λ (u : Bool). refuse u (Filler v)) (r .clean)
-    where
-      each : (i : ℕ) → i < count → sliceCheck n v slice i ≡ Sound
-      each zero l = is-first n v slice 0 (r .owner 0 l .holds) (⊆-within (r .below 0 l)) refl
-      each (suc i) l =
-          is-above n v slice (suc i) (r .owner (suc i) l .holds) (⊆-within (r .below (suc i) l)) (suc-ne-zero i)
-          (subst (λ (k : ℕ). slice k < slice (suc i)) (sym (pred-suc i)) (r .ascend i l))
 
 -- a row whose slices are the same at each place, and its filler where it is looked at, is refused alike
 slice-alike : (n v : ℕ) (s t : ℕ → ℕ) (k : ℕ) → s k ≡ t k → s (k - 1) ≡ t (k - 1) → sliceCheck n v s k ≡ sliceCheck n v t k

@@ -5,14 +5,15 @@ use mathlib.Core.List.{List}
 use mathlib.Core.Logic.{⊎-elim}
 use mathlib.Core.Path.{_≡_, refl, sym, ap, subst, _∙_}
 use native.Mathlib.Omega.{arith}
+use lib.Bits.{bitOr}
 use lib.Dec.{eqb, ltb}
 use lib.ListN.{length, getD, drop, length-take, length-drop, List·getD-eq-default}
 use lib.Pow.{ones-lt, pow-pos}
 use lib.Seq.{getD-take, getD-drop}
 use borrow.Author.Tests.{eqb-true, eqb-false, eq-eqb, ne-eqb, ltb-true, ltb-false, lt-ltb, le-ltb, not-false}
-use Rattle.ground.proofs.Logic.{or-none, cases}
+use Rattle.ground.proofs.Logic.{or-none, fail-alike, cases}
 use Rattle.ground.proofs.Some.{none-each, each-none}
-use Rattle.masks.proofs.Laws.Subsets.{below-⊆}
+use Rattle.masks.proofs.Laws.Subsets.{⊆-le, or-⊆-l, or-⊆-r, below-⊆}
 use Rattle.refusals.specs.declared.Check.the-variants.{Refused}
 use Rattle.refusals.specs.declared.Refusal.the-variants.{Length}
 use Rattle.table.specs.Table.{count, slice, siteOf, countOf, sliceOf, sites, misshapen, unclean, sitesCheck, check, Table}
@@ -59,6 +60,18 @@ pub sites-of : {t : List ℕ} {n : ℕ} → Table t n → sites (length t) ≡ n
 sites-of {t} {n} s = let e = s .size in omega arith
 
 -- the unused places of a site's 63 numbers
+
+pub some-bit : (a b : ℕ) → not (eqb (bitOr a b) 0) ≡ not (eqb a 0) || not (eqb b 0)
+some-bit a b =
+    fail-alike (not (eqb (bitOr a b) 0)) (not (eqb a 0) || not (eqb b 0))
+    (λ h. let z = eqb-true (bitOr a b) 0 (not-false _ h) in
+    let l = ⊆-le (or-⊆-l a b) in
+    let r = ⊆-le (or-⊆-r a b) in
+    let ea : a ≡ 0 = omega arith in
+    let eb : b ≡ 0 = omega arith in
+    rw (ea, eb) refl)
+    (λ h. let p = or-none (not (eqb a 0)) (not (eqb b 0)) h in
+    rw (eqb-true a 0 (not-false _ (p .0)), eqb-true b 0 (not-false _ (p .1))) refl)
 
 module _ (m : List ℕ) where
   pub zero-above : unclean m ≡ false → (i : ℕ) → count m ≤ i → i < 62 → slice m i ≡ 0

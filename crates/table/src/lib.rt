@@ -1,4 +1,5 @@
 // The table of groups in memory: its check, and that of a set of its sites.
+ghost use mathlib.Core.Bool.{true};
 ghost use mathlib.Core.Path.{_≡_};
 ghost use Prim.Native.Nat.{_*_, _≤_, _<_};
 ghost use lib.ListN.{length};
@@ -29,11 +30,34 @@ fn check_slice(m: &[u64], n: u64, v: u64, k: usize) -> Check
     Check::Refused(Refusal::Order(v))
 }
 
-// The first many slices of site v, in order.
+// True only if the first many slices of site v are sound: each contains what all have in common, is inside what they name together, and is above
+// the one before. No branch in the loop.
+fn are_sound(m: &[u64], n: u64, v: u64, many: usize) -> bool
+    requires { ⌜ (length (now m) ≡ 63) × (many ≤ 62) × (v < 64) × (n ≤ 64) ⌝ }
+    ensures { λ r. ⌜ (r ≡ true → first (sliceCheck n v (slice (now (m .entry)))) many ≡ Check.Sound) ⌝ }
+{
+    let mut every = m[1];
+    let mut some = m[1];
+    let mut ascend = true;
+    let mut k: usize = 1;
+    while k < many {
+        let q = m[1 + k];
+        every &= q;
+        some |= q;
+        ascend &= m[k] < q;
+        k += 1;
+    }
+    ascend & masks::has(every, v) & masks::within(some, masks::all_below(n))
+}
+
+// The first many slices of site v, in order: walked only where one is not sound.
 fn check_slices(m: &[u64], n: u64, v: u64, many: usize) -> Check
     requires { ⌜ (length (now m) ≡ 63) × (many ≤ 62) × (v < 64) × (n ≤ 64) ⌝ }
     ensures { λ r. ⌜ r ≡ first (sliceCheck n v (slice (now (m .entry)))) many ⌝ }
 {
+    if are_sound(m, n, v, many) {
+        return Check::Sound;
+    }
     let mut k: usize = 0;
     while k < many {
         let q = check_slice(m, n, v, k);
@@ -52,14 +76,13 @@ fn is_unclean(m: &[u64]) -> bool
 {
     let many = m[0] as usize;
     let left = 62 - many;
+    let mut any: u64 = 0;
     let mut j: usize = 0;
     while j < left {
-        if m[1 + (many + j)] != 0 {
-            return true;
-        }
+        any |= m[1 + (many + j)];
         j += 1;
     }
-    false
+    any != 0
 }
 
 // The 63 numbers of site v in a table of n sites: 4, each slice 5 then 6, then 8.

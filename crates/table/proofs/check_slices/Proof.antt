@@ -1,4 +1,4 @@
--- `check_slices` meets its contract: the slices before k are sound, and a refusal is the first.
+-- `check_slices` meets its contract: all slices are sound, or those before k are, and a refusal is the first.
 use Prim.Native.Nat.{ℕ, _-_, _≤_}
 use mathlib.Core.Path.{_≡_, refl, sym, subst, _∙_}
 use native.Mathlib.Omega.{arith}
@@ -22,9 +22,9 @@ loop-holds : tie.Need-loop-holds Inv-loop μ-loop
 unfolding first
 loop-holds c = (search needs, refl)
 
-returns : tie.Need-returns Inv-loop μ-loop
-returns c =
-    let a = c .before .before .before .before .before .before .args in
+returns-2 : tie.Need-returns-2 Inv-loop μ-loop
+returns-2 c =
+    let a = c .before .before .before .before .before .before .before .before .args in
     let l = c .before .before .before .before .loop in
     let e = c .enum-told2 .given .1 in
     e
@@ -35,9 +35,9 @@ loop-again : tie.Need-loop-again Inv-loop μ-loop
 loop-again c =
     (search needs, first-more _ _ (c .before .before .before .before .loop .inv .1) (sym (c .before .before .check-slice .ensures) ∙ c .enum-told .given .1))
 
-returns-2 : tie.Need-returns-2 Inv-loop μ-loop
-returns-2 c =
-    let a = c .before .before .before .args in
+returns-3 : tie.Need-returns-3 Inv-loop μ-loop
+returns-3 c =
+    let a = c .before .before .before .before .before .args in
     let l = c .before .loop in
     let e : l .k ≡ a .many = omega arith in
     sym (subst (λ (k : ℕ). first (sliceCheck (a .n) (a .v) (slice (now (a .m)))) k ≡ Sound) e (l .inv .1))
@@ -48,12 +48,14 @@ check-slices-spec =
     (tie.spec
     Inv-loop
     μ-loop
+    (λ c κs. search needs)
+    (λ c. sym (c .before .are-sound .ensures (c .if1 .taken)))
     loop-holds
     (λ c κs. search needs)
     (λ c. search needs)
     (λ c. search needs)
-    returns
+    returns-2
     (λ c. search needs)
     (λ c. search needs)
     loop-again
-    returns-2)
+    returns-3)
