@@ -1,4 +1,5 @@
 pub mod Examples
+pub mod Order
 pub mod Row
 pub mod Table
 pub mod Exact

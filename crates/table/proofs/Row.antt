@@ -88,30 +88,31 @@ only-zero : (i : ℕ) → i < 1 → i ≡ 0
 only-zero i l = omega arith
 
 module _ (slice : ℕ → ℕ) where
-  pub gathered-first : Gathered slice 1 (slice 0) (slice 0) true
-  gathered-first =
+  pub gathered-first : (ascend : Bool) → Gathered slice 1 (slice 0) (slice 0) ascend
+  gathered-first ascend =
       record {
         common = λ i l. subst (λ (j : ℕ). slice 0 ⊆ slice j) (sym (only-zero i l)) (⊆-refl (slice 0));
         together = λ i l. subst (λ (j : ℕ). slice j ⊆ slice 0) (sym (only-zero i l)) (⊆-refl (slice 0));
         above = λ e i l. absurd (omega arith);
       }
 
-  pub gathered-more : (k every some before : ℕ) (ascend : Bool) → before ≡ slice (k - 1) → Gathered slice k every some ascend
-      → Gathered slice (k + 1) (bitAnd every (slice k)) (bitOr some (slice k)) (ascend && ltb before (slice k))
-  gathered-more k every some before ascend eb g =
+  pub gathered-more : (k every some : ℕ) (ascend up : Bool) → up ≡ ascend && ltb (slice (k - 1)) (slice k) → Gathered slice k every some ascend
+      → Gathered slice (k + 1) (bitAnd every (slice k)) (bitOr some (slice k)) up
+  gathered-more k every some ascend up e g =
       record {
-        common = λ i l. ⊎-elim (λ e. subst (λ (j : ℕ). bitAnd every (slice k) ⊆ slice j) (sym e) (and-⊆-r every (slice k)))
+        common = λ i l. ⊎-elim (λ x. subst (λ (j : ℕ). bitAnd every (slice k) ⊆ slice j) (sym x) (and-⊆-r every (slice k)))
             (λ b. ⊆-trans (and-⊆-l every (slice k)) (g .common i b)) (last-or i l);
-        together = λ i l. ⊎-elim (λ e. subst (λ (j : ℕ). slice j ⊆ bitOr some (slice k)) (sym e) (or-⊆-r some (slice k)))
+        together = λ i l. ⊎-elim (λ x. subst (λ (j : ℕ). slice j ⊆ bitOr some (slice k)) (sym x) (or-⊆-r some (slice k)))
             (λ b. ⊆-trans (g .together i b) (or-⊆-l some (slice k))) (last-or i l);
-        above = λ h i l. ⊎-elim (λ e. step i e (ltb-true before (slice k) (and-r ascend _ h))) (λ b. g .above (and-l ascend _ h) i b) (last-or (suc i) l);
+        above = λ h i l. ⊎-elim (λ x. step i x (ltb-true (slice (k - 1)) (slice k) (and-r ascend _ (sym e ∙ h))))
+            (λ b. g .above (and-l ascend _ (sym e ∙ h)) i b) (last-or (suc i) l);
       }
     where
       last-or : (i : ℕ) → i < k + 1 → (i ≡ k) ⊎ (i < k)
       last-or i l = eq-or-lt-of-le (omega arith)
 
-      step : (i : ℕ) → suc i ≡ k → before < slice k → slice i < slice (suc i)
-      step i e l = subst (λ (j : ℕ). slice i < slice j) (sym e) (subst (λ (x : ℕ). x < slice k) (eb ∙ ap slice (omega arith)) l)
+      step : (i : ℕ) → suc i ≡ k → slice (k - 1) < slice k → slice i < slice (suc i)
+      step i e l = subst (λ (j : ℕ). slice i < slice j) (sym e) (subst (λ (j : ℕ). slice j < slice k) (omega arith) l)
 
   pub gathered-sound : (n v count k every some : ℕ) (ascend : Bool) → Gathered slice k every some ascend → count ≤ k
       → ascend ≡ true → has every v ≡ true → within some (allBelow n) ≡ true → first (sliceCheck n v slice) count ≡ Sound

@@ -2,7 +2,9 @@
 ghost use mathlib.Core.Bool.{true};
 ghost use mathlib.Core.Path.{_≡_};
 ghost use Prim.Native.Nat.{_*_, _≤_, _<_};
+ghost use lib.Dec.{ltb};
 ghost use lib.ListN.{length};
+ghost use Rattle.masks.specs.Mask.{has};
 ghost use Rattle.table.specs.Row.{sliceCheck};
 ghost use Rattle.table.specs.Table.{count, slice, unclean, siteCheck, sitesCheck, check, setCheck};
 ghost use Rattle.refusals.specs.First.{first};
@@ -30,6 +32,13 @@ fn check_slice(m: &[u64], n: u64, v: u64, k: usize) -> Check
     Check::Refused(Refusal::Order(v))
 }
 
+// Bit 63 is set just if p is below q: the difference has it where p and q agree in it, otherwise q. No branch.
+fn below(p: u64, q: u64) -> u64
+    ensures { λ r. ⌜ has r 63 ≡ ltb p q ⌝ }
+{
+    masks::minus(q, p) | masks::minus(std::num::wrapping_sub_u64(p, q), masks::minus(p, q))
+}
+
 // True only if the first many slices of site v are sound: each contains what all have in common, is inside what they name together, and is above
 // the one before. No branch in the loop.
 fn are_sound(m: &[u64], n: u64, v: u64, many: usize) -> bool
@@ -37,17 +46,17 @@ fn are_sound(m: &[u64], n: u64, v: u64, many: usize) -> bool
     ensures { λ r. ⌜ (r ≡ true → first (sliceCheck n v (slice (now (m .entry)))) many ≡ Check.Sound) ⌝ }
 {
     let mut every = m[1];
-    let mut some = m[1];
-    let mut ascend = true;
+    let mut some = every;
+    let mut ascend: u64 = 18446744073709551615;
     let mut k: usize = 1;
     while k < many {
         let q = m[1 + k];
         every &= q;
         some |= q;
-        ascend &= m[k] < q;
+        ascend &= below(m[k], q);
         k += 1;
     }
-    ascend & masks::has(every, v) & masks::within(some, masks::all_below(n))
+    masks::has(ascend, 63) & masks::has(every, v) & masks::within(some, masks::all_below(n))
 }
 
 // The first many slices of site v, in order: walked only where one is not sound.
