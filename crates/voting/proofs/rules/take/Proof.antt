@@ -17,8 +17,7 @@ use Rattle.voting.proofs.rules.take.Tie as tie
 now-accepts-requires : tie.Need-now-accepts-requires
 now-accepts-requires c κs =
     let p = c .before .before .before .before .before .before .before .before .before .pre in
-    let r = p .2 in
-    (p .0, search needs, r .from-in, r .to-in, r .side-in, hears-since r (c .before .before .before .hear .ensures) (p .3))
+    (p .0, search needs, search needs, search needs, search needs, hears-since (p .2) (c .before .before .before .hear .ensures) (p .3))
 
 now-confirms-requires : tie.Need-now-confirms-requires
 now-confirms-requires c κs =
@@ -29,7 +28,7 @@ now-confirms-requires c κs =
     let e = c .before .before .before .before .before .before .before .hear .ensures in
     let long = ap (λ (l : List ℕ). length l) e ∙ sym (hears-alone (a .n) (call (a .kind) (a .from) (a .to) (a .side)) (now (a .state)) .adds .long) ∙ p .1 in
     let S = accepts-since (r .to-in) (r .side-in) long (c .before .before .before .now-accepts .ensures) (hears-since r e (p .3)) in
-    (p .0, search needs, r .from-in, r .to-in, r .side-in, S .new-accepts, S .confirmed-then)
+    (p .0, search needs, search needs, search needs, search needs, S .new-accepts, S .confirmed-then)
 
 returns : tie.Need-returns
 returns c =
