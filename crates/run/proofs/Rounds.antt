@@ -1,5 +1,5 @@
 -- One turn of a later pass, which looks at the calls that wait alone, and its end.
-use Prim.Native.Nat.{ℕ, zero, suc, _+_, _-_, _*_, _≤_, _<_}
+use Prim.Native.Nat.{ℕ, zero, suc, _+_, _-_, _≤_, _<_}
 use mathlib.Core.Bool.{Bool, true, false, _||_, cond}
 use mathlib.Core.List.{List}
 use mathlib.Core.Path.{_≡_, refl, sym, ap, subst, _∙_}
@@ -12,13 +12,12 @@ use Rattle.refusals.specs.Refusal.{code}
 use Rattle.refusals.specs.declared.Check.{Check}
 use Rattle.run.proofs.Places.{listed-none, listed-past, listed-same, listed-gap, listed-end, listed-rest, listed-turn, listed-ahead, kept-few}
 use Rattle.run.proofs.Turns.{after-none, after-more, after-byte, after-skip, after-all}
-use Rattle.run.specs.Inner.{Listed, After, Passed, Told, Again, Amid}
+use Rattle.run.specs.Inner.{Listed, After, Again, Amid, Waiting, PassedAgain}
 use Rattle.run.specs.Run.{calls, callAt}
 use Rattle.sets.specs.Paper.{Fbqs}
 use Rattle.sets.specs.Promises.{Questions}
 use Rattle.voting.specs.Inner.{Works}
 use Rattle.voting.specs.Rules.{Call, answer}
-use Rattle.voting.specs.Sound.{Sound}
 use Rattle.voting.specs.Theorems.{Rests}
 
 -- a call again: it waits still, or it does not
@@ -40,8 +39,8 @@ module _ {Q : Questions} {n F : ℕ} {c : Call} {s s₁ : List ℕ} {q : Check} 
   pub again-settled : (a ≡ 15 → ⊥) → Again Q n F c i s out b false s₁ (set out i a)
   again-settled f = record { works = worked; byte = ap (set out i) byte; waits-so = sym (ne-eqb (code (answer n F c s)) 15 (λ g. f (byte ∙ g))) }
 
-module _ {Σ : ℕ → Fbqs} {Q : Questions} {n : ℕ} (R : Rests Σ Q n) (F : ℕ) (list s₀ out₀ : List ℕ) (fits : length list ≡ 4 * length out₀)
-    (S : Sound Q n F s₀) (T : Told Q n F list s₀ out₀) where
+module _ {Σ : ℕ → Fbqs} {Q : Questions} {n : ℕ} (R : Rests Σ Q n) (F : ℕ) (list s₀ out₀ w₀ : List ℕ) (count : ℕ)
+    (H : Waiting Q n F list s₀ out₀ count w₀) where
   -- the settled calls from place p on and before place q passed over
   skip-to : (m p q : ℕ) {s out w : List ℕ} {left : ℕ} {changed : Bool} → p + m ≡ q → q ≤ length out₀ → After Q n F list s₀ out₀ p changed s out →
       Listed out 0 p w 0 left → ((i : ℕ) → p ≤ i → i < q → getD out₀ i 0 ≡ 15 → ⊥) →
@@ -50,20 +49,20 @@ module _ {Σ : ℕ → Fbqs} {Q : Questions} {n : ℕ} (R : Rests Σ Q n) (F : �
       subst (λ (x : ℕ). After Q n F list s₀ out₀ x changed s out × Listed out 0 x w 0 left) (omega (arith, e)) (A, K)
   skip-to (suc m) p q e h A K f =
       let g : getD out₀ p 0 ≡ 15 → ⊥ = f p (omega arith) (omega arith) in
-      skip-to m (p + 1) q (omega arith) h (after-skip R F list s₀ out₀ fits p S T A (omega arith) g)
-      (listed-past K (λ x. g (sym (after-byte R F list s₀ out₀ fits p p A (omega arith)) ∙ x))) (λ i l. f i (omega arith))
+      skip-to m (p + 1) q (omega arith) h (after-skip R F list s₀ out₀ (H .fits) p (H .sound) (H .told) A (omega arith) g)
+      (listed-past K (λ x. g (sym (after-byte R F list s₀ out₀ (H .fits) p p A (omega arith)) ∙ x))) (λ i l. f i (omega arith))
 
-  pub amid-none : (w : List ℕ) (count : ℕ) → Listed out₀ 0 (length out₀) w 0 count → Amid Q n F list s₀ out₀ count 0 0 false s₀ out₀ w
-  amid-none w count L = record {
+  pub amid-none : Amid Q n F list s₀ out₀ count 0 0 false s₀ out₀ w₀
+  amid-none = record {
     at = 0;
-    after = after-none R F list s₀ out₀ fits S;
-    kept = listed-none out₀ w 0 0;
-    rest = L;
+    after = after-none R F list s₀ out₀ (H .fits) (H .sound);
+    kept = listed-none out₀ w₀ 0 0;
+    rest = H .listed;
     few = omega arith;
     within = omega arith;
   }
 
-  module _ {count k left : ℕ} {changed : Bool} {s out w : List ℕ} (A : Amid Q n F list s₀ out₀ count k left changed s out w) where
+  module _ {k left : ℕ} {changed : Bool} {s out w : List ℕ} (A : Amid Q n F list s₀ out₀ count k left changed s out w) where
     module _ (h : k < count) where
       -- the next call that waits
       pub amid-below : getD w k 0 < length out₀
@@ -77,14 +76,14 @@ module _ {Σ : ℕ → Fbqs} {Q : Questions} {n : ℕ} (R : Rests Σ Q n) (F : �
 
       pub amid-waits : getD out (getD w k 0) 0 ≡ 15
       amid-waits =
-          after-byte R F list s₀ out₀ fits (A .at) (getD w k 0) (A .after) (A .rest .from k (omega arith) h) ∙ A .rest .waits k (omega arith) h
+          after-byte R F list s₀ out₀ (H .fits) (A .at) (getD w k 0) (A .after) (A .rest .from k (omega arith) h) ∙ A .rest .waits k (omega arith) h
 
       pub amid-more : (i c : ℕ) (x waits : Bool) (w₁ : List ℕ) {b : Bool} {s₁ out₁ : List ℕ} → k < length w → i ≡ getD w k 0 →
           Again Q n F (callAt list i) i s out b waits s₁ out₁ → x ≡ changed || b → c ≡ cond waits (left + 1) left → w₁ ≡ cond waits (set w left i) w →
           Amid Q n F list s₀ out₀ count (k + 1) c x s₁ out₁ w₁
       amid-more i c x waits w₁ {b} {s₁} {out₁} hw e Z ex ec ew = record {
         at = i + 1;
-        after = subst (After Q n F list s₀ out₀ (i + 1) x s₁) (sym (Z .byte)) (after-more R F list s₀ out₀ fits i a x s out (at .0) hi (Z .works) refl ex);
+        after = subst (After Q n F list s₀ out₀ (i + 1) x s₁) (sym (Z .byte)) (after-more R F list s₀ out₀ (H .fits) i a x s out (at .0) hi (Z .works) refl ex);
         kept = listed-turn waits (listed-same (at .1) out₁ old) (omega (arith, A .few)) (Z .waits-so ∙ ap (λ (y : ℕ). eqb y 15) (sym new)) ec ew;
         rest = listed-ahead i waits (subst (λ (y : ℕ). Listed out₀ (y + 1) (length out₀) w (k + 1) count) (sym e) (listed-rest (A .rest) h))
             (omega (arith, A .few)) ew;
@@ -108,11 +107,11 @@ module _ {Σ : ℕ → Fbqs} {Q : Questions} {n : ℕ} (R : Rests Σ Q n) (F : �
           old j l m = ap (λ (y : List ℕ). getD y j 0) (Z .byte) ∙ getD-set-other out i j a 0 (λ z. omega arith)
 
     -- none is left
-    pub amid-all : count ≤ k → Passed Q n F (calls list) s₀ changed s out × Listed out 0 (length out) w 0 left × (left ≤ count)
+    pub amid-all : count ≤ k → PassedAgain Q n F (calls list) s₀ count changed left s out w
     amid-all h =
         let within : A .at ≤ length out₀ = A .after .within in
-        let z = skip-to (length out₀ - A .at) (A .at) (length out₀) (omega arith) (omega arith) (A .after) (A .kept) (listed-end (A .rest) h) in (
-          after-all R F list s₀ out₀ fits (length out₀) s out (z .0) (omega arith),
-          subst (λ (y : ℕ). Listed out 0 y w 0 left) (sym (z .0 .long)) (z .1),
-          omega (arith, A .few, A .within),
-        )
+        let z = skip-to (length out₀ - A .at) (A .at) (length out₀) (omega arith) (omega arith) (A .after) (A .kept) (listed-end (A .rest) h) in record {
+          passed = after-all R F list s₀ out₀ (H .fits) (length out₀) s out (z .0) (omega arith);
+          listed = subst (λ (y : ℕ). Listed out 0 y w 0 left) (sym (z .0 .long)) (z .1);
+          fewer = omega (arith, A .few, A .within);
+        }

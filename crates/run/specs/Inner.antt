@@ -1,5 +1,5 @@
 -- What the loops over the calls and over the passes carry.
-use Prim.Native.Nat.{ℕ, suc, _≤_, _<_}
+use Prim.Native.Nat.{ℕ, suc, _*_, _≤_, _<_}
 use mathlib.Core.Bool.{Bool, _&&_, not, true}
 use mathlib.Core.List.{List, [], _∷_, _++_}
 use mathlib.Core.Path.{_≡_}
@@ -73,11 +73,34 @@ module _ (Q : Questions) (n F : ℕ) where
     pub few : left ≤ k
     pub within : k ≤ count
 
+  -- what a later pass starts from: each call is settled or waits, and the first `count` of w are those that wait
+  pub record Waiting (list s out : List ℕ) (count : ℕ) (w : List ℕ) : Type 0 where
+    pub fits : length list ≡ 4 * length out
+    pub short : length out ≤ 4096
+    pub sound : Sound Q n F s
+    pub told : Told list s out
+    pub listed : Listed out 0 (length out) w 0 count
+    pub few : count ≤ length w
+
+  -- and what it leaves: a whole pass, after which `left` wait
+  pub record PassedAgain (l : List Call) (s₀ : List ℕ) (count : ℕ) (changed : Bool) (left : ℕ) (s out w : List ℕ) : Type 0 where
+    pub passed : Passed l s₀ changed s out
+    pub listed : Listed out 0 (length out) w 0 left
+    pub fewer : left ≤ count
+
   -- k passes from a fresh state, each of which changed something
   pub record Going (l : List Call) (k : ℕ) (s : List ℕ) : Type 0 where
     pub state : s ≡ iter (step Q n F) k l (fresh n)
     pub sound : Sound Q n F s
     pub each : (j : ℕ) → j < k → iter (step Q n F) (suc j) l (fresh n) ≡ iter (step Q n F) j l (fresh n) → ⊥
+
+  -- after a first pass that changed something
+  pub record Begun (list s out w : List ℕ) : Type 0 where
+    pub fits : length list ≡ 4 * length out
+    pub short : length out ≤ 4096
+    pub going : Going (calls list) 1 s
+    pub told : Told list s out
+    pub room : length out ≤ length w
 
   -- the whole run
   pub record Whole (l : List Call) (passes : ℕ) (s out : List ℕ) : Type 0 where

@@ -10,7 +10,7 @@ ghost use Rattle.voting.specs.State.{size, fresh};
 ghost use Rattle.voting.specs.Sound.{Sound};
 ghost use Rattle.voting.specs.Inner.{Works};
 ghost use Rattle.run.specs.Run.{calls, callAt, runCheck, ran, stateInto, answersInto};
-ghost use Rattle.run.specs.Inner.{Passed, Told, Listed, Again, Going, Whole};
+ghost use Rattle.run.specs.Inner.{Passed, Listed, Again, Waiting, PassedAgain, Begun, Whole};
 use refusals::Check;
 use refusals::Refusal;
 
@@ -27,13 +27,14 @@ fn wide(x: u8) -> usize
     x as usize
 }
 
-// The number of a place in the list, as it is read and as it is kept.
+// A kept place as a number that can be an index.
 fn place(x: u16) -> usize
     ensures { λ r. ⌜ r ≡ x ⌝ }
 {
     x as usize
 }
 
+// A place in the list as it is kept: a list has at most 4,096 calls.
 fn narrow(i: usize) -> u16
     requires { ⌜ i < 65536 ⌝ }
     ensures { λ r. ⌜ r ≡ i ⌝ }
@@ -172,8 +173,8 @@ fn pass_again(
     waiting: &mut [u16],
     count: usize,
 ) -> Round
-    requires { ⌜ Table (now table) n × Sound (questionsOf (slicesOf (now table)) n) n faulty (now state) × (length (now list) ≡ 4 * length (now answers)) × Told (questionsOf (slicesOf (now table)) n) n faulty (now list) (now state) (now answers) × Listed (now answers) 0 (length (now answers)) (now waiting) 0 count × (count ≤ length (now waiting)) × (length (now answers) ≤ 4096) ⌝ }
-    ensures { λ r. ⌜ Passed (questionsOf (slicesOf (now (table .entry))) n) n faulty (calls (now (list .entry))) (now (state .entry)) (r .changed) (now (state .exit)) (now (answers .exit)) × Listed (now (answers .exit)) 0 (length (now (answers .exit))) (now (waiting .exit)) 0 (r .count) × (r .count ≤ count) ⌝ }
+    requires { ⌜ Table (now table) n × Waiting (questionsOf (slicesOf (now table)) n) n faulty (now list) (now state) (now answers) count (now waiting) ⌝ }
+    ensures { λ r. ⌜ PassedAgain (questionsOf (slicesOf (now (table .entry))) n) n faulty (calls (now (list .entry))) (now (state .entry)) count (r .changed) (r .count) (now (state .exit)) (now (answers .exit)) (now (waiting .exit)) ⌝ }
 {
     let mut changed = false;
     let mut left: usize = 0;
@@ -201,7 +202,7 @@ fn run_on(
     answers: &mut [u8],
     waiting: &mut [u16],
 ) -> u64
-    requires { ⌜ Table (now table) n × Going (questionsOf (slicesOf (now table)) n) n faulty (calls (now list)) 1 (now state) × (length (now list) ≡ 4 * length (now answers)) × Told (questionsOf (slicesOf (now table)) n) n faulty (now list) (now state) (now answers) × (length (now answers) ≤ 4096) × (length (now answers) ≤ length (now waiting)) ⌝ }
+    requires { ⌜ Table (now table) n × Begun (questionsOf (slicesOf (now table)) n) n faulty (now list) (now state) (now answers) (now waiting) ⌝ }
     ensures { λ r. ⌜ Whole (questionsOf (slicesOf (now (table .entry))) n) n faulty (calls (now (list .entry))) r (now (state .exit)) (now (answers .exit)) ⌝ }
 {
     let mut count = gather(answers, waiting);

@@ -24,10 +24,10 @@ loop-holds : tie.Need-loop-holds Inv-loop μ-loop
 loop-holds c =
     let a = c .before .before .before .before .before .args in
     let p = c .before .before .before .before .before .pre in
-    (amid-none (table-rests (p .0)) (a .faulty) (now (a .list)) (now (a .state)) (now (a .answers)) (p .2) (p .1) (p .3) (now (a .waiting)) (a .count) (p .4), refl)
+    (amid-none (table-rests (p .0)) (a .faulty) (now (a .list)) (now (a .state)) (now (a .answers)) (now (a .waiting)) (a .count) (p .1), refl)
 
 slice-read-place : tie.Need-slice-read-place Inv-loop μ-loop
-slice-read-place c = omega (arith, c .before .loop-test .taken, c .before .before .loop .inv .1, c .before .before .before .before .before .before .before .before .pre .5)
+slice-read-place c = omega (arith, c .before .loop-test .taken, c .before .before .loop .inv .1, c .before .before .before .before .before .before .before .before .pre .1 .few)
 
 work-again-requires : tie.Need-work-again-requires Inv-loop μ-loop
 work-again-requires c κs =
@@ -37,9 +37,9 @@ work-again-requires c κs =
     let h = c .before .before .before .before .loop-test .taken in
     let R = table-rests (p .0) in
     let e = c .before .before .place .ensures in
-    let b = amid-below R (a .faulty) (now (a .list)) (now (a .state)) (now (a .answers)) (p .2) (p .1) (p .3) (L .inv .0) h in
-    let q = amid-waits R (a .faulty) (now (a .list)) (now (a .state)) (now (a .answers)) (p .2) (p .1) (p .3) (L .inv .0) h in
-    (p .0, L .inv .0 .after .sound, omega (arith, e, b, p .2), omega (arith, e, b, L .inv .0 .after .long), ap (λ (k : ℕ). getD (L .answers) k 0) e ∙ q)
+    let b = amid-below R (a .faulty) (now (a .list)) (now (a .state)) (now (a .answers)) (now (a .waiting)) (a .count) (p .1) (L .inv .0) h in
+    let q = amid-waits R (a .faulty) (now (a .list)) (now (a .state)) (now (a .answers)) (now (a .waiting)) (a .count) (p .1) (L .inv .0) h in
+    (p .0, L .inv .0 .after .sound, omega (arith, e, b, p .1 .fits), omega (arith, e, b, L .inv .0 .after .long), ap (λ (k : ℕ). getD (L .answers) k 0) e ∙ q)
 
 keep-requires : tie.Need-keep-requires Inv-loop μ-loop
 keep-requires c κs =
@@ -48,8 +48,8 @@ keep-requires c κs =
     let L = c .before .before .before .before .before .before .before .before .before .before .before .before .loop in
     let h = c .before .before .before .before .before .before .before .before .before .before .before .loop-test .taken in
     let e = c .before .before .before .before .before .before .before .before .before .place .ensures in
-    let b = amid-below (table-rests (p .0)) (a .faulty) (now (a .list)) (now (a .state)) (now (a .answers)) (p .2) (p .1) (p .3) (L .inv .0) h in
-    (omega (arith, h, L .inv .0 .few, L .inv .1, p .5), omega (arith, e, b, p .6))
+    let b = amid-below (table-rests (p .0)) (a .faulty) (now (a .list)) (now (a .state)) (now (a .answers)) (now (a .waiting)) (a .count) (p .1) (L .inv .0) h in
+    (omega (arith, h, L .inv .0 .few, L .inv .1, p .1 .few), omega (arith, e, b, p .1 .short))
 
 loop-less : tie.Need-loop-less Inv-loop μ-loop
 loop-less c = omega (arith, c .before .before .before .before .before .before .before .before .before .before .before .before .before .before .loop-test .taken)
@@ -61,14 +61,14 @@ loop-again c =
     let L = c .before .before .before .before .before .before .before .before .before .before .before .before .before .before .before .loop in
     let h = c .before .before .before .before .before .before .before .before .before .before .before .before .before .before .loop-test .taken in
     let K = c .before .before .keep in (
-      amid-more (table-rests (p .0)) (a .faulty) (now (a .list)) (now (a .state)) (now (a .answers)) (p .2) (p .1) (p .3) (L .inv .0) h
-          (c .before .before .before .before .before .before .before .before .before .before .before .before .place .result) (K .result) (c .before .before .before .before .either .result) (c .before .before .before .before .before .before .before .before .before .work-again .result .waits) _ (omega (arith, h, L .inv .1, p .5)) (c .before .before .before .before .before .before .before .before .before .before .before .before .place .ensures)
+      amid-more (table-rests (p .0)) (a .faulty) (now (a .list)) (now (a .state)) (now (a .answers)) (now (a .waiting)) (a .count) (p .1) (L .inv .0) h
+          (c .before .before .before .before .before .before .before .before .before .before .before .before .place .result) (K .result) (c .before .before .before .before .either .result) (c .before .before .before .before .before .before .before .before .before .work-again .result .waits) _ (omega (arith, h, L .inv .1, p .1 .few)) (c .before .before .before .before .before .before .before .before .before .before .before .before .place .ensures)
           (c .before .before .before .before .before .before .before .before .before .work-again .ensures) (c .before .before .before .before .either .ensures) (K .ensures .0) (K .ensures .1),
       K .kept .0 ∙ L .inv .1,
     )
 
 same-length : tie.Need-same-length Inv-loop μ-loop
-same-length c = omega (arith, c .before .loop .inv .0 .after .sound .long, c .before .before .before .before .before .before .before .pre .1 .long)
+same-length c = omega (arith, c .before .loop .inv .0 .after .sound .long, c .before .before .before .before .before .before .before .pre .1 .sound .long)
 
 same-length-2 : tie.Need-same-length-2 Inv-loop μ-loop
 same-length-2 c = omega (arith, c .before .loop .inv .0 .after .long)
@@ -80,7 +80,7 @@ returns : tie.Need-returns Inv-loop μ-loop
 returns c =
     let a = c .before .before .before .before .before .before .before .args in
     let p = c .before .before .before .before .before .before .before .pre in
-    amid-all (table-rests (p .0)) (a .faulty) (now (a .list)) (now (a .state)) (now (a .answers)) (p .2) (p .1) (p .3) (c .before .loop .inv .0)
+    amid-all (table-rests (p .0)) (a .faulty) (now (a .list)) (now (a .state)) (now (a .answers)) (now (a .waiting)) (a .count) (p .1) (c .before .loop .inv .0)
     (omega (arith, c .loop-test .left))
 
 pub pass-again-spec : {M : Type 1} → statement M

@@ -36,13 +36,15 @@ run-on-requires c κs =
     let Z = c .before .before .before .before .before .before .before .before .pass-over .ensures in
     let k = length (now (a .answers)) in
     let e = passed-long R (a .faulty) (now (a .list)) k (p .2) Z in
-    let room : length {A = ℕ} (replicate 4096 0) ≡ 4096 = length-replicate {A = ℕ} 4096 0 in (
+    let many : length {A = ℕ} (replicate 4096 0) ≡ 4096 = length-replicate {A = ℕ} 4096 0 in (
       p .0,
-      going-more R (a .faulty) l 0 G Z (not-false _ (c .before .before .before .if1 .left)),
-      omega (arith, p .2, e),
-      passed-told R (a .faulty) (now (a .list)) k (p .2) (G .sound) Z,
-      omega (arith, p .3, e),
-      omega (arith, p .3, e, room),
+      record {
+        fits = omega (arith, p .2, e);
+        short = omega (arith, p .3, e);
+        going = going-more R (a .faulty) l 0 G Z (not-false _ (c .before .before .before .if1 .left));
+        told = passed-told R (a .faulty) (now (a .list)) k (p .2) (G .sound) Z;
+        room = omega (arith, p .3, e, many);
+      },
     )
 
 pub run-fresh-spec : {M : Type 1} → statement M
