@@ -130,13 +130,29 @@ pub fn has_slice(table: &[u64], n: usize, v: usize, u: u64) -> bool
     has_inside(table, n, 0, v, u)
 }
 
-// Site v belongs to the largest quorum inside w.
+// Site v belongs to the largest quorum inside w. Its own slices are asked first, and the rounds end with the one that drops it.
 pub fn in_largest(table: &[u64], n: usize, v: usize, w: u64) -> bool
     requires { ⌜ Table (now table) n × (v < n) ⌝ }
     ensures { λ r. ⌜ r ≡ has (largest (slicesOf (now (table .entry)) .inside) n w) v ⌝ }
 {
-    let l = largest(table, n, w);
-    masks::has(l.set, v as u64)
+    if !masks::has(w, v as u64) {
+        return false;
+    }
+    if !has_slice(table, n, v, w) {
+        return false;
+    }
+    let mut places = [0u8; 64];
+    let mut set = w;
+    loop {
+        let stay = round_from(table, n, 0, set, &mut places);
+        if stay == set {
+            return true;
+        }
+        if !masks::has(stay, v as u64) {
+            return false;
+        }
+        set = stay;
+    }
 }
 
 // q is a quorum of the table with b deleted.
