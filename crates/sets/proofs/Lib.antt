@@ -6,4 +6,5 @@ pub mod Decides
 pub mod Promises
 pub mod WholeQuorum
 pub mod Places
+pub mod HolderLaws
 pub mod Coincide

@@ -118,6 +118,11 @@ module _ (s : ℕ → ℕ → Bool) (n : ℕ) where
   largest-⊆ =
       along (λ (w : ℕ). largest s n w ⊆ w) (λ u e. rw (largest-stop u e) (⊆-refl u)) (λ u ne ih. rw (largest-step u ne) (⊆-trans ih (round-⊆ u)))
 
+  -- whom a round drops is not in it
+  pub largest-⊆-round : (w : ℕ) → largest s n w ⊆ round s n w
+  largest-⊆-round w =
+      round-cases w (λ e. rw (largest-stop w e) (rw e (⊆-refl w))) (λ ne. rw (largest-step w ne) (largest-⊆ (round s n w)))
+
   -- the next round drops nobody
   pub largest-still : (w : ℕ) → round s n (largest s n w) ≡ largest s n w
   largest-still =

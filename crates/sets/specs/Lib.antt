@@ -5,3 +5,4 @@ pub mod Verdicts
 pub mod Promises
 pub mod Decides
 pub mod Places
+pub mod Holders

@@ -4,9 +4,9 @@ use mathlib.Core.Bool.{false}
 use mathlib.Core.List.{List}
 use mathlib.Core.Path.{_≡_}
 use lib.ListN.{getD}
-use Rattle.masks.specs.Mask.{minus, within}
+use Rattle.masks.specs.Mask.{within}
 use Rattle.table.specs.Table.{sliceOf}
 
--- in the table t with b deleted, each slice before its site's place is not inside w
-abbrev pub Passed : List ℕ → ℕ → ℕ → ℕ → List ℕ → Type 0
-Passed t n b w places = (v i : ℕ) → v < n → i < getD places v 0 → within (minus (sliceOf t v i) b) w ≡ false
+-- in the table t each slice before its site's place is not inside w
+abbrev pub Passed : List ℕ → ℕ → ℕ → List ℕ → Type 0
+Passed t n w places = (v i : ℕ) → v < n → i < getD places v 0 → within (sliceOf t v i) w ≡ false

@@ -1,17 +1,37 @@
--- `has_slice` meets its contract: with nobody deleted the table is itself.
-use Prim.Native.Nat.{ℕ}
-use mathlib.Core.Bool.{Bool}
-use mathlib.Core.Path.{ap, _∙_}
+-- `has_slice` meets its contract: a slice is found inside u, or none is.
+use Prim.Native.Nat.{zero-le}
+use mathlib.Core.Logic.{⊎-elim}
+use mathlib.Core.Path.{sym, ap, _∙_}
+use native.Mathlib.Nat.{lt-of-lt-of-le}
+use lib.Dec.{ltb}
 use borrow.Author.Needs.{needs}
+use borrow.Author.Tests.{ltb-true, ltb-false}
 use denote.Ref.{now}
-use Rattle.sets.proofs.Slices.{deleted-none}
+use Rattle.ground.proofs.Logic.{cases}
+use Rattle.sets.proofs.Places.{inside-found, inside-missed}
 use Rattle.sets.proofs.has_slice.Statement.{statement}
+use Rattle.table.proofs.Table.{count-at}
+use Rattle.table.specs.Table.{countOf}
 use Rattle.sets.proofs.has_slice.Tie as tie
 
 returns : tie.Need-returns
 returns c =
-    let a = c .before .before .args in
-    c .has-inside .ensures ∙ ap (λ (s : ℕ → ℕ → Bool). s (a .v) (a .u)) (deleted-none (now (a .table)))
+    let a = c .before .before .before .args in
+    let t = now (a .table) in
+    let k = c .before .next-inside in
+    ap (ltb (k .result)) (sym (count-at t (a .v)))
+    ∙ ⊎-elim
+    (λ e. let l = ltb-true (k .result) (countOf t (a .v)) e in e ∙ sym (inside-found t (a .v) (a .u) (k .result) l (k .ensures .1 .0 l)))
+    (λ e. let l = ltb-false (k .result) (countOf t (a .v)) e in
+    e ∙ sym (inside-missed t (a .v) (a .u) (λ i m. k .ensures .1 .1 i zero-le (lt-of-lt-of-le m l))))
+    (cases (ltb (k .result) (countOf t (a .v))))
 
 pub has-slice-spec : {M : Type 1} → statement M
-has-slice-spec = tie.close (tie.spec (λ c κs. search needs) returns)
+has-slice-spec =
+    tie.close
+    (tie.spec
+    (λ c κs. search needs)
+    (λ c. search needs)
+    (λ c. search needs)
+    (λ c. search needs)
+    returns)

@@ -15,11 +15,11 @@ use Rattle.sets.proofs.round_from.Statement.{statement}
 use Rattle.sets.proofs.round_from.Tie as tie
 
 abbrev Inv-loop : tie.InvT-loop
-Inv-loop table n b w places₀ stay₀ v₀ places stay v =
-    (v ≤ n) × (stay ≡ gather v (λ x. has w x && slicesOf table .deleted b x w)) × Passed table n b w places
+Inv-loop table n w places₀ stay₀ v₀ places stay v =
+    (v ≤ n) × (stay ≡ gather v (λ x. has w x && slicesOf table .inside x w)) × Passed table n w places
 
 abbrev μ-loop : tie.MeasureT-loop
-μ-loop table n b w places₀ stay₀ v₀ places stay v = n - v
+μ-loop table n w places₀ stay₀ v₀ places stay v = n - v
 
 loop-holds : tie.Need-loop-holds Inv-loop μ-loop
 loop-holds c = (search needs, gather-none _, c .before .pre .1)
@@ -41,7 +41,7 @@ returns c =
     let l = c .before .loop in
     let m = l .inv .0 in
     let e : l .v ≡ a .n = omega arith in
-    (subst (λ (k : ℕ). l .stay ≡ gather k (λ x. has (a .w) x && slicesOf (now (a .table)) .deleted (a .b) x (a .w))) e (l .inv .1), l .inv .2)
+    (subst (λ (k : ℕ). l .stay ≡ gather k (λ x. has (a .w) x && slicesOf (now (a .table)) .inside x (a .w))) e (l .inv .1), l .inv .2)
 
 pub round-from-spec : {M : Type 1} → statement M
 round-from-spec =

@@ -8,7 +8,7 @@ use borrow.Author.Needs.{needs}
 use borrow.Author.Tests.{not-true, not-false}
 use denote.Ref.{now}
 use Rattle.masks.specs.Mask.{has}
-use Rattle.sets.proofs.Places.{deleted-gone, deleted-found, deleted-missed, passed-to, passed-more}
+use Rattle.sets.proofs.Places.{inside-found, inside-missed, passed-to, passed-more}
 use Rattle.sets.proofs.stays.Statement.{statement}
 use Rattle.table.proofs.Table.{count-at}
 use Rattle.table.specs.Table.{countOf}
@@ -20,40 +20,32 @@ returns c =
     let e : has (a .w) (a .v) ≡ false = sym (c .before .has .ensures) ∙ not-true _ (c .if1 .taken) in
     (rw e refl, c .before .before .before .pre .2)
 
-returns-2 : tie.Need-returns-2
-returns-2 c =
-    let a = c .before .before .before .before .before .args in
-    let e : has (a .w) (a .v) ≡ true = sym (c .before .before .before .has .ensures) ∙ not-false _ (c .before .before .if1 .left) in
-    let f = deleted-gone (now (a .table)) (a .b) (a .v) (a .w) (sym (c .before .has2 .ensures) ∙ c .if2 .taken) in
-    (rw (e, f) refl, c .before .before .before .before .before .pre .2)
-
 cast-places : tie.Need-cast-places
 cast-places c =
-    let p = c .before .before .before .before .before .before .before .pre in
-    omega (arith, c .next-inside .ensures .0, p .0 .few-slices (c .before .before .before .before .before .before .before .args .v) (p .1))
+    let s = c .before .before .before .before .before in
+    omega (arith, c .next-inside .ensures .0, s .pre .0 .few-slices (s .args .v) (s .pre .1))
 
-returns-3 : tie.Need-returns-3
-returns-3 c =
-    let s = c .before .before .before .before .before .before .before .before .before .before in
+returns-2 : tie.Need-returns-2
+returns-2 c =
+    let s = c .before .before .before .before .before .before .before .before in
     let a = s .args in
     let t = now (a .table) in
     let k = c .before .before .before .next-inside in
-    let e : has (a .w) (a .v) ≡ true = sym (c .before .before .before .before .before .before .before .before .has .ensures) ∙ not-false _ (c .before .before .before .before .before .before .before .if1 .left) in
-    let out : has (a .b) (a .v) ≡ false = sym (c .before .before .before .before .before .before .has2 .ensures) ∙ c .before .before .before .before .before .if2 .left in
-    let l : k .result < countOf t (a .v) = subst (λ (x : ℕ). k .result < x) (sym (count-at t (a .v))) (c .before .if3 .taken) in
-    let f = deleted-found t (a .b) (a .v) (a .w) out (k .result) l (k .ensures .1 .0 l) in
-    (rw (e, f) (c .single .ensures), passed-more t (a .n) (a .b) (a .w) (now (a .places)) (a .v) (k .result) (s .pre .2) (k .ensures .1 .1))
+    let e : has (a .w) (a .v) ≡ true = sym (c .before .before .before .before .before .before .has .ensures) ∙ not-false _ (c .before .before .before .before .before .if1 .left) in
+    let l : k .result < countOf t (a .v) = subst (λ (x : ℕ). k .result < x) (sym (count-at t (a .v))) (c .before .if2 .taken) in
+    let f = inside-found t (a .v) (a .w) (k .result) l (k .ensures .1 .0 l) in
+    (rw (e, f) (c .single .ensures), passed-more t (a .n) (a .w) (now (a .places)) (a .v) (k .result) (s .pre .2) (k .ensures .1 .1))
 
-returns-4 : tie.Need-returns-4
-returns-4 c =
-    let s = c .before .before .before .before .before .before .before .before .before in
+returns-3 : tie.Need-returns-3
+returns-3 c =
+    let s = c .before .before .before .before .before .before .before in
     let a = s .args in
     let t = now (a .table) in
     let k = c .before .before .next-inside in
-    let e : has (a .w) (a .v) ≡ true = sym (c .before .before .before .before .before .before .before .has .ensures) ∙ not-false _ (c .before .before .before .before .before .before .if1 .left) in
-    let l : countOf t (a .v) ≤ k .result = subst (λ (x : ℕ). x ≤ k .result) (sym (count-at t (a .v))) (c .if3 .left) in
-    let f = deleted-missed t (a .b) (a .v) (a .w) (λ i m. passed-to t (a .n) (a .b) (a .w) (now (a .places)) (a .v) (k .result) (s .pre .2) (k .ensures .1 .1) i (s .pre .1) (lt-of-lt-of-le m l)) in
-    (rw (e, f) refl, passed-more t (a .n) (a .b) (a .w) (now (a .places)) (a .v) (k .result) (s .pre .2) (k .ensures .1 .1))
+    let e : has (a .w) (a .v) ≡ true = sym (c .before .before .before .before .before .has .ensures) ∙ not-false _ (c .before .before .before .before .if1 .left) in
+    let l : countOf t (a .v) ≤ k .result = subst (λ (x : ℕ). x ≤ k .result) (sym (count-at t (a .v))) (c .if2 .left) in
+    let f = inside-missed t (a .v) (a .w) (λ i m. passed-to t (a .n) (a .w) (now (a .places)) (a .v) (k .result) (s .pre .2) (k .ensures .1 .1) i (s .pre .1) (lt-of-lt-of-le m l)) in
+    (rw (e, f) refl, passed-more t (a .n) (a .w) (now (a .places)) (a .v) (k .result) (s .pre .2) (k .ensures .1 .1))
 
 pub stays-spec : {M : Type 1} → statement M
 stays-spec =
@@ -61,8 +53,6 @@ stays-spec =
     (tie.spec
     (λ c κs. search needs)
     returns
-    (λ c κs. search needs)
-    returns-2
     (λ c. search needs)
     (λ c κs. search needs)
     cast-places
@@ -71,5 +61,5 @@ stays-spec =
     (λ c. search needs)
     (λ c. search needs)
     (λ c κs. search needs)
-    returns-3
-    returns-4)
+    returns-2
+    returns-3)
