@@ -52,7 +52,7 @@ fn either(a: bool, b: bool) -> bool
     b
 }
 
-// Call i of the list, on a sound state.
+// Call i of the list, on a sound state. Most calls that are refused wait for their sender: they are told from the others before anything else is done.
 fn work_at(
     table: &[u64],
     n: usize,
@@ -68,6 +68,13 @@ fn work_at(
     let from = wide(list[4 * i + 1]);
     let to = wide(list[4 * i + 2]);
     let side = wide(list[4 * i + 3]);
+    let a = voting::answers::answer(n, faulty, state, kind, from, to, side);
+    let Check::Sound = a else {
+        return voting::Worked {
+            answer: a,
+            changed: false,
+        };
+    };
     voting::work(table, n, faulty, state, kind, from, to, side)
 }
 

@@ -9,7 +9,7 @@ ghost use Rattle.voting.specs.Inner.{call, Works};
 use refusals::Check;
 use refusals::Refusal;
 
-mod answers;
+pub mod answers;
 mod rules;
 mod soundness;
 

@@ -1,17 +1,34 @@
--- `work_at` meets its contract: the four bytes read are the call.
+-- `work_at` meets its contract: the four bytes read are the call, and a call that is refused changes nothing.
 use borrow.Author.Needs.{needs}
 use denote.Ref.{now}
 use Rattle.run.proofs.Turns.{works-at}
 use Rattle.sets.specs.Promises.{questionsOf}
 use Rattle.sets.specs.Slices.{slicesOf}
+use Rattle.voting.proofs.Inner.{works-refused}
+use Rattle.voting.specs.Inner.{call}
 use Rattle.run.proofs.work_at.Statement.{statement}
 use Rattle.run.proofs.work_at.Tie as tie
 
 returns : tie.Need-returns
 returns c =
-    let a = c .before .before .before .before .before .before .before .before .before .before .before .before .before .before .before .args in
-    works-at (questionsOf (slicesOf (now (a .table))) (a .n)) (a .n) (a .faulty) (a .i) (now (a .list)) (c .before .before .before .before .before .before .before .before .before .before .wide .ensures) (c .before .before .before .before .before .before .before .before .wide2 .ensures)
-    (c .before .before .before .before .before .before .wide3 .ensures) (c .before .before .before .before .wide4 .ensures) (c .before .before .work .ensures)
+    let w = c .before .before .before .before in
+    let b = w .before .before .before .before .before .before .before .before .before .before .before in
+    let a = b .args in
+    let from = w .before .before .before .before in
+    let kind = from .before .before in
+    works-at (questionsOf (slicesOf (now (a .table))) (a .n)) (a .n) (a .faulty) (a .i) (now (a .list)) (kind .wide .ensures) (from .wide2 .ensures)
+    (w .before .before .wide3 .ensures) (w .wide4 .ensures)
+    (works-refused (b .pre .1) (call (kind .wide .result) (from .wide2 .result) (w .before .before .wide3 .result) (w .wide4 .result))
+    (c .before .before .answer .ensures) (c .enum-told2 .given .1))
+
+returns-2 : tie.Need-returns-2
+returns-2 c =
+    let w = c .before .before .before .before .before .before .before .before in
+    let from = w .before .before .before .before in
+    let kind = from .before .before in
+    let a = w .before .before .before .before .before .before .before .before .before .before .before .args in
+    works-at (questionsOf (slicesOf (now (a .table))) (a .n)) (a .n) (a .faulty) (a .i) (now (a .list)) (kind .wide .ensures) (from .wide2 .ensures)
+    (w .before .before .wide3 .ensures) (w .wide4 .ensures) (c .before .before .work .ensures)
 
 pub work-at-spec : {M : Type 1} → statement M
 work-at-spec =
@@ -34,4 +51,9 @@ work-at-spec =
     (λ c κs. search needs)
     (λ c κs. search needs)
     (λ c. search needs)
-    returns)
+    (λ c. search needs)
+    (λ c. search needs)
+    returns
+    (λ c κs. search needs)
+    (λ c. search needs)
+    returns-2)
