@@ -17,7 +17,8 @@
 #define PAINT 0xa5
 #define STACK 262144
 #define STACK_ALLOWED 1024
-#define STACK_OF_RECORDS 51200
+#define STACK_OF_LISTS 9216
+#define STACK_OF_RECORDS 26624
 #define COUNT(a) (sizeof(a) / sizeof *(a))
 
 static unsigned tried;
@@ -147,6 +148,10 @@ static void questions(void)
     says("4 blocks 4", siren_blocks(a, TABLE, 4, 4, fresh()), 0, 0, 0, 0, 0);
     says("blocks, site 5", siren_blocks(a, TABLE, 8, 5, fresh()), 11, 0, 0, 0, 0);
     says("blocks, set 32 and site 5", siren_blocks(a, TABLE, 32, 5, fresh()), 10, 0, 0, 0, 0);
+}
+
+static void verdicts(void)
+{
     says("shared", siren_shared(a, TABLE, fresh()), 0, 0, 1, 0, 0);
     says("shared, not meeting", siren_shared(apart, COUNT(apart), fresh()), 0, 0, 0, 3, 12);
     says("shared, 13 sites", siren_shared(alone, COUNT(alone), fresh()), 16, 0, 0, 0, 0);
@@ -286,6 +291,7 @@ int main(int count, char **words)
     tables();
     images();
     questions();
+    verdicts();
     voting();
     runs();
     runs_of_records();
@@ -293,8 +299,9 @@ int main(int count, char **words)
         on_painted("tables", tables, STACK_ALLOWED);
         on_painted("images", images, STACK_ALLOWED);
         on_painted("set questions", questions, STACK_ALLOWED);
+        on_painted("verdicts", verdicts, STACK_OF_LISTS);
         on_painted("voting", voting, STACK_ALLOWED);
-        on_painted("runs", runs, STACK_ALLOWED);
+        on_painted("runs", runs, STACK_OF_LISTS);
         on_painted("runs of records", runs_of_records, STACK_OF_RECORDS);
     }
     printf("capi: %u calls, every function of include/siren.h, as worked out by hand\n", tried);

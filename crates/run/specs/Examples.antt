@@ -17,6 +17,7 @@ use Rattle.sets.specs.Verdicts.{beside, apart, firstApart, meets, dispensable, 
 use Rattle.voting.specs.Inner.{call}
 use Rattle.voting.specs.Rules.{accepting, confirming, nowAccepts, nowConfirms, hears, taken, outOfRange, crooked, against, unsent, answer, step}
 use Rattle.voting.specs.State.{accepted, confirmed, fresh, get, add}
+use Rattle.voting.specs.Step.{questions}
 
 -- the 63 numbers of a site with these slices
 abbrev pub site : List ℕ → List ℕ
@@ -49,8 +50,8 @@ examples =
     let A = slicesOf tableA in
     let B = slicesOf tableB in
     let C = slicesOf tableApart in
-    let oneQ = questionsOf (slicesOf tableOne) 1 in
-    let bQ = questionsOf B 4 in
+    let oneQ = questions tableOne in
+    let bQ = questions tableB in
     let oneEnd = runVotes oneQ 1 0 (call 0 0 0 0 ∷ []) .state in
     let heardEnd = pass (step bQ 4 8) (call 0 0 0 0 ∷ call 0 1 1 0 ∷ call 0 2 2 0 ∷ call 1 1 0 0 ∷ call 1 2 0 0 ∷ []) (fresh 4) in
     -- A's quorums are 3, 7, 11, 15, 27, 31
