@@ -5,6 +5,7 @@ pub mod Lawful
 pub mod Decides
 pub mod Promises
 pub mod WholeQuorum
+pub mod Rounds
 pub mod Places
 pub mod HolderLaws
 pub mod Coincide

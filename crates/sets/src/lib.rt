@@ -2,7 +2,7 @@
 ghost use mathlib.Core.Path.{_≡_};
 ghost use mathlib.Core.Bool.{true, false, _&&_, cond};
 ghost use Prim.Native.Nat.{ℕ, _<_, _≤_};
-ghost use Rattle.masks.specs.Mask.{has, single, within};
+ghost use Rattle.masks.specs.Mask.{has, single, within, _∈_};
 ghost use Rattle.table.specs.Table.{countOf, sliceOf, Table};
 ghost use Rattle.sets.specs.Slices.{slicesOf};
 ghost use Rattle.sets.specs.Quorum.{quorum, round, largest, rounds};
@@ -71,16 +71,25 @@ fn stays(table: &[u64], n: usize, v: usize, w: u64, places: &mut [u8; 64]) -> u6
     0
 }
 
-// One round from w: the sites that stay. Each site's place moves on to its first slice that still holds.
+// The first member of a set that is not empty.
+fn first_member(m: u64) -> usize
+    requires { ⌜ (m ≡ 0 → ⊥) ⌝ }
+    ensures { λ r. ⌜ r ∈ m ⌝ }
+{
+    u64::trailing_zeros(m) as usize
+}
+
+// One round from w: the sites that stay, asked member by member. Each member's place moves on to its first slice that still holds.
 fn round_from(table: &[u64], n: usize, w: u64, places: &mut [u8; 64]) -> u64
     requires { ⌜ Table (now table) n × Passed (now table) n w (now places) ⌝ }
     ensures { λ r. ⌜ (r ≡ round (slicesOf (now (table .entry)) .inside) n w) × Passed (now (table .entry)) n w (now (places .exit)) ⌝ }
 {
     let mut stay = 0u64;
-    let mut v: usize = 0;
-    while v < n {
+    let mut rest = w & masks::all_below(n as u64);
+    while rest != 0 {
+        let v = first_member(rest);
         stay = stay | stays(table, n, v, w, places);
-        v += 1;
+        rest = masks::minus(rest, masks::single(v as u64));
     }
     stay
 }
