@@ -7,7 +7,7 @@ ghost use Rattle.image.specs.Write.{write, writeInto};
 ghost use Rattle.questions.specs.Answers.{quorum, largest, blocks, shared, intact};
 ghost use Rattle.records.specs.Pack.{bytesOf};
 ghost use Rattle.table.specs.Table.{check};
-ghost use Rattle.voting.specs.Inner.{call};
+ghost use Rattle.rules.specs.Inner.{call};
 ghost use Rattle.voting.specs.Step.{soundCheck, stepCheck, stepInto, toStepped};
 use records::Call;
 

@@ -17,7 +17,7 @@ use Rattle.text.proofs.Width.{length-decimal}
 use Rattle.text.proofs.Written.{then, written-nothing}
 use Rattle.text.specs.Text.{ascii, decimal}
 use Rattle.text.specs.Written.{Writes}
-use Rattle.voting.specs.State.{get, voted, accepted, confirmed}
+use Rattle.rules.specs.State.{get, voted, accepted, confirmed}
 
 -- the line of a site, by its mark
 pub site-drill : (drill live v : ℕ) → markOf v drill live ≡ 1 → ascii "site " ++ (decimal v ++ ascii " drill\n") ≡ siteLine drill live v

@@ -8,7 +8,7 @@ use Rattle.ground.specs.Pieces.{cat}
 use Rattle.lines.specs.Lines.{line, sides}
 use Rattle.mark.specs.Mark.{mark as markOf}
 use Rattle.text.specs.Text.{ascii, decimal, mask}
-use Rattle.voting.specs.State.{get, voted, accepted, confirmed}
+use Rattle.rules.specs.State.{get, voted, accepted, confirmed}
 
 -- `site V drill` where the site's mark is 1, else `site V live`
 unfoldable pub siteLine : ℕ → ℕ → ℕ → List ℕ

@@ -3,7 +3,7 @@ ghost use mathlib.Core.Path.{_≡_};
 ghost use Prim.Native.Nat.{_+_, _*_, _≤_};
 ghost use lib.ListN.{length};
 ghost use Rattle.ground.specs.Pieces.{cat};
-ghost use Rattle.voting.specs.State.{size};
+ghost use Rattle.rules.specs.State.{size};
 ghost use Rattle.text.specs.Written.{Writes};
 ghost use Rattle.register.specs.Register.{siteLine, callLine, callLines, stateLines, endLines};
 

@@ -20,7 +20,7 @@ use Rattle.run.proofs.RunWays.{Fits, fits}
 use Rattle.run.specs.Run.{runCheck, runOf, toRan, ran, stateInto, answersInto}
 use Rattle.run.specs.declared.Ran.{Ran}
 use Rattle.table.specs.Table.{sites}
-use Rattle.voting.specs.State.{size}
+use Rattle.rules.specs.State.{size}
 
 ran-taken : (s : Check) (q p : ℕ) → Ran.Passes p ≡ toRan s q → (s ≡ Sound) × (p ≡ q)
 ran-taken Sound q p h = (refl, cc)

@@ -7,7 +7,7 @@ use Rattle.register.specs.Register.{endLines}
 use Rattle.report.specs.Table.{tableOn, imageCheck, unless}
 use Rattle.run.specs.Run.{runCheck, runOf}
 use Rattle.table.specs.Table.{sites}
-use Rattle.voting.specs.State.{size}
+use Rattle.rules.specs.State.{size}
 
 -- of a table in memory: 10, then 17, then the lines. The rooms are for 64 sites and 4,096 calls, so that 9 does not arise.
 unfoldable pub ranText : ℕ → List ℕ → List ℕ → List ℕ

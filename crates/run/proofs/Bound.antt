@@ -24,11 +24,11 @@ use Rattle.run.proofs.Spent.{OfSide, Voted, proposals, of-side, Spent, 
 use Rattle.sets.specs.Paper.{Fbqs}
 use Rattle.sets.specs.Promises.{Questions}
 use Rattle.table.specs.Table.{sites}
-use Rattle.voting.proofs.SoundLaws.{fresh-sound, accepted-correct}
-use Rattle.voting.specs.Rules.{Call, step}
-use Rattle.voting.specs.Sound.{Sound}
-use Rattle.voting.specs.State.{voted, accepted, fresh, get}
-use Rattle.voting.specs.Theorems.{Rests}
+use Rattle.rules.proofs.SoundLaws.{fresh-sound, accepted-correct}
+use Rattle.rules.specs.Rules.{Call, step}
+use Rattle.rules.specs.Sound.{Sound}
+use Rattle.rules.specs.State.{voted, accepted, fresh, get}
+use Rattle.rules.specs.Theorems.{Rests}
 
 module _ {Σ : ℕ → Fbqs} {Q : Questions} {n : ℕ} (R : Rests Σ Q n) (F : ℕ) (l : List Call) where
   -- the state after so many passes

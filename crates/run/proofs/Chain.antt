@@ -21,7 +21,7 @@ use Rattle.sets.specs.Paper.{Quorum}
 use Rattle.sets.specs.Promises.{Questions, Promises, questionsOf}
 use Rattle.sets.specs.Slices.{fbqsOf, slicesOf}
 use Rattle.table.specs.Table.{siteOf, countOf, sliceOf, sites, Table}
-use Rattle.voting.specs.Theorems.{Rests}
+use Rattle.rules.specs.Theorems.{Rests}
 
 -- the other site of a site's slice, and the slice
 abbrev pub other : ℕ → ℕ

@@ -9,8 +9,8 @@ use Rattle.run.proofs.Loops.{iter-more}
 use Rattle.run.specs.Passes.{Run, pass, iter, answersOf}
 use Rattle.run.specs.Theorems.{IsRun, OnlyRun}
 use Rattle.sets.specs.Promises.{Questions}
-use Rattle.voting.specs.Rules.{Call, answer, step}
-use Rattle.voting.specs.State.{fresh}
+use Rattle.rules.specs.Rules.{Call, answer, step}
+use Rattle.rules.specs.State.{fresh}
 
 module _ {Q : Questions} {n F : ℕ} {l : List Call} where
   no-fewer : {r s : Run (List ℕ)} (A : IsRun Q n F l r) (B : IsRun Q n F l s) → B .changing < A .changing → ⊥

@@ -15,18 +15,18 @@ use Rattle.run.specs.Run.{runVotes}
 use Rattle.run.specs.Theorems.{propose, OneSided, Within}
 use Rattle.sets.specs.Paper.{Fbqs}
 use Rattle.sets.specs.Promises.{Questions}
-use Rattle.voting.proofs.Answer.{Takes, takes-later, step-cases}
-use Rattle.voting.proofs.Heard.{heard-grows}
-use Rattle.voting.proofs.Inner.{heard-still, still-or-heard}
-use Rattle.voting.proofs.SoundLaws.{fresh-sound}
-use Rattle.voting.proofs.State.{below-refl, below-trans, below-antisym, fresh-none, fresh-least}
-use Rattle.voting.proofs.Steps.{step-sound, step-adds, step-mono}
-use Rattle.voting.proofs.Taken.{taken-voted}
-use Rattle.voting.specs.Inner.{heard}
-use Rattle.voting.specs.Rules.{Call, answer, taken, step}
-use Rattle.voting.specs.Sound.{Sound}
-use Rattle.voting.specs.State.{voted, fresh, get, Below}
-use Rattle.voting.specs.Theorems.{Rests}
+use Rattle.rules.proofs.Answer.{Takes, takes-later, step-cases}
+use Rattle.rules.proofs.Heard.{heard-grows}
+use Rattle.rules.proofs.Inner.{heard-still, still-or-heard}
+use Rattle.rules.proofs.SoundLaws.{fresh-sound}
+use Rattle.rules.proofs.State.{below-refl, below-trans, below-antisym, fresh-none, fresh-least}
+use Rattle.rules.proofs.Steps.{step-sound, step-adds, step-mono}
+use Rattle.rules.proofs.Taken.{taken-voted}
+use Rattle.rules.specs.Inner.{heard}
+use Rattle.rules.specs.Rules.{Call, answer, taken, step}
+use Rattle.rules.specs.Sound.{Sound}
+use Rattle.rules.specs.State.{voted, fresh, get, Below}
+use Rattle.rules.specs.Theorems.{Rests}
 
 -- a straight proposal of c is the call that proposes its side to its site
 pub is-propose : (c : Call) → c .kind ≡ 0 → c .from ≡ c .to → propose (c .to) (c .side) ≡ c

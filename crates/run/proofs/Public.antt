@@ -16,11 +16,11 @@ use Rattle.run.proofs.RunWays.{Fits, fits}
 use Rattle.run.proofs.Turns.{length-answers}
 use Rattle.sets.specs.Slices.{fbqsOf}
 use Rattle.table.specs.Table.{sites}
-use Rattle.voting.proofs.StepWays.{table-rests}
-use Rattle.voting.specs.Rules.{Call}
-use Rattle.voting.specs.State.{size}
+use Rattle.rules.proofs.WorkWays.{table-rests}
+use Rattle.rules.specs.Rules.{Call}
+use Rattle.rules.specs.State.{size}
 use Rattle.voting.specs.Step.{questions}
-use Rattle.voting.specs.Theorems.{Rests}
+use Rattle.rules.specs.Theorems.{Rests}
 
 taken-inv : (q : Check) (k p : ℕ) → toRan q k ≡ Passes p → (q ≡ Sound) × (k ≡ p)
 taken-inv Sound k p e = (refl, cc)

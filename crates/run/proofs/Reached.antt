@@ -25,19 +25,19 @@ use Rattle.run.proofs.Passes.{pass-up}
 use Rattle.run.proofs.Stages.{link, links, back, longest, links-length, Stage, voted-0, takes-accept, heard-it, stage-pass}
 use Rattle.sets.specs.Paper.{Fbqs}
 use Rattle.sets.specs.Promises.{Questions}
-use Rattle.voting.proofs.Answer.{Takes, step-taken, step-not-taken}
-use Rattle.voting.proofs.Heard.{heard-grows}
-use Rattle.voting.proofs.Inner.{step-heard}
-use Rattle.voting.proofs.RuleLaws.{accepting-either}
-use Rattle.voting.proofs.SoundLaws.{fresh-sound, accepted-rule}
-use Rattle.voting.proofs.State.{fresh-none}
-use Rattle.voting.proofs.Steps.{step-sound, step-adds}
-use Rattle.voting.proofs.Taken.{taken-voted, taken-votes, taken-accepted}
-use Rattle.voting.specs.Inner.{call}
-use Rattle.voting.specs.Rules.{Call, others, accepting, taken, step}
-use Rattle.voting.specs.Sound.{Sound}
-use Rattle.voting.specs.State.{votes, accepts, voted, accepted, fresh, get}
-use Rattle.voting.specs.Theorems.{Rests}
+use Rattle.rules.proofs.Answer.{Takes, step-taken, step-not-taken}
+use Rattle.rules.proofs.Heard.{heard-grows}
+use Rattle.rules.proofs.Inner.{step-heard}
+use Rattle.rules.proofs.RuleLaws.{accepting-either}
+use Rattle.rules.proofs.SoundLaws.{fresh-sound, accepted-rule}
+use Rattle.rules.proofs.State.{fresh-none}
+use Rattle.rules.proofs.Steps.{step-sound, step-adds}
+use Rattle.rules.proofs.Taken.{taken-voted, taken-votes, taken-accepted}
+use Rattle.rules.specs.Inner.{call}
+use Rattle.rules.specs.Rules.{Call, others, accepting, taken, step}
+use Rattle.rules.specs.Sound.{Sound}
+use Rattle.rules.specs.State.{votes, accepts, voted, accepted, fresh, get}
+use Rattle.rules.specs.Theorems.{Rests}
 
 module _ {Σ : ℕ → Fbqs} {Q : Questions} (j : ℕ) (more : 1 ≤ j) (R : Rests Σ Q (suc j)) (C : Chained Q (suc j)) where
   abbrev n : ℕ

@@ -19,7 +19,7 @@ use Rattle.run.specs.declared.Ran.{Ran}
 use Rattle.run.specs.declared.Ran.the-variants.{Passes}
 use Rattle.table.proofs.SetCheck.{set-table}
 use Rattle.table.specs.Table.{sites, setCheck, Table}
-use Rattle.voting.specs.State.{size}
+use Rattle.rules.specs.State.{size}
 use Rattle.voting.specs.Step.{questions}
 
 -- the check of a run: table, 10, 17, 9

@@ -15,17 +15,17 @@ use Rattle.run.proofs.Order.{spends}
 use Rattle.run.proofs.Passes.{pass-still, pass-up}
 use Rattle.sets.specs.Paper.{Fbqs}
 use Rattle.sets.specs.Promises.{Questions}
-use Rattle.voting.proofs.Answer.{Takes, takes-later, takes-earlier, step-cases}
-use Rattle.voting.proofs.Heard.{heard-grows}
-use Rattle.voting.proofs.Inner.{heard-still, step-heard}
-use Rattle.voting.proofs.State.{below-refl, below-trans}
-use Rattle.voting.proofs.Steps.{step-sound, step-adds}
-use Rattle.voting.proofs.Taken.{taken-voted, taken-accepted}
-use Rattle.voting.specs.Inner.{heard}
-use Rattle.voting.specs.Rules.{Call, taken, step}
-use Rattle.voting.specs.Sound.{Sound}
-use Rattle.voting.specs.State.{voted, accepted, get, Below}
-use Rattle.voting.specs.Theorems.{Rests}
+use Rattle.rules.proofs.Answer.{Takes, takes-later, takes-earlier, step-cases}
+use Rattle.rules.proofs.Heard.{heard-grows}
+use Rattle.rules.proofs.Inner.{heard-still, step-heard}
+use Rattle.rules.proofs.State.{below-refl, below-trans}
+use Rattle.rules.proofs.Steps.{step-sound, step-adds}
+use Rattle.rules.proofs.Taken.{taken-voted, taken-accepted}
+use Rattle.rules.specs.Inner.{heard}
+use Rattle.rules.specs.Rules.{Call, taken, step}
+use Rattle.rules.specs.Sound.{Sound}
+use Rattle.rules.specs.State.{voted, accepted, get, Below}
+use Rattle.rules.specs.Theorems.{Rests}
 
 -- Calls of the sort P: they alone put a site at the places I, and besides the other side's votes only what stands there decides whether they are
 -- taken.

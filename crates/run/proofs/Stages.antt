@@ -18,18 +18,18 @@ use Rattle.run.proofs.Chain.{Chained}
 use Rattle.run.proofs.Passes.{pass-still}
 use Rattle.sets.specs.Paper.{Fbqs}
 use Rattle.sets.specs.Promises.{Questions}
-use Rattle.voting.proofs.Answer.{Takes, step-taken, step-not-taken}
-use Rattle.voting.proofs.Heard.{heard-proposal, heard-vote, heard-accept, heard-grows}
-use Rattle.voting.proofs.Inner.{heard-still, step-heard}
-use Rattle.voting.proofs.RuleLaws.{by-quorum, by-blocked}
-use Rattle.voting.proofs.SoundLaws.{voted-heard, rule-accepted}
-use Rattle.voting.proofs.Steps.{step-sound, step-adds}
-use Rattle.voting.proofs.Taken.{taken-accepts, taken-accepted}
-use Rattle.voting.specs.Inner.{call, heard}
-use Rattle.voting.specs.Rules.{Call, others, step}
-use Rattle.voting.specs.Sound.{Sound}
-use Rattle.voting.specs.State.{votes, accepts, voted, accepted, get}
-use Rattle.voting.specs.Theorems.{Rests}
+use Rattle.rules.proofs.Answer.{Takes, step-taken, step-not-taken}
+use Rattle.rules.proofs.Heard.{heard-proposal, heard-vote, heard-accept, heard-grows}
+use Rattle.rules.proofs.Inner.{heard-still, step-heard}
+use Rattle.rules.proofs.RuleLaws.{by-quorum, by-blocked}
+use Rattle.rules.proofs.SoundLaws.{voted-heard, rule-accepted}
+use Rattle.rules.proofs.Steps.{step-sound, step-adds}
+use Rattle.rules.proofs.Taken.{taken-accepts, taken-accepted}
+use Rattle.rules.specs.Inner.{call, heard}
+use Rattle.rules.specs.Rules.{Call, others, step}
+use Rattle.rules.specs.Sound.{Sound}
+use Rattle.rules.specs.State.{votes, accepts, voted, accepted, get}
+use Rattle.rules.specs.Theorems.{Rests}
 
 -- the call by which site k is to accept
 abbrev pub link : ℕ → Call

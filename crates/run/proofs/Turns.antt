@@ -26,14 +26,14 @@ use Rattle.run.specs.Passes.{Run, pass, iter, answersOf, run}
 use Rattle.run.specs.Run.{calls, callAt, runVotes}
 use Rattle.sets.specs.Paper.{Fbqs}
 use Rattle.sets.specs.Promises.{Questions}
-use Rattle.voting.proofs.SoundLaws.{fresh-sound}
-use Rattle.voting.proofs.State.{below-antisym}
-use Rattle.voting.proofs.Steps.{step-sound}
-use Rattle.voting.specs.Inner.{call, Works}
-use Rattle.voting.specs.Rules.{Call, answer, step}
-use Rattle.voting.specs.Sound.{Sound}
-use Rattle.voting.specs.State.{size, fresh, Below}
-use Rattle.voting.specs.Theorems.{Rests}
+use Rattle.rules.proofs.SoundLaws.{fresh-sound}
+use Rattle.rules.proofs.State.{below-antisym}
+use Rattle.rules.proofs.Steps.{step-sound}
+use Rattle.rules.specs.Inner.{call, Works}
+use Rattle.rules.specs.Rules.{Call, answer, step}
+use Rattle.rules.specs.Sound.{Sound}
+use Rattle.rules.specs.State.{size, fresh, Below}
+use Rattle.rules.specs.Theorems.{Rests}
 
 -- a call read from four bytes of the list is its call i
 pub works-at : (Q : Questions) (n F i : ℕ) (list : List ℕ) {k f v d : ℕ} {a : Check} {b : Bool} {s s₁ : List ℕ} → k ≡ getD list (4 * i) 0 →

@@ -21,15 +21,15 @@ use Rattle.run.proofs.Order.{spends}
 use Rattle.run.proofs.Passes.{pass-up}
 use Rattle.sets.specs.Paper.{Fbqs}
 use Rattle.sets.specs.Promises.{Questions}
-use Rattle.voting.proofs.Answer.{Takes, takes, takes-answer, takes-later, Refuses, refused, answered, step-refused}
-use Rattle.voting.proofs.Heard.{heard-grows, heard-proposal}
-use Rattle.voting.proofs.Inner.{step-heard}
-use Rattle.voting.proofs.State.{below-trans}
-use Rattle.voting.proofs.Steps.{step-sound, step-adds, taken-stays}
-use Rattle.voting.specs.Rules.{Call, against, answer, step}
-use Rattle.voting.specs.Sound.{Sound}
-use Rattle.voting.specs.State.{voted, get, Below}
-use Rattle.voting.specs.Theorems.{Rests}
+use Rattle.rules.proofs.Answer.{Takes, takes, takes-answer, takes-later, Refuses, refused, answered, step-refused}
+use Rattle.rules.proofs.Heard.{heard-grows, heard-proposal}
+use Rattle.rules.proofs.Inner.{step-heard}
+use Rattle.rules.proofs.State.{below-trans}
+use Rattle.rules.proofs.Steps.{step-sound, step-adds, taken-stays}
+use Rattle.rules.specs.Rules.{Call, against, answer, step}
+use Rattle.rules.specs.Sound.{Sound}
+use Rattle.rules.specs.State.{voted, get, Below}
+use Rattle.rules.specs.Theorems.{Rests}
 
 -- a site that has voted for a side has not voted for the other
 one-side : {Q : Questions} {n F : ℕ} {s : List ℕ} {v : ℕ} → Sound Q n F s → (side : ℕ) → side < 2 → v ∈ get s (voted n side) →

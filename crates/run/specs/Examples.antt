@@ -14,9 +14,9 @@ use Rattle.sets.specs.Promises.{questionsOf}
 use Rattle.sets.specs.Quorum.{quorum, round, left, dropping, largest, rounds}
 use Rattle.sets.specs.Slices.{slicesOf}
 use Rattle.sets.specs.Verdicts.{beside, apart, firstApart, meets, dispensable, isIntact, intact}
-use Rattle.voting.specs.Inner.{call}
-use Rattle.voting.specs.Rules.{accepting, confirming, nowAccepts, nowConfirms, hears, taken, outOfRange, crooked, against, unsent, answer, step}
-use Rattle.voting.specs.State.{accepted, confirmed, fresh, get, add}
+use Rattle.rules.specs.Inner.{call}
+use Rattle.rules.specs.Rules.{accepting, confirming, nowAccepts, nowConfirms, hears, taken, outOfRange, crooked, against, unsent, answer, step}
+use Rattle.rules.specs.State.{accepted, confirmed, fresh, get, add}
 use Rattle.voting.specs.Step.{questions}
 
 -- the 63 numbers of a site with these slices

@@ -10,10 +10,10 @@ use Rattle.refusals.specs.Refusal.{code}
 use Rattle.run.specs.Passes.{pass, iter, answersOf}
 use Rattle.run.specs.Run.{calls, callAt, runVotes}
 use Rattle.sets.specs.Promises.{Questions}
-use Rattle.voting.specs.Inner.{Works}
-use Rattle.voting.specs.Rules.{Call, answer, step}
-use Rattle.voting.specs.Sound.{Sound}
-use Rattle.voting.specs.State.{fresh, Below}
+use Rattle.rules.specs.Inner.{Works}
+use Rattle.rules.specs.Rules.{Call, answer, step}
+use Rattle.rules.specs.Sound.{Sound}
+use Rattle.rules.specs.State.{fresh, Below}
 
 -- no call of the pass changed anything
 module _ {S C : Type 0} (step : C → S → S) (same : S → S → Bool) where

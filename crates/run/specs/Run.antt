@@ -16,8 +16,8 @@ use Rattle.run.specs.declared.Ran.{Ran}
 use Rattle.run.specs.declared.Ran.the-variants.{Passes}
 use Rattle.sets.specs.Promises.{Questions}
 use Rattle.table.specs.Table.{sites, setCheck}
-use Rattle.voting.specs.Rules.{Call, answer, step}
-use Rattle.voting.specs.State.{size, fresh}
+use Rattle.rules.specs.Rules.{Call, answer, step}
+use Rattle.rules.specs.State.{size, fresh}
 use Rattle.voting.specs.Step.{questions}
 
 -- "The list is first given as bytes, four a call": kind, from, to, side. A rest of fewer than four bytes is no call.

@@ -10,8 +10,8 @@ use Rattle.run.specs.Run.{calls, callAt, runVotes, ran, stateInto, answe
 use Rattle.run.specs.declared.Ran.the-variants.{Passes}
 use Rattle.sets.specs.Promises.{Questions}
 use Rattle.table.specs.Table.{sites, Table}
-use Rattle.voting.specs.Rules.{Call, answer, step}
-use Rattle.voting.specs.State.{size, fresh, Below}
+use Rattle.rules.specs.Rules.{Call, answer, step}
+use Rattle.rules.specs.State.{size, fresh, Below}
 use Rattle.voting.specs.Step.{questions}
 
 -- "the list proposes both sides to no correct site"

@@ -6,9 +6,9 @@ ghost use lib.ListN.{length, getD, set, replicate};
 ghost use Rattle.table.specs.Table.{Table};
 ghost use Rattle.sets.specs.Slices.{slicesOf};
 ghost use Rattle.sets.specs.Promises.{questionsOf};
-ghost use Rattle.voting.specs.State.{size, fresh};
-ghost use Rattle.voting.specs.Sound.{Sound};
-ghost use Rattle.voting.specs.Inner.{Works};
+ghost use Rattle.rules.specs.State.{size, fresh};
+ghost use Rattle.rules.specs.Sound.{Sound};
+ghost use Rattle.rules.specs.Inner.{Works};
 ghost use Rattle.run.specs.Run.{calls, callAt, runCheck, ran, stateInto, answersInto};
 ghost use Rattle.run.specs.Inner.{Passed, Listed, Again, Waiting, PassedAgain, Begun, Whole};
 use refusals::Check;
@@ -60,7 +60,7 @@ fn work_at(
     list: &[u8],
     i: usize,
     state: &mut [u64],
-) -> voting::Worked
+) -> taking::Worked
     requires { ⌜ Table (now table) n × Sound (questionsOf (slicesOf (now table)) n) n faulty (now state) × (4 * i + 3 < length (now list)) ⌝ }
     ensures { λ r. ⌜ Works (questionsOf (slicesOf (now (table .entry))) n) n faulty (callAt (now (list .entry)) i) (now (state .entry)) (r .answer) (r .changed) (now (state .exit)) ⌝ }
 {
@@ -68,14 +68,14 @@ fn work_at(
     let from = wide(list[4 * i + 1]);
     let to = wide(list[4 * i + 2]);
     let side = wide(list[4 * i + 3]);
-    let a = voting::answers::answer(n, faulty, state, kind, from, to, side);
+    let a = answers::answer(n, faulty, state, kind, from, to, side);
     let Check::Sound = a else {
-        return voting::Worked {
+        return taking::Worked {
             answer: a,
             changed: false,
         };
     };
-    voting::work(table, n, faulty, state, kind, from, to, side)
+    taking::work(table, n, faulty, state, kind, from, to, side)
 }
 
 // One pass over the list, from the first call to the last: whether it changed the state. One answer a call.

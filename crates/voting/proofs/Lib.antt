@@ -1,17 +1,2 @@
-pub mod State
-pub mod RuleLaws
-pub mod Alone
-pub mod Receiver
-pub mod Heard
-pub mod Answer
-pub mod SoundLaws
-pub mod Taken
-pub mod Kept
-pub mod Inner
-pub mod Steps
-pub mod Exact
 pub mod StepWays
 pub mod Coincide
-pub mod Ways
-pub mod Asked
-pub mod Since

@@ -9,8 +9,8 @@ use Rattle.refusals.specs.declared.Refusal.the-variants.{Unsound}
 use Rattle.sets.specs.Promises.{Questions, questionsOf}
 use Rattle.sets.specs.Slices.{slicesOf}
 use Rattle.table.specs.Table.{sites, setCheck}
-use Rattle.voting.specs.Rules.{Call, answer, step, ifTaken}
-use Rattle.voting.specs.Sound.{unsound}
+use Rattle.rules.specs.Rules.{Call, answer, step, ifTaken}
+use Rattle.rules.specs.Sound.{unsound}
 use Rattle.voting.specs.declared.Stepped.{Stepped}
 use Rattle.voting.specs.declared.Stepped.the-variants.{Taken}
 

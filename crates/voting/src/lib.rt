@@ -3,60 +3,16 @@ ghost use mathlib.Core.Path.{_≡_};
 ghost use Rattle.table.specs.Table.{Table};
 ghost use Rattle.sets.specs.Slices.{slicesOf};
 ghost use Rattle.sets.specs.Promises.{questionsOf};
-ghost use Rattle.voting.specs.Sound.{Sound};
+ghost use Rattle.rules.specs.Sound.{Sound};
 ghost use Rattle.voting.specs.Step.{soundCheck, stepCheck, toStepped, stepInto};
-ghost use Rattle.voting.specs.Inner.{call, Works};
+ghost use Rattle.rules.specs.Inner.{call, Works};
 use refusals::Check;
 use refusals::Refusal;
-
-pub mod answers;
-mod rules;
-mod soundness;
 
 // A call was taken, or refused.
 pub enum Stepped {
     Taken,
     Refused(Refusal),
-}
-
-// The answer of a call, and whether it changed the state.
-pub struct Worked {
-    pub answer: Check,
-    pub changed: bool,
-}
-
-// One call on a sound state. A call whose bit is heard already changes nothing and is not worked out again.
-pub fn work(
-    table: &[u64],
-    n: usize,
-    faulty: u64,
-    state: &mut [u64],
-    kind: usize,
-    from: usize,
-    to: usize,
-    side: usize,
-) -> Worked
-    requires { ⌜ Table (now table) n × Sound (questionsOf (slicesOf (now table)) n) n faulty (now state) ⌝ }
-    ensures { λ r. ⌜ Works (questionsOf (slicesOf (now (table .entry))) n) n faulty (call kind from to side) (now (state .entry)) (r .answer) (r .changed) (now (state .exit)) ⌝ }
-{
-    let a = answers::answer(n, faulty, state, kind, from, to, side);
-    let Check::Sound = a else {
-        return Worked {
-            answer: a,
-            changed: false,
-        };
-    };
-    if answers::is_heard(n, state, kind, from, to, side) {
-        return Worked {
-            answer: a,
-            changed: false,
-        };
-    }
-    rules::take(table, n, state, kind, from, to, side);
-    Worked {
-        answer: a,
-        changed: true,
-    }
 }
 
 // The soundness of a state: table, 10, 18.
@@ -99,7 +55,7 @@ pub fn step(
         return Stepped::Refused(r);
     }
     let n = table.len() / 63;
-    let w = work(
+    let w = taking::work(
         table,
         n,
         faulty,

@@ -9,7 +9,7 @@ use Rattle.run.proofs.Rounds.{amid-none, amid-below, amid-waits, amid-m
 use Rattle.run.specs.Inner.{Amid}
 use Rattle.sets.specs.Promises.{questionsOf}
 use Rattle.sets.specs.Slices.{slicesOf}
-use Rattle.voting.proofs.StepWays.{table-rests}
+use Rattle.rules.proofs.WorkWays.{table-rests}
 use Rattle.run.proofs.pass_again.Statement.{statement}
 use Rattle.run.proofs.pass_again.Tie as tie
 

@@ -8,7 +8,7 @@ use Rattle.run.proofs.Turns.{after-none, after-more, after-all}
 use Rattle.run.specs.Inner.{After}
 use Rattle.sets.specs.Promises.{questionsOf}
 use Rattle.sets.specs.Slices.{slicesOf}
-use Rattle.voting.proofs.StepWays.{table-rests}
+use Rattle.rules.proofs.WorkWays.{table-rests}
 use Rattle.run.proofs.pass_over.Statement.{statement}
 use Rattle.run.proofs.pass_over.Tie as tie
 

@@ -3,7 +3,7 @@ use Prim.Native.Nat.{ℕ}
 use mathlib.Core.Path.{ap, _∙_}
 use borrow.Author.Needs.{needs}
 use lib.ListN.{replicate}
-use Rattle.voting.specs.State.{fresh}
+use Rattle.rules.specs.State.{fresh}
 use Rattle.run.proofs.run_cleared.Statement.{statement}
 use Rattle.run.proofs.run_cleared.Tie as tie
 

@@ -8,7 +8,7 @@ use denote.Ref.{now}
 use lib.ListN.{length, replicate, length-replicate}
 use Rattle.run.proofs.Turns.{going-none, going-more, going-done, passed-long, passed-told}
 use Rattle.run.specs.Run.{calls}
-use Rattle.voting.proofs.StepWays.{table-rests}
+use Rattle.rules.proofs.WorkWays.{table-rests}
 use Rattle.run.proofs.run_fresh.Statement.{statement}
 use Rattle.run.proofs.run_fresh.Tie as tie
 

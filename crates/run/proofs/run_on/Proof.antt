@@ -11,7 +11,7 @@ use Rattle.run.specs.Inner.{Listed, Told, Going}
 use Rattle.run.specs.Run.{calls}
 use Rattle.sets.specs.Promises.{questionsOf}
 use Rattle.sets.specs.Slices.{slicesOf}
-use Rattle.voting.proofs.StepWays.{table-rests}
+use Rattle.rules.proofs.WorkWays.{table-rests}
 use Rattle.run.proofs.run_on.Statement.{statement}
 use Rattle.run.proofs.run_on.Tie as tie
 

@@ -4,8 +4,8 @@ use denote.Ref.{now}
 use Rattle.run.proofs.Turns.{works-at}
 use Rattle.sets.specs.Promises.{questionsOf}
 use Rattle.sets.specs.Slices.{slicesOf}
-use Rattle.voting.proofs.Inner.{works-refused}
-use Rattle.voting.specs.Inner.{call}
+use Rattle.rules.proofs.Inner.{works-refused}
+use Rattle.rules.specs.Inner.{call}
 use Rattle.run.proofs.work_at.Statement.{statement}
 use Rattle.run.proofs.work_at.Tie as tie
 

@@ -1,0 +1,116 @@
+// The answer of a call: 11, 13, 12, 14, 15, or taken.
+ghost use mathlib.Core.Path.{_≡_};
+ghost use Prim.Native.Nat.{_≤_};
+ghost use lib.ListN.{length};
+ghost use Rattle.rules.specs.State.{size};
+ghost use Rattle.rules.specs.Rules.{outOfRange, crooked, against, unsent, answer};
+ghost use Rattle.rules.specs.Inner.{call, InRange, heard};
+use refusals::Check;
+use refusals::Refusal;
+
+// A site at or above n, a kind over 2, a side over 1.
+fn is_out_of_range(n: usize, kind: usize, from: usize, to: usize, side: usize) -> bool
+    ensures { λ r. ⌜ r ≡ outOfRange n (call kind from to side) ⌝ }
+{
+    if n <= from {
+        return true;
+    }
+    if n <= to {
+        return true;
+    }
+    if 2 < kind {
+        return true;
+    }
+    1 < side
+}
+
+// A proposal whose from and to differ.
+fn is_crooked(kind: usize, from: usize, to: usize, side: usize) -> bool
+    ensures { λ r. ⌜ r ≡ crooked (call kind from to side) ⌝ }
+{
+    if kind == 0 {
+        return from != to;
+    }
+    false
+}
+
+// A proposal to a site that has voted for the other side.
+fn is_against(n: usize, state: &[u64], kind: usize, from: usize, to: usize, side: usize) -> bool
+    requires { ⌜ (length (now state) ≡ size n) × (n ≤ 64) × InRange n (call kind from to side) ⌝ }
+    ensures { λ r. ⌜ r ≡ against n (call kind from to side) (now (state .entry)) ⌝ }
+{
+    if kind == 0 {
+        return masks::has(state[4 * n + (1 - side)], to as u64);
+    }
+    false
+}
+
+// A vote or accept that a correct sender has not sent.
+fn is_unsent(
+    n: usize,
+    faulty: u64,
+    state: &[u64],
+    kind: usize,
+    from: usize,
+    to: usize,
+    side: usize,
+) -> bool
+    requires { ⌜ (length (now state) ≡ size n) × (n ≤ 64) × InRange n (call kind from to side) ⌝ }
+    ensures { λ r. ⌜ r ≡ unsent n faulty (call kind from to side) (now (state .entry)) ⌝ }
+{
+    if kind == 0 {
+        return false;
+    }
+    if masks::has(faulty, from as u64) {
+        return false;
+    }
+    if kind == 1 {
+        return !masks::has(state[4 * n + side], from as u64);
+    }
+    !masks::has(state[4 * n + 2 + side], from as u64)
+}
+
+// The first refusal of a call, or sound.
+pub fn answer(
+    n: usize,
+    faulty: u64,
+    state: &[u64],
+    kind: usize,
+    from: usize,
+    to: usize,
+    side: usize,
+) -> Check
+    requires { ⌜ (length (now state) ≡ size n) × (n ≤ 64) ⌝ }
+    ensures { λ r. ⌜ r ≡ answer n faulty (call kind from to side) (now (state .entry)) ⌝ }
+{
+    if is_out_of_range(n, kind, from, to, side) {
+        return Check::Refused(Refusal::Range);
+    }
+    if is_crooked(kind, from, to, side) {
+        return Check::Refused(Refusal::Proposal);
+    }
+    if masks::has(faulty, to as u64) {
+        return Check::Refused(Refusal::Receiver);
+    }
+    if is_against(n, state, kind, from, to, side) {
+        return Check::Refused(Refusal::Voted);
+    }
+    if is_unsent(n, faulty, state, kind, from, to, side) {
+        return Check::Refused(Refusal::Unsent);
+    }
+    Check::Sound
+}
+
+// The bit that a call sets is set already.
+pub fn is_heard(n: usize, state: &[u64], kind: usize, from: usize, to: usize, side: usize) -> bool
+    requires { ⌜ (length (now state) ≡ size n) × (n ≤ 64) × InRange n (call kind from to side) ⌝ }
+    ensures { λ r. ⌜ r ≡ heard n (call kind from to side) (now (state .entry)) ⌝ }
+{
+    if kind == 0 {
+        return masks::has(state[4 * n + side], to as u64);
+    }
+    if kind == 1 {
+        return masks::has(state[4 * to + side], from as u64);
+    }
+    masks::has(state[4 * to + 2 + side], from as u64)
+}

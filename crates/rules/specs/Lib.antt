@@ -1,0 +1,5 @@
+pub mod State
+pub mod Rules
+pub mod Sound
+pub mod Theorems
+pub mod Inner

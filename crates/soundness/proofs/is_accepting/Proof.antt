@@ -1,0 +1,41 @@
+-- `is_accepting` meets its contract: blocked, or else by a quorum.
+use mathlib.Core.Path.{sym, _∙_}
+use borrow.Author.Needs.{needs}
+use denote.Ref.{now}
+use Rattle.sets.proofs.Promises.{blocked-asked}
+use Rattle.sets.specs.Promises.{questionsOf}
+use Rattle.sets.specs.Slices.{slicesOf}
+use Rattle.rules.proofs.WorkWays.{accepts-by-blocking, accepts-by-quorum}
+use Rattle.soundness.proofs.is_accepting.Statement.{statement}
+use Rattle.soundness.proofs.is_accepting.Tie as tie
+
+returns : tie.Need-returns
+returns c =
+    let b = c .before .before .before .before .before in
+    let a = b .args in
+    let o = c .before .before .minus in (
+      accepts-by-blocking (questionsOf (slicesOf (now (a .table))) (a .n)) (a .v) (a .votes) (a .accepts) (c .before .before .before .single .ensures) (o .ensures)
+          (sym (blocked-asked (slicesOf (now (a .table))) (a .n) (a .v) (o .result)) ∙ sym (c .before .blocks2 .ensures) ∙ c .if1 .taken),
+      b .pre .2,
+    )
+
+returns-2 : tie.Need-returns-2
+returns-2 c =
+    let a = c .before .before .before .before .before .before .before .args in
+    let o = c .before .before .before .before .minus in (
+      c .belongs .ensures .0
+          ∙ accepts-by-quorum (questionsOf (slicesOf (now (a .table))) (a .n)) (a .v) (a .votes) (a .accepts) (c .before .before .before .before .before .single .ensures) (o .ensures)
+          (sym (blocked-asked (slicesOf (now (a .table))) (a .n) (a .v) (o .result)) ∙ sym (c .before .before .before .blocks2 .ensures) ∙ c .before .before .if1 .left),
+      c .belongs .ensures .1,
+    )
+
+pub is-accepting-spec : {M : Type 1} → statement M
+is-accepting-spec =
+    tie.close
+    (tie.spec
+    (λ c κs. search needs)
+    (λ c κs. search needs)
+    (λ c κs. search needs)
+    returns
+    (λ c κs. search needs)
+    returns-2)

@@ -1,0 +1,14 @@
+-- Two results that meet the contract of `work` coincide: the answer, whether the state changed, and the state at exit.
+use Prim.Native.Nat.{ℕ}
+use mathlib.Core.List.{List}
+use mathlib.Core.Path.{sym, _∙_}
+use denote.Ref.{now}
+use Rattle.ground.specs.Coincide.{All}
+use Rattle.taking.proofs.work.Kinds as work-kinds
+use Rattle.taking.proofs.work.Reads as work-reads
+
+pub work-coincide : All work-kinds.ps work-kinds.r (List ℕ) (λ κs s. now (s .1 .1 .1 .0)) work-reads.Post
+work-coincide κs a x y s t p q = (
+  λ i. record { answer = (p .answers-so ∙ sym (q .answers-so)) i; changed = (p .changes ∙ sym (q .changes)) i },
+  p .state ∙ sym (q .state),
+)
