@@ -4,7 +4,8 @@ ghost use Prim.Native.Nat.{_≤_};
 ghost use lib.ListN.{length};
 ghost use Rattle.rules.specs.State.{size};
 ghost use Rattle.rules.specs.Rules.{outOfRange, crooked, against, unsent, answer};
-ghost use Rattle.rules.specs.Inner.{call, InRange, heard};
+ghost use Rattle.rules.specs.Inner.{InRange, heard};
+ghost use Rattle.votes.specs.Call.{call};
 use refusals::Check;
 use refusals::Refusal;
 

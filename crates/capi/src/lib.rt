@@ -7,8 +7,8 @@ ghost use Rattle.image.specs.Write.{write, writeInto};
 ghost use Rattle.questions.specs.Answers.{quorum, largest, blocks, shared, intact};
 ghost use Rattle.records.specs.Pack.{bytesOf};
 ghost use Rattle.table.specs.Table.{check};
-ghost use Rattle.rules.specs.Inner.{call};
 ghost use Rattle.voting.specs.Step.{soundCheck, stepCheck, stepInto, toStepped};
+ghost use Rattle.votes.specs.Call.{call};
 use records::Call;
 
 mod say;

@@ -18,8 +18,11 @@ use Rattle.refusals.specs.declared.Refusal.{Refusal}
 use Rattle.refusals.specs.declared.Refusal.the-variants.{Range, Receiver, Proposal, Voted, Unsent}
 use Rattle.sets.specs.Promises.{Questions}
 use Rattle.rules.specs.Inner.{InRange}
-use Rattle.rules.specs.Rules.{Call, outOfRange, crooked, against, unsent, answer, taken, step}
+use Rattle.rules.specs.Rules.{outOfRange, crooked, against, unsent, answer, taken}
 use Rattle.rules.specs.State.{voted, accepted, get, Below}
+use Rattle.votes.specs.Call.{Call}
+use Rattle.votes.specs.Vote.{step}
+use Rattle.rules.specs.Vote.{vote}
 
 -- each test, in facts
 
@@ -168,19 +171,17 @@ module _ (n F : ℕ) (c : Call) (s : List ℕ) where
 
   -- the state after a call: a refused one leaves it as it was
   module _ (Q : Questions) where
-    pub step-taken : Takes n F c s → step Q n F c s ≡ taken Q n c s
-    unfolding step
+    pub step-taken : Takes n F c s → step (vote Q n F) c s ≡ taken Q n c s
     step-taken t = rw (takes-answer t) refl
 
-    pub step-refused : {r : Refusal} → answer n F c s ≡ Refused r → step Q n F c s ≡ s
-    unfolding step
+    pub step-refused : {r : Refusal} → answer n F c s ≡ Refused r → step (vote Q n F) c s ≡ s
     step-refused e = rw e refl
 
-    pub step-cases : (step Q n F c s ≡ s) ⊎ (Takes n F c s × (step Q n F c s ≡ taken Q n c s))
+    pub step-cases : (step (vote Q n F) c s ≡ s) ⊎ (Takes n F c s × (step (vote Q n F) c s ≡ taken Q n c s))
     step-cases = ⊎-elim (λ e. let t = takes e in inr (t, step-taken t)) (λ x. inl (step-refused (refused (x .1)))) answered
 
     -- a call that cannot be taken changes nothing
-    pub step-not-taken : (Takes n F c s → ⊥) → step Q n F c s ≡ s
+    pub step-not-taken : (Takes n F c s → ⊥) → step (vote Q n F) c s ≡ s
     step-not-taken f = ⊎-elim (λ e. e) (λ x. absurd (f (x .0))) step-cases
 
 -- a call that is taken is taken in each later state, if a proposal is still not for the other side

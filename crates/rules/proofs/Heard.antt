@@ -12,10 +12,11 @@ use Rattle.masks.proofs.Laws.Single.{∈-single, single-∈, single-⊆}
 use Rattle.masks.proofs.Laws.Subsets.{mem, ⊆-refl, ⊆-antisym}
 use Rattle.masks.specs.Mask.{has, single, _∈_}
 use Rattle.rules.specs.Inner.{InRange, heard}
-use Rattle.rules.specs.Rules.{Call, hears}
+use Rattle.rules.specs.Rules.{hears}
 use Rattle.rules.specs.State.{votes, accepts, voted, size, get, add, Below}
 use Rattle.rules.proofs.Alone.{Alone, alone-trans, alone-votes, alone-accepts, alone-voted}
 use Rattle.rules.proofs.State.{length-add, add-adds, add-grows, add-still, add-there, add-cases}
+use Rattle.votes.specs.Call.{Call}
 
 -- by the kind of the call
 module _ (n : ℕ) (c : Call) (s : List ℕ) where

@@ -10,7 +10,7 @@ use Rattle.masks.proofs.Laws.Subsets.{mem}
 use Rattle.masks.specs.Mask.{has, _∈_}
 use Rattle.sets.specs.Paper.{Fbqs}
 use Rattle.sets.specs.Promises.{Questions, Promises}
-use Rattle.rules.specs.Rules.{Call, accepting, confirming, taken}
+use Rattle.rules.specs.Rules.{accepting, confirming, taken}
 use Rattle.rules.specs.Sound.{Sound}
 use Rattle.rules.specs.State.{votes, accepts, voted, accepted, confirmed, get}
 use Rattle.rules.proofs.Alone.{Alone, Other, here-or-other, same-votes, same-accepts, same-voted, same-accepted, same-confirmed}
@@ -19,6 +19,7 @@ use Rattle.rules.proofs.Heard.{proposal-heard}
 use Rattle.rules.proofs.SoundLaws.{voted-heard, accepted-heard, accepted-rule, confirmed-rule}
 use Rattle.rules.proofs.Taken.{taken-alone, votes-kept, acceptsNow-kept, taken-below, taken-voted, accepts-cases, accepted-cases, confirmed-cases, accepted-there, accepts-there, confirmed-there, heard-voted, heard-accepted}
 use Rattle.rules.proofs.Receiver.{acceptsNow, confirmsNow, acceptsNow-grows, confirmsNow-grows}
+use Rattle.votes.specs.Call.{Call}
 
 module _ {Q : Questions} {n F : ℕ} {c : Call} {s : List ℕ} (S : Sound Q n F s) (K : Takes n F c s) where
   abbrev v : ℕ

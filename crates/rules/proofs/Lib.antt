@@ -13,4 +13,3 @@ pub mod Exact
 pub mod Ways
 pub mod Since
 pub mod WorkWays
-pub mod Asked

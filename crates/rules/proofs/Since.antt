@@ -12,18 +12,18 @@ use Rattle.ground.proofs.Numbers.{same?}
 use Rattle.masks.proofs.Laws.Single.{not-in, ∈-eq, ∈-or}
 use Rattle.masks.proofs.Laws.Subsets.{mem, or-⊆-l, or-⊆-r, minus-⊆, ∈-minus, minus-not-in}
 use Rattle.masks.specs.Mask.{has, single, minus, _∈_}
-use Rattle.sets.specs.Promises.{Questions, questionsOf}
-use Rattle.sets.specs.Slices.{slicesOf}
-use Rattle.table.specs.Table.{Table}
+use Rattle.sets.proofs.Without.{without}
+use Rattle.sets.specs.Paper.{Fbqs}
+use Rattle.sets.specs.Promises.{Questions, Promises}
 use Rattle.rules.specs.Inner.{InRange, New, Since}
-use Rattle.rules.specs.Rules.{Call, others, accepting, hears, nowAccepts}
+use Rattle.rules.specs.Rules.{others, accepting, hears, nowAccepts}
 use Rattle.rules.specs.Sound.{Sound}
 use Rattle.rules.specs.State.{votes, accepts, accepted, confirmed, size, get}
-use Rattle.rules.proofs.Asked.{without}
 use Rattle.rules.proofs.Heard.{hears-alone, hears-cases, hears-kept, says-votes, says-accepts}
 use Rattle.rules.proofs.Receiver.{nowAccepts-alone, nowAccepts-cases, nowAccepts-accepts}
 use Rattle.rules.proofs.RuleLaws.{others-found, by-quorum, by-blocked}
 use Rattle.rules.proofs.SoundLaws.{accepted-heard, rule-accepted, rule-confirmed}
+use Rattle.votes.specs.Call.{Call}
 
 -- a correct site of a sound state, before anything is heard
 pub sound-since : {Q : Questions} {n F : ℕ} {s : List ℕ} → Sound Q n F s → {v side : ℕ} (u : ℕ) → side < 2 → v < n → (v ∈ F → ⊥) →
@@ -103,8 +103,8 @@ new-either {a = a} {b} {heardVotes} {heardAccepts} A B m {o} {p} eo ep = record 
 }
 
 -- where only u and v are new, and v was there, no quorum is new if u has no slice
-pub sender-without : {t : List ℕ} {n : ℕ} → Table t n → {u v before w : ℕ} → New u v before w → questionsOf (slicesOf t) n .inQuorum v before ≡ false →
-    has before v ≡ true → slicesOf t .inside u w ≡ false → false ≡ questionsOf (slicesOf t) n .inQuorum v w
-sender-without {t} {n} table {u} {v} {before} {w} N g h f =
-    sym (is-false (questionsOf (slicesOf t) n .inQuorum v w)
-    (λ e. clash (without table v u w before f (λ z k ne. ⊎-elim (λ q. rw q (mem h)) (λ q. N .each z k ne q) (same? z v)) e) g))
+pub sender-without : {S : ℕ → Fbqs} {Q : Questions} → Promises S Q → {u v before w : ℕ} → New u v before w → Q .inQuorum v before ≡ false →
+    has before v ≡ true → Q .hasSlice v u w ≡ false → false ≡ Q .inQuorum v w
+sender-without {Q = Q} P {u} {v} {before} {w} N g h f =
+    sym (is-false (Q .inQuorum v w)
+    (λ e. clash (without P v u w before f (λ z k ne. ⊎-elim (λ q. rw q (mem h)) (λ q. N .each z k ne q) (same? z v)) e) g))

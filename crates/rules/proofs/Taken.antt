@@ -11,13 +11,14 @@ use Rattle.masks.proofs.Laws.Single.{∈-eq}
 use Rattle.masks.specs.Mask.{_∈_}
 use Rattle.sets.specs.Paper.{Fbqs}
 use Rattle.sets.specs.Promises.{Questions, Promises}
-use Rattle.rules.specs.Rules.{Call, accepting, confirming, hears, nowAccepts, taken}
+use Rattle.rules.specs.Rules.{accepting, confirming, hears, nowAccepts, taken}
 use Rattle.rules.specs.Sound.{Sound}
 use Rattle.rules.specs.State.{votes, accepts, voted, accepted, confirmed, size, get, Below}
 use Rattle.rules.proofs.Alone.{Alone, alone-trans}
 use Rattle.rules.proofs.Answer.{Takes}
 use Rattle.rules.proofs.Heard.{hears-alone, hears-grows, hears-cases, hears-kept, says-below, says-voted, says-votes, says-accepts, proposal-voted}
 use Rattle.rules.proofs.Receiver.{acceptsNow, confirmsNow, nowAccepts-alone, nowConfirms-alone, nowAccepts-else, nowConfirms-else, nowAccepts-cases, nowConfirms-cases, nowAccepts-accepted, nowAccepts-accepts, nowConfirms-confirmed, acceptsNow-after, nowAccepts-grows, nowConfirms-grows}
+use Rattle.votes.specs.Call.{Call}
 
 -- from hearing on, and from the state before, only the receiver changes
 module _ (Q : Questions) (n : ℕ) (c : Call) (s : List ℕ) where

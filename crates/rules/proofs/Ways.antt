@@ -11,9 +11,10 @@ use borrow.Author.Tests.{eq-eqb, ne-eqb, lt-ltb, le-ltb}
 use Rattle.ground.specs.Search.{some}
 use Rattle.masks.specs.Mask.{has, within, minus, allBelow}
 use Rattle.sets.specs.Promises.{Questions}
-use Rattle.rules.specs.Rules.{Call, accepting, confirming, outOfRange, crooked, against, unsent}
+use Rattle.rules.specs.Rules.{accepting, confirming, outOfRange, crooked, against, unsent}
 use Rattle.rules.specs.Sound.{differ, notZero, notOwn, notRule, notSent, badSide, badSite, unsound}
 use Rattle.rules.specs.State.{votes, accepts, voted, accepted, confirmed, size, get}
+use Rattle.votes.specs.Call.{Call}
 
 -- 11
 

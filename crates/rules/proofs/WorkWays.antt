@@ -8,18 +8,20 @@ use Rattle.masks.proofs.Laws.AllBelow.{in-all}
 use Rattle.masks.specs.Mask.{single, minus}
 use Rattle.refusals.specs.declared.Check.{Check}
 use Rattle.sets.proofs.Promises.{table-promises}
-use Rattle.sets.specs.Promises.{Questions, questionsOf}
-use Rattle.sets.specs.Slices.{fbqsOf, slicesOf}
+use Rattle.sets.specs.Promises.{Questions, questions}
+use Rattle.sets.specs.Slices.{fbqsOf}
 use Rattle.table.specs.Table.{Table, sites}
-use Rattle.rules.specs.Inner.{call, Works}
-use Rattle.rules.specs.Rules.{Call, only, accepting, confirming, nowAccepts, nowConfirms, hears, taken}
+use Rattle.rules.specs.Rules.{only, accepting, confirming, nowAccepts, nowConfirms, hears, taken}
 use Rattle.rules.specs.State.{votes, accepts, voted, accepted, confirmed, get, add}
 use Rattle.rules.specs.Theorems.{Rests}
 use Rattle.rules.proofs.Heard.{hears-proposal, hears-vote, hears-accept}
 use Rattle.rules.proofs.RuleLaws.{others-found, by-blocked, unblocked}
+use Rattle.votes.specs.Call.{call, Call}
+use Rattle.votes.specs.Inner.{Works}
+use Rattle.rules.specs.Vote.{vote}
 
 -- what the rules rest on, of a checked table
-pub table-rests : {t : List ℕ} {n : ℕ} → Table t n → Rests (λ v. fbqsOf t n) (questionsOf (slicesOf t) n) n
+pub table-rests : {t : List ℕ} {n : ℕ} → Table t n → Rests (λ v. fbqsOf t n) (questions t) n
 table-rests {t} {n} table = record { promises = table-promises t n table; sites = λ v l. in-all l }
 
 -- the rule for accepting, with the accepts of the others in o
@@ -72,6 +74,6 @@ taken-way Q n c s e₁ e₂ e₃ = e₃ ∙ ap (nowConfirms Q n (c .to) (c .side
 
 -- the inner step of a call whose four numbers are equal
 pub same-works : {Q : Questions} {n F kind from to side k f u d : ℕ} {s s₁ : List ℕ} {a : Check} {changed : Bool} → k ≡ kind → f ≡ from → u ≡ to →
-    d ≡ side → Works Q n F (call k f u d) s a changed s₁ → Works Q n F (call kind from to side) s a changed s₁
+    d ≡ side → Works (vote Q n F) (call k f u d) s a changed s₁ → Works (vote Q n F) (call kind from to side) s a changed s₁
 same-works {Q} {n} {F} {s = s} {s₁} {a} {changed} p q r h w =
-    subst (λ (c : Call). Works Q n F c s a changed s₁) (λ i. record { kind = p i; from = q i; to = r i; side = h i }) w
+    subst (λ (c : Call). Works (vote Q n F) c s a changed s₁) (λ i. record { kind = p i; from = q i; to = r i; side = h i }) w

@@ -1,21 +1,14 @@
 -- What the functions inside the voting ask and promise.
 use Prim.Native.Nat.{ℕ, _<_}
-use mathlib.Core.Bool.{Bool, true, not, cond}
+use mathlib.Core.Bool.{Bool, true, cond}
 use mathlib.Core.List.{List}
 use mathlib.Core.Path.{_≡_}
 use lib.Dec.{eqb}
-use lib.ListN.{length}
-use Rattle.ground.specs.Alike.{alike}
 use Rattle.masks.specs.Mask.{has, _∈_}
-use Rattle.refusals.specs.declared.Check.{Check}
 use Rattle.sets.specs.Promises.{Questions}
-use Rattle.sets.specs.Quorum.{largest}
-use Rattle.sets.specs.Slices.{slicesOf}
-use Rattle.rules.specs.Rules.{Call, accepting, confirming, answer, step}
+use Rattle.rules.specs.Rules.{accepting, confirming}
 use Rattle.rules.specs.State.{votes, accepts, voted, accepted, confirmed, get}
-
-abbrev pub call : ℕ → ℕ → ℕ → ℕ → Call
-call kind from to side = record { kind = kind; from = from; to = to; side = side }
+use Rattle.votes.specs.Call.{Call}
 
 -- a call whose numbers are in range
 pub record InRange (n : ℕ) (c : Call) : Type 0 where
@@ -44,14 +37,3 @@ pub record Since (Q : Questions) (n u v side a b : ℕ) (s : List ℕ) : Type 0 
   pub confirmed-then : confirming Q v b ≡ true → v ∈ get s (confirmed n side)
   -- its own accept is heard by itself
   pub own-heard : v ∈ get s (accepted n side) → v ∈ get s (accepts side v)
-
--- a set that was asked, and the largest quorum inside it
-pub record Asked (t : List ℕ) (n : ℕ) (asked : List ℕ) : Type 0 where
-  pub two : length asked ≡ 2
-  pub left : get asked 1 ≡ largest (slicesOf t .inside) n (get asked 0)
-
--- of one call: its answer, whether it changed the state, and the state after it
-pub record Works (Q : Questions) (n F : ℕ) (c : Call) (s : List ℕ) (answers : Check) (changed : Bool) (after : List ℕ) : Type 0 where
-  pub answers-so : answers ≡ answer n F c s
-  pub changes : changed ≡ not (alike s (step Q n F c s))
-  pub state : after ≡ step Q n F c s

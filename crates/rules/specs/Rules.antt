@@ -1,4 +1,4 @@
--- The rules of a vote, after 004, figure 1. The set questions come in as two tests with the receiver first.
+-- The rules of a vote, after 004, figure 1. The set questions come in as tests with the receiver first.
 use Prim.Native.Nat.{ℕ, _-_}
 use mathlib.Core.Bool.{Bool, _&&_, _||_, not, cond}
 use mathlib.Core.List.{List}
@@ -7,17 +7,10 @@ use lib.Dec.{eqb, ltb}
 use Rattle.masks.specs.Mask.{has, single, minus}
 use Rattle.refusals.specs.First.{orElse, refuse}
 use Rattle.refusals.specs.declared.Check.{Check}
-use Rattle.refusals.specs.declared.Check.the-variants.{Sound, Refused}
 use Rattle.refusals.specs.declared.Refusal.the-variants.{Range, Receiver, Proposal, Voted, Unsent}
 use Rattle.sets.specs.Promises.{Questions}
 use Rattle.rules.specs.State.{votes, accepts, voted, accepted, confirmed, get, add}
-
--- "A call is four bytes: kind (0 propose, 1 vote, 2 accept), from, to, side."
-pub record Call : Type 0 where
-  pub kind : ℕ
-  pub from : ℕ
-  pub to : ℕ
-  pub side : ℕ
+use Rattle.votes.specs.Call.{Call}
 
 -- the site alone if the test holds, else nobody
 abbrev pub only : Bool → ℕ → ℕ
@@ -86,12 +79,3 @@ answer n F c s =
     (orElse (refuse (has F (c .to)) Receiver)
     (orElse (refuse (against n c s) Voted)
     (refuse (unsent n F c s) Unsent))))
-
--- the state after a call: a refused one leaves it as it was
-abbrev pub ifTaken : Check → List ℕ → List ℕ → List ℕ
-ifTaken Sound t s = t
-ifTaken (Refused r) t s = s
-
-unfoldable pub step : Questions → ℕ → ℕ → Call → List ℕ → List ℕ
-unfolding taken answer
-step Q n F c s = ifTaken (answer n F c s) (taken Q n c s) s

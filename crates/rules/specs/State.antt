@@ -3,7 +3,7 @@ use Prim.Native.Nat.{ℕ, _+_, _*_}
 use mathlib.Core.List.{List}
 use mathlib.Core.Path.{_≡_}
 use lib.Bits.{bitOr}
-use lib.ListN.{length, getD, set, replicate}
+use lib.ListN.{length, getD, set}
 use Rattle.masks.specs.Mask.{_⊆_}
 
 -- "per site the votes heard for drill, votes for live, accepts for drill, accepts for live; then the masks voted drill, voted live, accepted drill,
@@ -25,10 +25,6 @@ confirmed n side = 4 * n + 4 + side
 
 abbrev pub size : ℕ → ℕ
 size n = 4 * n + 6
-
--- "The fresh state is all zero."
-unfoldable pub fresh : ℕ → List ℕ
-fresh n = replicate (size n) 0
 
 -- the set at a place, and the state with the sites of m put into it
 abbrev pub get : List ℕ → ℕ → ℕ

@@ -13,7 +13,6 @@ use Rattle.masks.proofs.Laws.AllBelow.{in-all}
 use Rattle.masks.proofs.Laws.Size.{size-⊆, size-⊂}
 use Rattle.masks.proofs.Laws.Subsets.{⊆-refl, ∈-minus}
 use Rattle.masks.specs.Mask.{minus, allBelow, size, _⊆_}
-use Rattle.run.specs.Passes.{pass, iter}
 use Rattle.run.specs.Run.{calls, runVotes}
 use Rattle.run.specs.Theorems.{SharpBound}
 use Rattle.run.proofs.Loops.{iter-more}
@@ -25,10 +24,12 @@ use Rattle.sets.specs.Paper.{Fbqs}
 use Rattle.sets.specs.Promises.{Questions}
 use Rattle.table.specs.Table.{sites}
 use Rattle.rules.proofs.SoundLaws.{fresh-sound, accepted-correct}
-use Rattle.rules.specs.Rules.{Call, step}
 use Rattle.rules.specs.Sound.{Sound}
-use Rattle.rules.specs.State.{voted, accepted, fresh, get}
+use Rattle.rules.specs.State.{voted, accepted, get}
 use Rattle.rules.specs.Theorems.{Rests}
+use Rattle.votes.specs.Passes.{pass, iter}
+use Rattle.votes.specs.Call.{Call}
+use Rattle.votes.specs.Vote.{step, fresh}
 
 module _ {Σ : ℕ → Fbqs} {Q : Questions} {n : ℕ} (R : Rests Σ Q n) (F : ℕ) (l : List Call) where
   -- the state after so many passes

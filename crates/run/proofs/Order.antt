@@ -12,7 +12,7 @@ use Rattle.masks.specs.Mask.{_∈_}
 use Rattle.refusals.specs.Refusal.{code}
 use Rattle.run.proofs.Passes.{Spends, Rises, run-same-state, run-same-answers, run-below, run-bound, Ends, run-ends}
 use Rattle.run.specs.Run.{runVotes}
-use Rattle.run.specs.Theorems.{propose, OneSided, Within}
+use Rattle.run.specs.Theorems.{OneSided}
 use Rattle.sets.specs.Paper.{Fbqs}
 use Rattle.sets.specs.Promises.{Questions}
 use Rattle.rules.proofs.Answer.{Takes, takes-later, step-cases}
@@ -23,10 +23,13 @@ use Rattle.rules.proofs.State.{below-refl, below-trans, below-antisym, fresh-no
 use Rattle.rules.proofs.Steps.{step-sound, step-adds, step-mono}
 use Rattle.rules.proofs.Taken.{taken-voted}
 use Rattle.rules.specs.Inner.{heard}
-use Rattle.rules.specs.Rules.{Call, answer, taken, step}
+use Rattle.rules.specs.Rules.{answer, taken}
 use Rattle.rules.specs.Sound.{Sound}
-use Rattle.rules.specs.State.{voted, fresh, get, Below}
+use Rattle.rules.specs.State.{voted, get, Below}
 use Rattle.rules.specs.Theorems.{Rests}
+use Rattle.votes.specs.Call.{propose, Call}
+use Rattle.votes.specs.Passes.{Within}
+use Rattle.votes.specs.Vote.{step, fresh}
 
 -- a straight proposal of c is the call that proposes its side to its site
 pub is-propose : (c : Call) → c .kind ≡ 0 → c .from ≡ c .to → propose (c .to) (c .side) ≡ c

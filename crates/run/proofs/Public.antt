@@ -8,7 +8,7 @@ use lib.Seq.{take-at}
 use Rattle.refusals.specs.declared.Check.{Check}
 use Rattle.refusals.specs.declared.Check.the-variants.{Sound, Refused}
 use Rattle.run.specs.Run.{calls, callAt, runCheck, runOf, toRan, ran, stateInto, answersInto}
-use Rattle.run.specs.Theorems.{Taken, endState, endAnswers, OrderFree, FewPasses, IsRun, TheRun, FewerBelow}
+use Rattle.run.specs.Theorems.{Taken, endState, endAnswers, OrderFree, FewPasses, TheRun, FewerBelow}
 use Rattle.run.specs.declared.Ran.the-variants.{Passes}
 use Rattle.run.proofs.Calls.{calls-at, calls-length}
 use Rattle.run.proofs.Order.{run-is, few-passes, same-end, same-answers, fewer-below}
@@ -17,10 +17,11 @@ use Rattle.run.proofs.Turns.{length-answers}
 use Rattle.sets.specs.Slices.{fbqsOf}
 use Rattle.table.specs.Table.{sites}
 use Rattle.rules.proofs.WorkWays.{table-rests}
-use Rattle.rules.specs.Rules.{Call}
 use Rattle.rules.specs.State.{size}
-use Rattle.voting.specs.Step.{questions}
 use Rattle.rules.specs.Theorems.{Rests}
+use Rattle.votes.specs.Theorems.{IsRun}
+use Rattle.votes.specs.Call.{Call}
+use Rattle.sets.specs.Promises.{questions}
 
 taken-inv : (q : Check) (k p : ℕ) → toRan q k ≡ Passes p → (q ≡ Sound) × (k ≡ p)
 taken-inv Sound k p e = (refl, cc)

@@ -15,9 +15,8 @@ use Rattle.ground.specs.Alike.{alike}
 use Rattle.masks.proofs.Laws.Single.{∈-or, ∈-single}
 use Rattle.masks.proofs.Laws.Subsets.{not-in-zero, minus-⊆, minus-not-in, minus-lt}
 use Rattle.masks.specs.Mask.{single, minus, allBelow, _∈_, _⊆_}
-use Rattle.run.specs.Passes.{pass}
 use Rattle.run.specs.Run.{runVotes}
-use Rattle.run.specs.Theorems.{propose, Reached}
+use Rattle.run.specs.Theorems.{Reached}
 use Rattle.run.proofs.Bound.{at, iter-at, few}
 use Rattle.run.proofs.Chain.{chain, chain-sites, chain-table, chain-rests, Chained, chained}
 use Rattle.run.proofs.Order.{spends, run-is}
@@ -33,11 +32,13 @@ use Rattle.rules.proofs.SoundLaws.{fresh-sound, accepted-rule}
 use Rattle.rules.proofs.State.{fresh-none}
 use Rattle.rules.proofs.Steps.{step-sound, step-adds}
 use Rattle.rules.proofs.Taken.{taken-voted, taken-votes, taken-accepted}
-use Rattle.rules.specs.Inner.{call}
-use Rattle.rules.specs.Rules.{Call, others, accepting, taken, step}
+use Rattle.rules.specs.Rules.{others, accepting, taken}
 use Rattle.rules.specs.Sound.{Sound}
-use Rattle.rules.specs.State.{votes, accepts, voted, accepted, fresh, get}
+use Rattle.rules.specs.State.{votes, accepts, voted, accepted, get}
 use Rattle.rules.specs.Theorems.{Rests}
+use Rattle.votes.specs.Passes.{pass}
+use Rattle.votes.specs.Call.{propose, call, Call}
+use Rattle.votes.specs.Vote.{step, fresh}
 
 module _ {Σ : ℕ → Fbqs} {Q : Questions} (j : ℕ) (more : 1 ≤ j) (R : Rests Σ Q (suc j)) (C : Chained Q (suc j)) where
   abbrev n : ℕ

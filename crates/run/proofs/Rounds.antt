@@ -16,9 +16,10 @@ use Rattle.run.specs.Inner.{Listed, After, Again, Amid, Waiting, PassedA
 use Rattle.run.specs.Run.{calls, callAt}
 use Rattle.sets.specs.Paper.{Fbqs}
 use Rattle.sets.specs.Promises.{Questions}
-use Rattle.rules.specs.Inner.{Works}
-use Rattle.rules.specs.Rules.{Call, answer}
+use Rattle.rules.specs.Rules.{answer}
 use Rattle.rules.specs.Theorems.{Rests}
+use Rattle.votes.specs.Inner.{Works}
+use Rattle.votes.specs.Call.{Call}
 
 -- a call again: it waits still, or it does not
 module _ {Q : Questions} {n F : ℕ} {c : Call} {s s₁ : List ℕ} {q : Check} {b : Bool} (W : Works Q n F c s q b s₁) (i : ℕ) (out : List ℕ) {a : ℕ}

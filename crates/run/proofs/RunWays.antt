@@ -20,7 +20,7 @@ use Rattle.run.specs.declared.Ran.the-variants.{Passes}
 use Rattle.table.proofs.SetCheck.{set-table}
 use Rattle.table.specs.Table.{sites, setCheck, Table}
 use Rattle.rules.specs.State.{size}
-use Rattle.voting.specs.Step.{questions}
+use Rattle.sets.specs.Promises.{questions}
 
 -- the check of a run: table, 10, 17, 9
 module _ (t : List ℕ) (F bytes state answers : ℕ) where

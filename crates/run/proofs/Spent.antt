@@ -10,7 +10,6 @@ use Rattle.ground.proofs.Numbers.{two}
 use Rattle.ground.specs.Alike.{alike}
 use Rattle.masks.proofs.Laws.Subsets.{⊆-refl, ⊆-trans}
 use Rattle.masks.specs.Mask.{_∈_, _⊆_}
-use Rattle.run.specs.Passes.{pass}
 use Rattle.run.proofs.Order.{spends}
 use Rattle.run.proofs.Passes.{pass-still, pass-up}
 use Rattle.sets.specs.Paper.{Fbqs}
@@ -22,10 +21,13 @@ use Rattle.rules.proofs.State.{below-refl, below-trans}
 use Rattle.rules.proofs.Steps.{step-sound, step-adds}
 use Rattle.rules.proofs.Taken.{taken-voted, taken-accepted}
 use Rattle.rules.specs.Inner.{heard}
-use Rattle.rules.specs.Rules.{Call, taken, step}
+use Rattle.rules.specs.Rules.{taken}
 use Rattle.rules.specs.Sound.{Sound}
 use Rattle.rules.specs.State.{voted, accepted, get, Below}
 use Rattle.rules.specs.Theorems.{Rests}
+use Rattle.votes.specs.Passes.{pass}
+use Rattle.votes.specs.Call.{Call}
+use Rattle.votes.specs.Vote.{step}
 
 -- Calls of the sort P: they alone put a site at the places I, and besides the other side's votes only what stands there decides whether they are
 -- taken.

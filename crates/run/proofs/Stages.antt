@@ -12,8 +12,6 @@ use Rattle.ground.proofs.Numbers.{same?}
 use Rattle.masks.proofs.Laws.Single.{single-∈}
 use Rattle.masks.proofs.Laws.Subsets.{mem, not-in-zero, or-⊆-l, ∈-minus}
 use Rattle.masks.specs.Mask.{_∈_}
-use Rattle.run.specs.Passes.{pass}
-use Rattle.run.specs.Theorems.{propose}
 use Rattle.run.proofs.Chain.{Chained}
 use Rattle.run.proofs.Passes.{pass-still}
 use Rattle.sets.specs.Paper.{Fbqs}
@@ -25,11 +23,14 @@ use Rattle.rules.proofs.RuleLaws.{by-quorum, by-blocked}
 use Rattle.rules.proofs.SoundLaws.{voted-heard, rule-accepted}
 use Rattle.rules.proofs.Steps.{step-sound, step-adds}
 use Rattle.rules.proofs.Taken.{taken-accepts, taken-accepted}
-use Rattle.rules.specs.Inner.{call, heard}
-use Rattle.rules.specs.Rules.{Call, others, step}
+use Rattle.rules.specs.Inner.{heard}
+use Rattle.rules.specs.Rules.{others}
 use Rattle.rules.specs.Sound.{Sound}
 use Rattle.rules.specs.State.{votes, accepts, voted, accepted, get}
 use Rattle.rules.specs.Theorems.{Rests}
+use Rattle.votes.specs.Passes.{pass}
+use Rattle.votes.specs.Call.{propose, call, Call}
+use Rattle.votes.specs.Vote.{step}
 
 -- the call by which site k is to accept
 abbrev pub link : ℕ → Call

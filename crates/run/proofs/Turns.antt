@@ -21,19 +21,21 @@ use Rattle.run.proofs.Loops.{quiet-still, still-quiet, iter-more, chang
 use Rattle.run.proofs.Order.{spends}
 use Rattle.run.proofs.Passes.{pass-more, answers-more, pass-inv, pass-up}
 use Rattle.run.proofs.Waiting.{pass-settles}
-use Rattle.run.specs.Inner.{quiet, answersFrom, After, Passed, Settled, Told, Going, Whole}
-use Rattle.run.specs.Passes.{Run, pass, iter, answersOf, run}
+use Rattle.run.specs.Inner.{answersFrom, After, Passed, Settled, Told, Going, Whole}
 use Rattle.run.specs.Run.{calls, callAt, runVotes}
 use Rattle.sets.specs.Paper.{Fbqs}
 use Rattle.sets.specs.Promises.{Questions}
 use Rattle.rules.proofs.SoundLaws.{fresh-sound}
 use Rattle.rules.proofs.State.{below-antisym}
 use Rattle.rules.proofs.Steps.{step-sound}
-use Rattle.rules.specs.Inner.{call, Works}
-use Rattle.rules.specs.Rules.{Call, answer, step}
+use Rattle.rules.specs.Rules.{answer}
 use Rattle.rules.specs.Sound.{Sound}
-use Rattle.rules.specs.State.{size, fresh, Below}
+use Rattle.rules.specs.State.{size, Below}
 use Rattle.rules.specs.Theorems.{Rests}
+use Rattle.votes.specs.Inner.{quiet, Works}
+use Rattle.votes.specs.Passes.{Run, pass, iter, answersOf, run}
+use Rattle.votes.specs.Call.{call, Call}
+use Rattle.votes.specs.Vote.{step, fresh}
 
 -- a call read from four bytes of the list is its call i
 pub works-at : (Q : Questions) (n F i : ℕ) (list : List ℕ) {k f v d : ℕ} {a : Check} {b : Bool} {s s₁ : List ℕ} → k ≡ getD list (4 * i) 0 →

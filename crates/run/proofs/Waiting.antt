@@ -16,7 +16,6 @@ use Rattle.refusals.specs.Refusal.{code}
 use Rattle.refusals.specs.declared.Check.the-variants.{Sound as Took, Refused}
 use Rattle.refusals.specs.declared.Refusal.{Refusal}
 use Rattle.run.specs.Inner.{answersFrom, Settled}
-use Rattle.run.specs.Passes.{pass}
 use Rattle.run.proofs.Order.{spends}
 use Rattle.run.proofs.Passes.{pass-up}
 use Rattle.sets.specs.Paper.{Fbqs}
@@ -26,10 +25,13 @@ use Rattle.rules.proofs.Heard.{heard-grows, heard-proposal}
 use Rattle.rules.proofs.Inner.{step-heard}
 use Rattle.rules.proofs.State.{below-trans}
 use Rattle.rules.proofs.Steps.{step-sound, step-adds, taken-stays}
-use Rattle.rules.specs.Rules.{Call, against, answer, step}
+use Rattle.rules.specs.Rules.{against, answer}
 use Rattle.rules.specs.Sound.{Sound}
 use Rattle.rules.specs.State.{voted, get, Below}
 use Rattle.rules.specs.Theorems.{Rests}
+use Rattle.votes.specs.Passes.{pass}
+use Rattle.votes.specs.Call.{Call}
+use Rattle.votes.specs.Vote.{step}
 
 -- a site that has voted for a side has not voted for the other
 one-side : {Q : Questions} {n F : ℕ} {s : List ℕ} {v : ℕ} → Sound Q n F s → (side : ℕ) → side < 2 → v ∈ get s (voted n side) →

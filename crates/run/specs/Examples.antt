@@ -8,16 +8,16 @@ use Rattle.ground.specs.Alike.{alike}
 use Rattle.ground.specs.Search.{some, every, least, those}
 use Rattle.mark.specs.Mark.{mark}
 use Rattle.masks.specs.Mask.{has, within, minus, gather}
-use Rattle.run.specs.Passes.{pass, passes, run}
 use Rattle.run.specs.Run.{runVotes}
-use Rattle.sets.specs.Promises.{questionsOf}
+use Rattle.sets.specs.Promises.{questionsOf, questions}
 use Rattle.sets.specs.Quorum.{quorum, round, left, dropping, largest, rounds}
 use Rattle.sets.specs.Slices.{slicesOf}
 use Rattle.sets.specs.Verdicts.{beside, apart, firstApart, meets, dispensable, isIntact, intact}
-use Rattle.rules.specs.Inner.{call}
-use Rattle.rules.specs.Rules.{accepting, confirming, nowAccepts, nowConfirms, hears, taken, outOfRange, crooked, against, unsent, answer, step}
-use Rattle.rules.specs.State.{accepted, confirmed, fresh, get, add}
-use Rattle.voting.specs.Step.{questions}
+use Rattle.rules.specs.Rules.{accepting, confirming, nowAccepts, nowConfirms, hears, taken, outOfRange, crooked, against, unsent, answer}
+use Rattle.rules.specs.State.{accepted, confirmed, get, add}
+use Rattle.votes.specs.Passes.{pass, passes, run}
+use Rattle.votes.specs.Call.{call}
+use Rattle.votes.specs.Vote.{step, fresh}
 
 -- the 63 numbers of a site with these slices
 abbrev pub site : List ℕ → List ℕ

@@ -7,13 +7,15 @@ use lib.Dec.{eqb}
 use lib.ListN.{length, getD, take, drop, set}
 use Rattle.ground.specs.Alike.{alike}
 use Rattle.refusals.specs.Refusal.{code}
-use Rattle.run.specs.Passes.{pass, iter, answersOf}
 use Rattle.run.specs.Run.{calls, callAt, runVotes}
 use Rattle.sets.specs.Promises.{Questions}
-use Rattle.rules.specs.Inner.{Works}
-use Rattle.rules.specs.Rules.{Call, answer, step}
+use Rattle.rules.specs.Rules.{answer}
 use Rattle.rules.specs.Sound.{Sound}
-use Rattle.rules.specs.State.{fresh, Below}
+use Rattle.rules.specs.State.{Below}
+use Rattle.votes.specs.Passes.{pass, iter, answersOf}
+use Rattle.votes.specs.Inner.{Works}
+use Rattle.votes.specs.Call.{Call}
+use Rattle.votes.specs.Vote.{step, fresh}
 
 -- no call of the pass changed anything
 module _ {S C : Type 0} (step : C → S → S) (same : S → S → Bool) where

@@ -11,14 +11,15 @@ use Rattle.refusals.specs.declared.Check.{Check}
 use Rattle.refusals.specs.declared.Check.the-variants.{Sound}
 use Rattle.refusals.specs.declared.Refusal.the-variants.{Room}
 use Rattle.refusals.specs.declared.Refusal as Refusal
-use Rattle.run.specs.Passes.{Run, run}
 use Rattle.run.specs.declared.Ran.{Ran}
 use Rattle.run.specs.declared.Ran.the-variants.{Passes}
-use Rattle.sets.specs.Promises.{Questions}
+use Rattle.sets.specs.Promises.{Questions, questions}
 use Rattle.table.specs.Table.{sites, setCheck}
-use Rattle.rules.specs.Rules.{Call, answer, step}
-use Rattle.rules.specs.State.{size, fresh}
-use Rattle.voting.specs.Step.{questions}
+use Rattle.rules.specs.Rules.{answer}
+use Rattle.rules.specs.State.{size}
+use Rattle.votes.specs.Passes.{Run, run}
+use Rattle.votes.specs.Call.{Call}
+use Rattle.votes.specs.Vote.{step, fresh}
 
 -- "The list is first given as bytes, four a call": kind, from, to, side. A rest of fewer than four bytes is no call.
 abbrev pub calls : List ℕ → List Call

@@ -5,14 +5,15 @@ use mathlib.Core.Path.{_≡_}
 use lib.ListN.{length, getD, take}
 use Rattle.masks.specs.Mask.{minus, allBelow, size as count, _∈_}
 use Rattle.refusals.specs.Refusal.{code}
-use Rattle.run.specs.Passes.{Run, pass, iter, answersOf}
 use Rattle.run.specs.Run.{calls, callAt, runVotes, ran, stateInto, answersInto}
 use Rattle.run.specs.declared.Ran.the-variants.{Passes}
-use Rattle.sets.specs.Promises.{Questions}
+use Rattle.sets.specs.Promises.{Questions, questions}
 use Rattle.table.specs.Table.{sites, Table}
-use Rattle.rules.specs.Rules.{Call, answer, step}
-use Rattle.rules.specs.State.{size, fresh, Below}
-use Rattle.voting.specs.Step.{questions}
+use Rattle.rules.specs.Rules.{answer}
+use Rattle.rules.specs.State.{size, Below}
+use Rattle.votes.specs.Passes.{Run, pass, iter, answersOf}
+use Rattle.votes.specs.Call.{Call}
+use Rattle.votes.specs.Vote.{step, fresh}
 
 -- "the list proposes both sides to no correct site"
 abbrev pub propose : ℕ → ℕ → Call

@@ -6,11 +6,12 @@ ghost use lib.ListN.{length, getD, set, replicate};
 ghost use Rattle.table.specs.Table.{Table};
 ghost use Rattle.sets.specs.Slices.{slicesOf};
 ghost use Rattle.sets.specs.Promises.{questionsOf};
-ghost use Rattle.rules.specs.State.{size, fresh};
+ghost use Rattle.rules.specs.State.{size};
 ghost use Rattle.rules.specs.Sound.{Sound};
-ghost use Rattle.rules.specs.Inner.{Works};
 ghost use Rattle.run.specs.Run.{calls, callAt, runCheck, ran, stateInto, answersInto};
 ghost use Rattle.run.specs.Inner.{Passed, Listed, Again, Waiting, PassedAgain, Begun, Whole};
+ghost use Rattle.votes.specs.Vote.{fresh};
+ghost use Rattle.votes.specs.Inner.{Works};
 use refusals::Check;
 use refusals::Refusal;
 

@@ -4,6 +4,7 @@ pub mod Verdicts
 pub mod Lawful
 pub mod Decides
 pub mod Promises
+pub mod Without
 pub mod WholeQuorum
 pub mod Rounds
 pub mod Places

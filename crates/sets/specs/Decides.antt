@@ -7,7 +7,7 @@ use mathlib.Core.Path.{_≡_}
 use lib.Bits.{bitAnd}
 use Rattle.masks.specs.Mask.{minus, allBelow, size, _∈_, _⊆_}
 use Rattle.sets.specs.Paper.{Fbqs, WellFormed, Quorum, Intersection, Dispensable, Intact, Befouled, Blocking}
-use Rattle.sets.specs.Promises.{Promises, questionsOf}
+use Rattle.sets.specs.Promises.{Promises, questions}
 use Rattle.sets.specs.Quorum.{quorum, round, after, largest, rounds}
 use Rattle.sets.specs.Slices.{Slices, fbqsOf, slicesOf}
 use Rattle.sets.specs.Verdicts.{beside, firstApart, meets, dispensable, isIntact, intact}
@@ -52,4 +52,4 @@ abbrev pub TableDecides : Type 0
 TableDecides = (t : List ℕ) (n : ℕ) → Table t n → Decides (fbqsOf t n) (slicesOf t) n
 
 abbrev pub TablePromises : Type 0
-TablePromises = (t : List ℕ) (n : ℕ) → Table t n → Promises (λ v. fbqsOf t n) (questionsOf (slicesOf t) n)
+TablePromises = (t : List ℕ) (n : ℕ) → Table t n → Promises (λ v. fbqsOf t n) (questions t)

@@ -1,23 +1,33 @@
--- What the voting knows of the sets, and nothing else: two questions, with the receiver first, and their laws. `S v` is the FBQS as site v sees it.
+-- What the voting knows of the sets, and nothing else: three questions, with the receiver first, and their laws. `S v` is the FBQS as site v sees it.
 use Prim.Native.Nat.{ℕ}
 use mathlib.Core.Bool.{Bool, true, false}
+use mathlib.Core.List.{List}
+use mathlib.Core.Logic.{_↔_}
 use mathlib.Core.Path.{_≡_}
 use lib.Bits.{bitAnd}
+use lib.ListN.{length}
 use Rattle.masks.specs.Mask.{has, _∈_, _⊆_}
 use Rattle.sets.specs.Paper.{Fbqs, Quorum}
 use Rattle.sets.specs.Quorum.{largest}
-use Rattle.sets.specs.Slices.{Slices}
+use Rattle.sets.specs.Slices.{Slices, slicesOf}
+use Rattle.table.specs.Table.{sites}
 
 pub record Questions : Type 0 where
   -- site v belongs to the largest quorum inside w
   pub inQuorum : ℕ → ℕ → Bool
   -- w blocks site v
   pub blocked : ℕ → ℕ → Bool
+  -- site u has, as site v sees it, some slice inside w
+  pub hasSlice : ℕ → ℕ → ℕ → Bool
 
--- the questions as a table of n sites answers them
+-- the questions as n sites with these slices answer them: every site sees the same
 unfoldable pub questionsOf : Slices → ℕ → Questions
 unfolding largest
-questionsOf r n = record { inQuorum = λ v w. has (largest (r .inside) n w) v; blocked = r .blocked }
+questionsOf r n = record { inQuorum = λ v w. has (largest (r .inside) n w) v; blocked = r .blocked; hasSlice = λ v u w. r .inside u w }
+
+-- the questions of a table in memory
+abbrev pub questions : List ℕ → Questions
+questions t = questionsOf (slicesOf t) (sites (length t))
 
 pub record Promises (S : ℕ → Fbqs) (Q : Questions) : Type 0 where
   -- both grow with the set
@@ -32,3 +42,5 @@ pub record Promises (S : ℕ → Fbqs) (Q : Questions) : Type 0 where
   -- a blocking set meets every set that holds a slice of v; who is not blocked by w has a slice in the rest
   pub blocked-meets : (v w u q : ℕ) → Q .blocked v w ≡ true → S v .Slice v q → q ⊆ u → bitAnd u w ≡ 0 → ⊥
   pub unblocked-rest : (v w : ℕ) → Q .blocked v w ≡ false → (q : ℕ) × S v .Slice v q × (bitAnd q w ≡ 0)
+  -- who has a slice inside w, as site v sees it, and the other way
+  pub slice-decides : (v u w : ℕ) → (Q .hasSlice v u w ≡ true) ↔ ((q : ℕ) × S v .Slice u q × (q ⊆ w))

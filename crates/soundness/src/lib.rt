@@ -6,12 +6,11 @@ ghost use lib.ListN.{length};
 ghost use Rattle.ground.specs.Search.{some};
 ghost use Rattle.masks.specs.Mask.{within, allBelow};
 ghost use Rattle.table.specs.Table.{Table};
-ghost use Rattle.sets.specs.Slices.{slicesOf};
-ghost use Rattle.sets.specs.Promises.{questionsOf};
+ghost use Rattle.sets.specs.Promises.{questions};
 ghost use Rattle.rules.specs.State.{size, get};
 ghost use Rattle.rules.specs.Rules.{accepting};
 ghost use Rattle.rules.specs.Sound.{differ, notZero, notOwn, notRule, notSent, badSide, badSite, unsound};
-ghost use Rattle.rules.specs.Inner.{Asked};
+ghost use Rattle.asking.specs.Inner.{Asked};
 
 // One test holds and not the other.
 fn differ(a: bool, b: bool) -> bool
@@ -64,27 +63,6 @@ fn is_not_own(v: usize, votes: u64, accepts: u64, voted: u64, accepted: u64) -> 
     )
 }
 
-// Site v belongs to the largest quorum inside w. The set asked last and its largest quorum are kept: sites that heard the same need no second search.
-fn belongs(table: &[u64], n: usize, v: usize, w: u64, asked: &mut [u64; 2]) -> bool
-    requires { ⌜ Table (now table) n × (v < n) × Asked (now table) n (now asked) ⌝ }
-    ensures { λ r. ⌜ r ≡ questionsOf (slicesOf (now (table .entry))) n .inQuorum v w ⌝ }
-    ensures { λ r. ⌜ Asked (now (table .entry)) n (now (asked .exit)) ⌝ }
-{
-    if !masks::has(w, v as u64) {
-        return false;
-    }
-    if w == asked[0] {
-        return masks::has(asked[1], v as u64);
-    }
-    if !sets::has_slice(table, n, v, w) {
-        return false;
-    }
-    let l = sets::largest(table, n, w);
-    asked[0] = w;
-    asked[1] = l.set;
-    masks::has(l.set, v as u64)
-}
-
 // Site v accepts from the votes and accepts that it heard, its own accept not counted.
 fn is_accepting(
     table: &[u64],
@@ -94,15 +72,15 @@ fn is_accepting(
     accepts: u64,
     asked: &mut [u64; 2],
 ) -> bool
-    requires { ⌜ Table (now table) n × (v < n) × Asked (now table) n (now asked) ⌝ }
-    ensures { λ r. ⌜ r ≡ accepting (questionsOf (slicesOf (now (table .entry))) n) v votes accepts ⌝ }
-    ensures { λ r. ⌜ Asked (now (table .entry)) n (now (asked .exit)) ⌝ }
+    requires { ⌜ Table (now table) n × (v < n) × Asked (questions (now table)) n (now asked) ⌝ }
+    ensures { λ r. ⌜ r ≡ accepting (questions (now (table .entry))) v votes accepts ⌝ }
+    ensures { λ r. ⌜ Asked (questions (now (table .entry))) n (now (asked .exit)) ⌝ }
 {
     let others = masks::minus(accepts, masks::single(v as u64));
-    if sets::blocks(table, n, others, v) {
+    if asking::blocked(table, n, v, others) {
         return true;
     }
-    belongs(table, n, v, votes | others, asked)
+    asking::belongs(table, n, v, votes | others, asked)
 }
 
 // Accepted or confirmed other than the rules give from what was heard.
@@ -116,9 +94,9 @@ fn is_not_rule(
     confirmed: u64,
     asked: &mut [u64; 2],
 ) -> bool
-    requires { ⌜ Table (now table) n × (v < n) × Asked (now table) n (now asked) ⌝ }
-    ensures { λ r. ⌜ r ≡ notRule (questionsOf (slicesOf (now (table .entry))) n) v votes accepts accepted confirmed ⌝ }
-    ensures { λ r. ⌜ Asked (now (table .entry)) n (now (asked .exit)) ⌝ }
+    requires { ⌜ Table (now table) n × (v < n) × Asked (questions (now table)) n (now asked) ⌝ }
+    ensures { λ r. ⌜ r ≡ notRule (questions (now (table .entry))) v votes accepts accepted confirmed ⌝ }
+    ensures { λ r. ⌜ Asked (questions (now (table .entry))) n (now (asked .exit)) ⌝ }
 {
     if differ(
         masks::has(accepted, v as u64),
@@ -128,7 +106,7 @@ fn is_not_rule(
     }
     differ(
         masks::has(confirmed, v as u64),
-        belongs(table, n, v, accepts, asked),
+        asking::belongs(table, n, v, accepts, asked),
     )
 }
 
@@ -152,9 +130,9 @@ fn is_bad_side(
     side: usize,
     asked: &mut [u64; 2],
 ) -> bool
-    requires { ⌜ Table (now table) n × (length (now state) ≡ size n) × (v < n) × (side < 2) × Asked (now table) n (now asked) ⌝ }
-    ensures { λ r. ⌜ r ≡ badSide (questionsOf (slicesOf (now (table .entry))) n) n faulty (now (state .entry)) v side ⌝ }
-    ensures { λ r. ⌜ Asked (now (table .entry)) n (now (asked .exit)) ⌝ }
+    requires { ⌜ Table (now table) n × (length (now state) ≡ size n) × (v < n) × (side < 2) × Asked (questions (now table)) n (now asked) ⌝ }
+    ensures { λ r. ⌜ r ≡ badSide (questions (now (table .entry))) n faulty (now (state .entry)) v side ⌝ }
+    ensures { λ r. ⌜ Asked (questions (now (table .entry))) n (now (asked .exit)) ⌝ }
 {
     let votes = state[4 * v + side];
     let accepts = state[4 * v + 2 + side];
@@ -182,9 +160,9 @@ fn is_bad_site(
     v: usize,
     asked: &mut [u64; 2],
 ) -> bool
-    requires { ⌜ Table (now table) n × (length (now state) ≡ size n) × (v < n) × Asked (now table) n (now asked) ⌝ }
-    ensures { λ r. ⌜ r ≡ badSite (questionsOf (slicesOf (now (table .entry))) n) n faulty (now (state .entry)) v ⌝ }
-    ensures { λ r. ⌜ Asked (now (table .entry)) n (now (asked .exit)) ⌝ }
+    requires { ⌜ Table (now table) n × (length (now state) ≡ size n) × (v < n) × Asked (questions (now table)) n (now asked) ⌝ }
+    ensures { λ r. ⌜ r ≡ badSite (questions (now (table .entry))) n faulty (now (state .entry)) v ⌝ }
+    ensures { λ r. ⌜ Asked (questions (now (table .entry))) n (now (asked .exit)) ⌝ }
 {
     if is_bad_side(table, n, faulty, state, v, 0, asked) {
         return true;
@@ -195,7 +173,7 @@ fn is_bad_site(
 // Some site is bad.
 fn some_bad_site(table: &[u64], n: usize, faulty: u64, state: &[u64]) -> bool
     requires { ⌜ Table (now table) n × (length (now state) ≡ size n) ⌝ }
-    ensures { λ r. ⌜ r ≡ some n (badSite (questionsOf (slicesOf (now (table .entry))) n) n faulty (now (state .entry))) ⌝ }
+    ensures { λ r. ⌜ r ≡ some n (badSite (questions (now (table .entry))) n faulty (now (state .entry))) ⌝ }
 {
     let mut asked = [0u64; 2];
     let mut v: usize = 0;
@@ -227,7 +205,7 @@ fn some_bit_above(n: usize, state: &[u64]) -> bool
 // The state is unsound.
 pub fn is_unsound(table: &[u64], n: usize, faulty: u64, state: &[u64]) -> bool
     requires { ⌜ Table (now table) n ⌝ }
-    ensures { λ r. ⌜ r ≡ unsound (questionsOf (slicesOf (now (table .entry))) n) n faulty (now (state .entry)) ⌝ }
+    ensures { λ r. ⌜ r ≡ unsound (questions (now (table .entry))) n faulty (now (state .entry)) ⌝ }
 {
     if state.len() != 4 * n + 6 {
         return true;

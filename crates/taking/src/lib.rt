@@ -4,13 +4,15 @@ ghost use mathlib.Core.Bool.{true, false};
 ghost use Prim.Native.Nat.{_<_, _≤_};
 ghost use lib.ListN.{length};
 ghost use Rattle.table.specs.Table.{Table};
-ghost use Rattle.sets.specs.Slices.{slicesOf};
-ghost use Rattle.sets.specs.Promises.{questionsOf};
+ghost use Rattle.sets.specs.Promises.{questions};
 ghost use Rattle.masks.specs.Mask.{_∈_};
 ghost use Rattle.rules.specs.State.{votes, accepts, confirmed, size, get, add};
 ghost use Rattle.rules.specs.Rules.{only, accepting, confirming, nowAccepts, nowConfirms, hears, taken};
-ghost use Rattle.rules.specs.Inner.{call, InRange, New, Since, Works};
+ghost use Rattle.rules.specs.Inner.{InRange, New, Since};
 ghost use Rattle.rules.specs.Sound.{Sound};
+ghost use Rattle.rules.specs.Vote.{voteOf};
+ghost use Rattle.votes.specs.Call.{call};
+ghost use Rattle.votes.specs.Inner.{Works};
 use refusals::Check;
 
 // The site alone if b, else nobody.
@@ -24,41 +26,33 @@ fn only(b: bool, v: usize) -> u64
     0
 }
 
-// Site v belongs to the largest quorum inside w.
-fn in_quorum(table: &[u64], n: usize, v: usize, w: u64) -> bool
-    requires { ⌜ Table (now table) n × (v < n) ⌝ }
-    ensures { λ r. ⌜ r ≡ questionsOf (slicesOf (now (table .entry))) n .inQuorum v w ⌝ }
-{
-    sets::in_largest(table, n, v, w)
-}
-
-// The same of a site v that does not belong to the largest quorum inside before, where only sites u and v are new. If u has no slice inside w, it
+// Site v belongs to the largest quorum inside w. It does not belong to that inside before, where only sites u and v are new. If u has no slice inside w, it
 // brings nobody in.
 fn now_in_quorum(table: &[u64], n: usize, u: usize, v: usize, before: u64, w: u64) -> bool
-    requires { ⌜ Table (now table) n × (u < n) × (v < n) × (questionsOf (slicesOf (now table)) n .inQuorum v before ≡ false) × New u v before w ⌝ }
-    ensures { λ r. ⌜ r ≡ questionsOf (slicesOf (now (table .entry))) n .inQuorum v w ⌝ }
+    requires { ⌜ Table (now table) n × (u < n) × (v < n) × (questions (now table) .inQuorum v before ≡ false) × New u v before w ⌝ }
+    ensures { λ r. ⌜ r ≡ questions (now (table .entry)) .inQuorum v w ⌝ }
 {
     if w == before {
         return false;
     }
     if !masks::has(before, v as u64) {
-        return in_quorum(table, n, v, w);
+        return asking::in_quorum(table, n, v, w);
     }
-    if !sets::has_slice(table, n, u, w) {
+    if !asking::has_slice(table, n, v, u, w) {
         return false;
     }
-    in_quorum(table, n, v, w)
+    asking::in_quorum(table, n, v, w)
 }
 
 // The sites of others block site v. Those of before do not.
 fn now_blocked(table: &[u64], n: usize, v: usize, before: u64, others: u64) -> bool
-    requires { ⌜ Table (now table) n × (v < n) × (questionsOf (slicesOf (now table)) n .blocked v before ≡ false) ⌝ }
-    ensures { λ r. ⌜ r ≡ questionsOf (slicesOf (now (table .entry))) n .blocked v others ⌝ }
+    requires { ⌜ Table (now table) n × (v < n) × (questions (now table) .blocked v before ≡ false) ⌝ }
+    ensures { λ r. ⌜ r ≡ questions (now (table .entry)) .blocked v others ⌝ }
 {
     if others == before {
         return false;
     }
-    sets::blocks(table, n, others, v)
+    asking::blocked(table, n, v, others)
 }
 
 // Site v accepts from the votes and accepts that it heard, its own accept not counted. From the votes a and the accepts b it does not, and only sites u
@@ -73,8 +67,8 @@ fn now_accepting(
     votes: u64,
     accepts: u64,
 ) -> bool
-    requires { ⌜ Table (now table) n × (u < n) × (v < n) × (accepting (questionsOf (slicesOf (now table)) n) v a b ≡ false) × New u v a votes × New u v b accepts ⌝ }
-    ensures { λ r. ⌜ r ≡ accepting (questionsOf (slicesOf (now (table .entry))) n) v votes accepts ⌝ }
+    requires { ⌜ Table (now table) n × (u < n) × (v < n) × (accepting (questions (now table)) v a b ≡ false) × New u v a votes × New u v b accepts ⌝ }
+    ensures { λ r. ⌜ r ≡ accepting (questions (now (table .entry))) v votes accepts ⌝ }
 {
     let own = masks::single(v as u64);
     let before = masks::minus(b, own);
@@ -131,8 +125,8 @@ fn now_accepts(
     a: u64,
     b: u64,
 )
-    requires { ⌜ Table (now table) n × (length (now state) ≡ size n) × (u < n) × (v < n) × (side < 2) × Since (questionsOf (slicesOf (now table)) n) n u v side a b (now state) ⌝ }
-    ensures { λ r. ⌜ now (state .exit) ≡ nowAccepts (questionsOf (slicesOf (now (table .entry))) n) n v side (now (state .entry)) ⌝ }
+    requires { ⌜ Table (now table) n × (length (now state) ≡ size n) × (u < n) × (v < n) × (side < 2) × Since (questions (now table)) n u v side a b (now state) ⌝ }
+    ensures { λ r. ⌜ now (state .exit) ≡ nowAccepts (questions (now (table .entry))) n v side (now (state .entry)) ⌝ }
 {
     if masks::has(state[4 * n + 2 + side], v as u64) {
         return;
@@ -146,8 +140,8 @@ fn now_accepts(
 
 // The receiver confirms if the rule says so. If it has confirmed, nothing is asked.
 fn now_confirms(table: &[u64], n: usize, state: &mut [u64], u: usize, v: usize, side: usize, b: u64)
-    requires { ⌜ Table (now table) n × (length (now state) ≡ size n) × (u < n) × (v < n) × (side < 2) × New u v b (get (now state) (accepts side v)) × (confirming (questionsOf (slicesOf (now table)) n) v b ≡ true → v ∈ get (now state) (confirmed n side)) ⌝ }
-    ensures { λ r. ⌜ now (state .exit) ≡ nowConfirms (questionsOf (slicesOf (now (table .entry))) n) n v side (now (state .entry)) ⌝ }
+    requires { ⌜ Table (now table) n × (length (now state) ≡ size n) × (u < n) × (v < n) × (side < 2) × New u v b (get (now state) (accepts side v)) × (confirming (questions (now table)) v b ≡ true → v ∈ get (now state) (confirmed n side)) ⌝ }
+    ensures { λ r. ⌜ now (state .exit) ≡ nowConfirms (questions (now (table .entry))) n v side (now (state .entry)) ⌝ }
 {
     if masks::has(state[4 * n + 4 + side], v as u64) {
         return;
@@ -167,8 +161,8 @@ pub fn take(
     to: usize,
     side: usize,
 )
-    requires { ⌜ Table (now table) n × (length (now state) ≡ size n) × InRange n (call kind from to side) × Since (questionsOf (slicesOf (now table)) n) n from to side (get (now state) (votes side to)) (get (now state) (accepts side to)) (now state) ⌝ }
-    ensures { λ r. ⌜ now (state .exit) ≡ taken (questionsOf (slicesOf (now (table .entry))) n) n (call kind from to side) (now (state .entry)) ⌝ }
+    requires { ⌜ Table (now table) n × (length (now state) ≡ size n) × InRange n (call kind from to side) × Since (questions (now table)) n from to side (get (now state) (votes side to)) (get (now state) (accepts side to)) (now state) ⌝ }
+    ensures { λ r. ⌜ now (state .exit) ≡ taken (questions (now (table .entry))) n (call kind from to side) (now (state .entry)) ⌝ }
 {
     let a = state[4 * to + side];
     let b = state[4 * to + 2 + side];
@@ -194,8 +188,8 @@ pub fn work(
     to: usize,
     side: usize,
 ) -> Worked
-    requires { ⌜ Table (now table) n × Sound (questionsOf (slicesOf (now table)) n) n faulty (now state) ⌝ }
-    ensures { λ r. ⌜ Works (questionsOf (slicesOf (now (table .entry))) n) n faulty (call kind from to side) (now (state .entry)) (r .answer) (r .changed) (now (state .exit)) ⌝ }
+    requires { ⌜ Table (now table) n × Sound (questions (now table)) n faulty (now state) ⌝ }
+    ensures { λ r. ⌜ Works (voteOf (now (table .entry)) n faulty) (call kind from to side) (now (state .entry)) (r .answer) (r .changed) (now (state .exit)) ⌝ }
 {
     let a = answers::answer(n, faulty, state, kind, from, to, side);
     let Check::Sound = a else {

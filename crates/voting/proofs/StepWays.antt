@@ -11,12 +11,14 @@ use Rattle.refusals.specs.declared.Refusal.{Refusal}
 use Rattle.refusals.specs.declared.Refusal.the-variants.{Unsound}
 use Rattle.table.proofs.SetCheck.{set-table}
 use Rattle.table.specs.Table.{Table, sites, setCheck}
-use Rattle.rules.specs.Inner.{call, Works}
-use Rattle.rules.specs.Rules.{Call}
 use Rattle.rules.specs.Sound.{Sound, unsound}
-use Rattle.voting.specs.Step.{questions, soundCheck, stepCheck, toStepped, stepInto}
+use Rattle.voting.specs.Step.{soundCheck, stepCheck, toStepped, stepInto}
 use Rattle.voting.specs.declared.Stepped.{Stepped}
+use Rattle.rules.specs.Vote.{voteOf}
 use Rattle.rules.proofs.Exact.{sound-of}
+use Rattle.votes.specs.Call.{call, Call}
+use Rattle.votes.specs.Inner.{Works}
+use Rattle.sets.specs.Promises.{questions}
 
 -- the soundness of a state: table, 10, 18
 module _ (t : List ℕ) (F : ℕ) (s : List ℕ) {q : Check} (eq : q ≡ setCheck t F) where
@@ -52,7 +54,7 @@ module _ (t : List ℕ) (F : ℕ) (s : List ℕ) {q : Check} (eq : q ≡ soundCh
         let bad = unsound (questions t) n F s in
         sound-of (questions t) n F s (kept bad Unsound (orElse-sound (setCheck t F) (refuse bad Unsound) (sym eq ∙ e) .1))
 
-    module _ {c : Call} {a : Check} {changed : Bool} {s₁ : List ℕ} (w : Works (questions t) (sites (length t)) F c s a changed s₁) where
+    module _ {c : Call} {a : Check} {changed : Bool} {s₁ : List ℕ} (w : Works (voteOf t (sites (length t)) F) c s a changed s₁) where
       into : s₁ ≡ stepInto t F c s
       unfolding stepInto
       into = w .state ∙ sym (rw (sym eq ∙ e) refl)

@@ -6,17 +6,15 @@ use Rattle.refusals.specs.First.{orElse, refuse}
 use Rattle.refusals.specs.declared.Check.{Check}
 use Rattle.refusals.specs.declared.Check.the-variants.{Sound}
 use Rattle.refusals.specs.declared.Refusal.the-variants.{Unsound}
-use Rattle.sets.specs.Promises.{Questions, questionsOf}
-use Rattle.sets.specs.Slices.{slicesOf}
+use Rattle.sets.specs.Promises.{questions}
 use Rattle.table.specs.Table.{sites, setCheck}
-use Rattle.rules.specs.Rules.{Call, answer, step, ifTaken}
+use Rattle.rules.specs.Rules.{answer}
 use Rattle.rules.specs.Sound.{unsound}
+use Rattle.rules.specs.Vote.{voteOf}
 use Rattle.voting.specs.declared.Stepped.{Stepped}
 use Rattle.voting.specs.declared.Stepped.the-variants.{Taken}
-
--- the set questions of a table in memory
-abbrev pub questions : List ℕ → Questions
-questions t = questionsOf (slicesOf t) (sites (length t))
+use Rattle.votes.specs.Call.{Call}
+use Rattle.votes.specs.Vote.{step, ifTaken}
 
 -- table, 10 ("a set names a site at or above n"), 18
 unfoldable pub soundCheck : List ℕ → ℕ → List ℕ → Check
@@ -35,5 +33,5 @@ toStepped (Check.Refused r) = Stepped.Refused r
 
 -- what the state is then: a taken call changes what the rules say, a refused one nothing
 unfoldable pub stepInto : List ℕ → ℕ → Call → List ℕ → List ℕ
-unfolding soundCheck step
-stepInto t F c s = ifTaken (soundCheck t F s) (step (questions t) (sites (length t)) F c s) s
+unfolding soundCheck
+stepInto t F c s = ifTaken (soundCheck t F s) (step (voteOf t (sites (length t)) F) c s) s

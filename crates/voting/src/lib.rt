@@ -1,11 +1,11 @@
 // The rules of a vote: the step and the soundness of a state, as public calls, and the inner step that a run shares.
 ghost use mathlib.Core.Path.{_≡_};
 ghost use Rattle.table.specs.Table.{Table};
-ghost use Rattle.sets.specs.Slices.{slicesOf};
-ghost use Rattle.sets.specs.Promises.{questionsOf};
+ghost use Rattle.sets.specs.Promises.{questions};
 ghost use Rattle.rules.specs.Sound.{Sound};
 ghost use Rattle.voting.specs.Step.{soundCheck, stepCheck, toStepped, stepInto};
-ghost use Rattle.rules.specs.Inner.{call, Works};
+ghost use Rattle.votes.specs.Call.{call};
+ghost use Rattle.votes.specs.Inner.{Works};
 use refusals::Check;
 use refusals::Refusal;
 

@@ -3,9 +3,9 @@ use Prim.Native.Nat.{ℕ}
 use mathlib.Core.Path.{ap, _∙_}
 use borrow.Author.Needs.{needs}
 use lib.ListN.{replicate}
-use Rattle.rules.specs.State.{fresh}
 use Rattle.run.proofs.run_cleared.Statement.{statement}
 use Rattle.run.proofs.run_cleared.Tie as tie
+use Rattle.votes.specs.Vote.{fresh}
 
 run-fresh-requires : tie.Need-run-fresh-requires
 unfolding fresh

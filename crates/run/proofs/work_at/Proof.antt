@@ -5,9 +5,9 @@ use Rattle.run.proofs.Turns.{works-at}
 use Rattle.sets.specs.Promises.{questionsOf}
 use Rattle.sets.specs.Slices.{slicesOf}
 use Rattle.rules.proofs.Inner.{works-refused}
-use Rattle.rules.specs.Inner.{call}
 use Rattle.run.proofs.work_at.Statement.{statement}
 use Rattle.run.proofs.work_at.Tie as tie
+use Rattle.votes.specs.Call.{call}
 
 returns : tie.Need-returns
 returns c =

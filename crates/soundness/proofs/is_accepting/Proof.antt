@@ -2,9 +2,7 @@
 use mathlib.Core.Path.{sym, _∙_}
 use borrow.Author.Needs.{needs}
 use denote.Ref.{now}
-use Rattle.sets.proofs.Promises.{blocked-asked}
-use Rattle.sets.specs.Promises.{questionsOf}
-use Rattle.sets.specs.Slices.{slicesOf}
+use Rattle.sets.specs.Promises.{questions}
 use Rattle.rules.proofs.WorkWays.{accepts-by-blocking, accepts-by-quorum}
 use Rattle.soundness.proofs.is_accepting.Statement.{statement}
 use Rattle.soundness.proofs.is_accepting.Tie as tie
@@ -14,8 +12,8 @@ returns c =
     let b = c .before .before .before .before .before in
     let a = b .args in
     let o = c .before .before .minus in (
-      accepts-by-blocking (questionsOf (slicesOf (now (a .table))) (a .n)) (a .v) (a .votes) (a .accepts) (c .before .before .before .single .ensures) (o .ensures)
-          (sym (blocked-asked (slicesOf (now (a .table))) (a .n) (a .v) (o .result)) ∙ sym (c .before .blocks2 .ensures) ∙ c .if1 .taken),
+      accepts-by-blocking (questions (now (a .table))) (a .v) (a .votes) (a .accepts) (c .before .before .before .single .ensures) (o .ensures)
+          (sym (c .before .blocked .ensures) ∙ c .if1 .taken),
       b .pre .2,
     )
 
@@ -24,8 +22,8 @@ returns-2 c =
     let a = c .before .before .before .before .before .before .before .args in
     let o = c .before .before .before .before .minus in (
       c .belongs .ensures .0
-          ∙ accepts-by-quorum (questionsOf (slicesOf (now (a .table))) (a .n)) (a .v) (a .votes) (a .accepts) (c .before .before .before .before .before .single .ensures) (o .ensures)
-          (sym (blocked-asked (slicesOf (now (a .table))) (a .n) (a .v) (o .result)) ∙ sym (c .before .before .before .blocks2 .ensures) ∙ c .before .before .if1 .left),
+          ∙ accepts-by-quorum (questions (now (a .table))) (a .v) (a .votes) (a .accepts) (c .before .before .before .before .before .single .ensures) (o .ensures)
+          (sym (c .before .before .before .blocked .ensures) ∙ c .before .before .if1 .left),
       c .belongs .ensures .1,
     )
 

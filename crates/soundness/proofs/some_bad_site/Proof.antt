@@ -7,23 +7,23 @@ use borrow.Author.Needs.{needs}
 use denote.Ref.{now}
 use Rattle.ground.proofs.Some.{some-of, some-more, some-none}
 use Rattle.ground.specs.Search.{some}
-use Rattle.sets.specs.Promises.{questionsOf}
-use Rattle.sets.specs.Slices.{slicesOf}
-use Rattle.rules.specs.Inner.{Asked}
+use Rattle.sets.specs.Promises.{questions}
+use Rattle.asking.specs.Inner.{Asked}
+use Rattle.asking.proofs.AskedLaws.{asked-none}
 use Rattle.rules.specs.Sound.{badSite}
-use Rattle.rules.proofs.Asked.{asked-none}
+use Rattle.sets.proofs.Promises.{table-promises}
 use Rattle.soundness.proofs.some_bad_site.Statement.{statement}
 use Rattle.soundness.proofs.some_bad_site.Tie as tie
 
 abbrev Inv-loop : tie.InvT-loop
 Inv-loop table n faulty state asked₀ v₀ asked v =
-    (v ≤ n) × (some v (badSite (questionsOf (slicesOf table) n) n faulty state) ≡ false) × Asked table n asked
+    (v ≤ n) × (some v (badSite (questions table) n faulty state) ≡ false) × Asked (questions table) n asked
 
 abbrev μ-loop : tie.MeasureT-loop
 μ-loop table n faulty state asked₀ v₀ asked v = n - v
 
 loop-holds : tie.Need-loop-holds Inv-loop μ-loop
-loop-holds c = let a = c .before .before .args in (search needs, some-none _, asked-none (now (a .table)) (a .n))
+loop-holds c = let a = c .before .before .args in (search needs, some-none _, asked-none (table-promises (now (a .table)) (a .n) (c .before .before .pre .0)) (a .n))
 
 returns : tie.Need-returns Inv-loop μ-loop
 returns c = sym (some-of _ _ (c .before .before .before .loop-test .taken) (sym (c .before .is-bad-site .ensures .0) ∙ c .if1 .taken))

@@ -2,8 +2,7 @@
 use mathlib.Core.Path.{sym, _∙_}
 use borrow.Author.Needs.{needs}
 use denote.Ref.{now}
-use Rattle.sets.specs.Promises.{questionsOf}
-use Rattle.sets.specs.Slices.{slicesOf}
+use Rattle.sets.specs.Promises.{questions}
 use Rattle.rules.proofs.Since.{unblocked-then, no-quorum-then, new-either}
 use Rattle.rules.proofs.WorkWays.{accepts-by-blocking, accepts-by-quorum}
 use Rattle.taking.proofs.now_accepting.Statement.{statement}
@@ -15,13 +14,13 @@ now-blocked-requires c κs =
     let a = s .args in (
       s .pre .0,
       s .pre .2,
-      unblocked-then (questionsOf (slicesOf (now (a .table))) (a .n)) (a .v) (a .a) (a .b) (s .pre .3) (c .before .before .single .ensures) (c .before .minus .ensures),
+      unblocked-then (questions (now (a .table))) (a .v) (a .a) (a .b) (s .pre .3) (c .before .before .single .ensures) (c .before .minus .ensures),
     )
 
 returns : tie.Need-returns
 returns c =
     let a = c .before .before .before .before .before .before .args in
-    accepts-by-blocking (questionsOf (slicesOf (now (a .table))) (a .n)) (a .v) (a .votes) (a .accepts) (c .before .before .before .before .single .ensures)
+    accepts-by-blocking (questions (now (a .table))) (a .v) (a .votes) (a .accepts) (c .before .before .before .before .single .ensures)
     (c .before .before .minus2 .ensures) (sym (c .before .now-blocked .ensures) ∙ c .if1 .taken)
 
 now-in-quorum-requires : tie.Need-now-in-quorum-requires
@@ -32,7 +31,7 @@ now-in-quorum-requires c κs =
       s .pre .0,
       s .pre .1,
       s .pre .2,
-      no-quorum-then (questionsOf (slicesOf (now (a .table))) (a .n)) (a .v) (a .a) (a .b) (s .pre .3) (c .before .before .before .before .single .ensures) e,
+      no-quorum-then (questions (now (a .table))) (a .v) (a .a) (a .b) (s .pre .3) (c .before .before .before .before .single .ensures) e,
       new-either (s .pre .4) (s .pre .5) (c .before .before .before .before .single .result) e (c .before .before .minus2 .ensures),
     )
 
@@ -40,7 +39,7 @@ returns-2 : tie.Need-returns-2
 returns-2 c =
     let a = c .before .before .before .before .before .before .before .args in
     c .now-in-quorum .ensures
-    ∙ accepts-by-quorum (questionsOf (slicesOf (now (a .table))) (a .n)) (a .v) (a .votes) (a .accepts) (c .before .before .before .before .before .single .ensures)
+    ∙ accepts-by-quorum (questions (now (a .table))) (a .v) (a .votes) (a .accepts) (c .before .before .before .before .before .single .ensures)
     (c .before .before .before .minus2 .ensures) (sym (c .before .before .now-blocked .ensures) ∙ c .before .if1 .left)
 
 pub now-accepting-spec : {M : Type 1} → statement M

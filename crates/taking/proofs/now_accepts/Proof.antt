@@ -3,8 +3,7 @@ use mathlib.Core.Path.{sym, _∙_}
 use borrow.Author.Needs.{needs}
 use denote.Ref.{now}
 use Rattle.masks.proofs.Laws.Subsets.{mem}
-use Rattle.sets.specs.Promises.{questionsOf}
-use Rattle.sets.specs.Slices.{slicesOf}
+use Rattle.sets.specs.Promises.{questions}
 use Rattle.rules.proofs.Receiver.{nowAccepts-still}
 use Rattle.rules.proofs.Since.{unaccepted}
 use Rattle.rules.proofs.WorkWays.{accepts-way}
@@ -16,7 +15,7 @@ returns c =
     let b = c .before .before .before .before .before in
     let a = b .args in
     let h = mem (sym (c .before .has .ensures) ∙ c .if1 .taken) in
-    sym (nowAccepts-still (questionsOf (slicesOf (now (a .table))) (a .n)) (a .n) (a .v) (a .side) (now (a .state)) (λ e. h) (λ e. b .pre .5 .own-heard h))
+    sym (nowAccepts-still (questions (now (a .table))) (a .n) (a .v) (a .side) (now (a .state)) (λ e. h) (λ e. b .pre .5 .own-heard h))
 
 now-accepting-requires : tie.Need-now-accepting-requires
 now-accepting-requires c κs =
@@ -32,7 +31,7 @@ now-accepting-requires c κs =
 returns-2 : tie.Need-returns-2
 returns-2 c =
     let a = c .before .before .before .before .before .before .before .before .before .before .before .before .before .before .before .before .before .args in
-    accepts-way (questionsOf (slicesOf (now (a .table))) (a .n)) (a .n) (a .v) (a .side) (now (a .state))
+    accepts-way (questions (now (a .table))) (a .n) (a .v) (a .side) (now (a .state))
     (c .before .before .before .before .before .before .before .before .only .ensures)
     (c .before .before .before .before .before .before .before .before .before .now-accepting .ensures)
     (c .before .before .before .before .before .before .put .ensures) (c .before .before .put2 .ensures)

@@ -5,8 +5,7 @@ use denote.Ref.{now}
 use Rattle.ground.proofs.Logic.{is-false}
 use Rattle.masks.proofs.Laws.Single.{not-in}
 use Rattle.masks.proofs.Laws.Subsets.{mem}
-use Rattle.sets.specs.Promises.{questionsOf}
-use Rattle.sets.specs.Slices.{slicesOf}
+use Rattle.sets.specs.Promises.{questions}
 use Rattle.rules.specs.Rules.{confirming}
 use Rattle.rules.proofs.Receiver.{nowConfirms-still}
 use Rattle.rules.proofs.WorkWays.{confirms-way}
@@ -16,7 +15,7 @@ use Rattle.taking.proofs.now_confirms.Tie as tie
 returns : tie.Need-returns
 returns c =
     let a = c .before .before .before .before .before .args in
-    sym (nowConfirms-still (questionsOf (slicesOf (now (a .table))) (a .n)) (a .n) (a .v) (a .side) (now (a .state))
+    sym (nowConfirms-still (questions (now (a .table))) (a .n) (a .v) (a .side) (now (a .state))
     (λ e. mem (sym (c .before .has .ensures) ∙ c .if1 .taken)))
 
 now-in-quorum-requires : tie.Need-now-in-quorum-requires
@@ -29,7 +28,7 @@ now-in-quorum-requires c κs =
       p .0,
       p .2,
       p .3,
-      is-false (questionsOf (slicesOf (now (a .table))) (a .n) .inQuorum (a .v) (a .b)) (λ e. not-in h (p .6 e)),
+      is-false (questions (now (a .table)) .inQuorum (a .v) (a .b)) (λ e. not-in h (p .6 e)),
       p .5,
     )
 
@@ -37,7 +36,7 @@ returns-2 : tie.Need-returns-2
 unfolding confirming
 returns-2 c =
     let a = c .before .before .before .before .before .before .before .before .before .before .before .before .args in
-    confirms-way (questionsOf (slicesOf (now (a .table))) (a .n)) (a .n) (a .v) (a .side) (now (a .state)) (c .before .before .before .before .only .ensures)
+    confirms-way (questions (now (a .table))) (a .n) (a .v) (a .side) (now (a .state)) (c .before .before .before .before .only .ensures)
     (c .before .before .before .before .before .now-in-quorum .ensures) (c .before .before .put .ensures)
 
 pub now-confirms-spec : {M : Type 1} → statement M

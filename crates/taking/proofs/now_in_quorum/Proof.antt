@@ -3,8 +3,8 @@ use mathlib.Core.Path.{sym, ap, _∙_}
 use borrow.Author.Needs.{needs}
 use borrow.Author.Tests.{not-true, not-false}
 use denote.Ref.{now}
-use Rattle.sets.specs.Promises.{questionsOf}
-use Rattle.sets.specs.Slices.{slicesOf}
+use Rattle.sets.proofs.Promises.{table-promises}
+use Rattle.sets.specs.Promises.{questions}
 use Rattle.rules.proofs.Since.{sender-without}
 use Rattle.taking.proofs.now_in_quorum.Statement.{statement}
 use Rattle.taking.proofs.now_in_quorum.Tie as tie
@@ -13,12 +13,13 @@ returns : tie.Need-returns
 returns c =
     let b = c .before .before in
     let a = b .args in
-    sym (ap (questionsOf (slicesOf (now (a .table))) (a .n) .inQuorum (a .v)) (c .if1 .taken) ∙ b .pre .3)
+    sym (ap (questions (now (a .table)) .inQuorum (a .v)) (c .if1 .taken) ∙ b .pre .3)
 
 returns-3 : tie.Need-returns-3
 returns-3 c =
-    let p = c .before .before .before .before .before .before .pre in
-    sender-without (p .0) (p .4) (p .3) (sym (c .before .before .before .has .ensures) ∙ not-false _ (c .before .before .if2 .left))
+    let s = c .before .before .before .before .before .before in
+    let p = s .pre in
+    sender-without (table-promises (now (s .args .table)) (s .args .n) (p .0)) (p .4) (p .3) (sym (c .before .before .before .has .ensures) ∙ not-false _ (c .before .before .if2 .left))
     (sym (c .before .has-slice .ensures) ∙ not-true _ (c .if3 .taken))
 
 pub now-in-quorum-spec : {M : Type 1} → statement M

@@ -5,14 +5,13 @@ use Prim.Native.Nat.{ℕ}
 use lib.ListN.{length}
 use borrow.Author.Needs.{needs}
 use denote.Ref.{now}
-use Rattle.sets.specs.Promises.{questionsOf}
-use Rattle.sets.specs.Slices.{slicesOf}
-use Rattle.rules.specs.Inner.{call}
+use Rattle.sets.specs.Promises.{questions}
 use Rattle.rules.proofs.Heard.{hears-alone}
 use Rattle.rules.proofs.Since.{hears-since, accepts-since}
 use Rattle.rules.proofs.WorkWays.{taken-way}
 use Rattle.taking.proofs.take.Statement.{statement}
 use Rattle.taking.proofs.take.Tie as tie
+use Rattle.votes.specs.Call.{call}
 
 now-accepts-requires : tie.Need-now-accepts-requires
 now-accepts-requires c κs =
@@ -33,7 +32,7 @@ now-confirms-requires c κs =
 returns : tie.Need-returns
 returns c =
     let a = c .before .before .before .before .before .before .before .before .before .before .before .before .before .before .before .before .args in
-    taken-way (questionsOf (slicesOf (now (a .table))) (a .n)) (a .n) (call (a .kind) (a .from) (a .to) (a .side)) (now (a .state))
+    taken-way (questions (now (a .table))) (a .n) (call (a .kind) (a .from) (a .to) (a .side)) (now (a .state))
     (c .before .before .before .before .before .before .before .before .before .before .hear .ensures)
     (c .before .before .before .before .before .before .now-accepts .ensures) (c .before .before .now-confirms .ensures)
 

@@ -2,12 +2,12 @@
 use mathlib.Core.Path.{sym, _∙_}
 use borrow.Author.Needs.{needs}
 use denote.Ref.{now}
-use Rattle.rules.specs.Inner.{call}
 use Rattle.rules.proofs.Answer.{takes}
 use Rattle.rules.proofs.Inner.{works-refused, works-heard, works-taken}
 use Rattle.rules.proofs.Since.{sound-since}
 use Rattle.taking.proofs.work.Statement.{statement}
 use Rattle.taking.proofs.work.Tie as tie
+use Rattle.votes.specs.Call.{call}
 
 returns : tie.Need-returns
 returns c =

@@ -1,11 +1,11 @@
 -- `step` meets its contract: what the soundness refuses, or the inner step.
 use borrow.Author.Needs.{needs}
 use denote.Ref.{now}
-use Rattle.rules.specs.Inner.{call}
 use Rattle.voting.proofs.StepWays.{stepped-unsound, sound-table, sound-state, stepped-refused, stepped-taken}
 use Rattle.rules.proofs.WorkWays.{same-works}
 use Rattle.voting.proofs.step.Statement.{statement}
 use Rattle.voting.proofs.step.Tie as tie
+use Rattle.votes.specs.Call.{call}
 
 returns : tie.Need-returns
 returns c =

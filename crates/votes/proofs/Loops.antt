@@ -7,12 +7,12 @@ use native.Mathlib.Decide.{decLt}
 use native.Mathlib.Omega.{arith}
 use lib.ListN.{length}
 use Rattle.ground.proofs.Logic.{and-l, and-r, and-i}
-use Rattle.run.specs.Inner.{quiet}
-use Rattle.run.specs.Passes.{pass, iter, answersOf, run}
-use Rattle.run.proofs.Passes.{Spends, pass-up, Ends, run-ends, run-bound}
+use Rattle.votes.specs.Inner.{quiet}
+use Rattle.votes.specs.Passes.{pass, iter, answersOf, run}
+use Rattle.votes.proofs.Passes.{Spends, pass-up, Ends, run-ends, run-bound}
 
 module _ {S C : Type 0} (step : C → S → S) (same : S → S → Bool) where
-  module _ (W : Spends step same) (anti : (s t : S) → W .Le s t → W .Le t s → s ≡ t) where
+  module _ (W : Spends step same) (anti : (s t : S) → W .Inv s → W .Inv t → W .Le s t → W .Le t s → s ≡ t) where
     pub quiet-still : (l : List C) (s : S) → (quiet step same l s ≡ true) → pass step l s ≡ s
     quiet-still [] s h = refl
     quiet-still (c ∷ l) s h = quiet-still l (step c s) (and-r (same s (step c s)) (quiet step same l (step c s)) h) ∙ sym (W .same-eq s (step c s) (and-l (same s (step c s)) (quiet step same l (step c s)) h))
@@ -20,7 +20,7 @@ module _ {S C : Type 0} (step : C → S → S) (same : S → S → Bool) where
     pub still-quiet : (l : List C) (s : S) → W .Inv s → pass step l s ≡ s → (quiet step same l s ≡ true)
     still-quiet [] s i e = refl
     still-quiet (c ∷ l) s i e =
-        let f : step c s ≡ s = anti (step c s) s (subst (W .Le (step c s)) e (pass-up step same W l (step c s) (W .inv-step c s i))) (W .up c s i) in
+        let f : step c s ≡ s = anti (step c s) s (W .inv-step c s i) i (subst (W .Le (step c s)) e (pass-up step same W l (step c s) (W .inv-step c s i))) (W .up c s i) in
         and-i (subst (λ (x : S). (same s x ≡ true)) (sym f) (W .same-refl s)) (still-quiet l (step c s) (W .inv-step c s i) (e ∙ sym f))
 
 -- one pass more at the end

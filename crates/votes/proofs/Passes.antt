@@ -8,7 +8,7 @@ use native.Mathlib.Omega.{arith}
 use lib.ListN.{length, getD, take}
 use lib.Seq.{take-suc}
 use Rattle.ground.proofs.Logic.{clash}
-use Rattle.run.specs.Passes.{Run, again, pass, iter, answersOf, last, passes, run}
+use Rattle.votes.specs.Passes.{Run, again, pass, iter, answersOf, last, passes, run, Within}
 
 -- Laws of a pass. One call more at the end is what a loop over the calls carries from turn to turn.
 module _ {S C : Type 0} (step : C → S → S) where
@@ -186,10 +186,6 @@ pub record Rises {S C : Type 0} (step : C → S → S) (Le : S → S → Type 0)
   pub at-step : (c : C) → List·Memᴰ c l → (s : S) → P s → P (step c s)
   pub mono : (c : C) → List·Memᴰ c l → (s t : S) → P s → P t → Le s t → Le (step c s) (step c t)
 
--- every call of a stands in b
-abbrev pub Within : {C : Type 0} → List C → List C → Type 0
-Within {C} a b = (c : C) → List·Memᴰ c a → List·Memᴰ c b
-
 -- reading a list of answers
 getD-mapped : {C : Type 0} (f : C → ℕ) (l : List C) (i : ℕ) (d : C) → i < length l → getD (map f l) i 0 ≡ f (getD l i d)
 getD-mapped f [] i d h = absurd (omega arith)
@@ -197,12 +193,12 @@ getD-mapped f (x ∷ l) zero d h = refl
 getD-mapped f (x ∷ l) (suc i) d h = getD-mapped f l i d (omega arith)
 
 module _ {S C : Type 0} (step : C → S → S) (same : S → S → Bool) (W : Spends step same)
-    (anti : (s t : S) → W .Le s t → W .Le t s → s ≡ t) (fresh : S) (least : (s : S) → W .Inv s → W .Le fresh s) (inv : W .Inv fresh) where
+    (anti : (s t : S) → W .Inv s → W .Inv t → W .Le s t → W .Le t s → s ≡ t) (fresh : S) (least : (s : S) → W .Inv s → W .Le fresh s) (inv : W .Inv fresh) where
   -- a state that a pass leaves alone, each of its calls leaves alone
   pub fixed-each : (l : List C) (s : S) → W .Inv s → pass step l s ≡ s → (c : C) → List·Memᴰ c l → step c s ≡ s
   fixed-each [] s i e c m = absurd (List·Memᴰ·not-nil m)
   fixed-each (x ∷ l) s i e c m =
-      let first : step x s ≡ s = anti (step x s) s (subst (λ (u : S). W .Le (step x s) u) e (pass-up step same W l (step x s) (W .inv-step x s i))) (W .up x s i) in
+      let first : step x s ≡ s = anti (step x s) s (W .inv-step x s i) i (subst (λ (u : S). W .Le (step x s) u) e (pass-up step same W l (step x s) (W .inv-step x s i))) (W .up x s i) in
       ⊎-elim (λ p. ap (λ (y : C). step y s) p ∙ first) (λ m′. fixed-each l s i (ap (pass step l) (sym first) ∙ e) c m′) (List·Memᴰ·cases-cons m)
 
   pub fixed-answers : (ans : C → S → ℕ) (l : List C) (s : S) → ((c : C) → List·Memᴰ c l → step c s ≡ s) → answersOf step ans l s ≡ map (λ (c : C). ans c s) l
@@ -245,7 +241,7 @@ module _ {S C : Type 0} (step : C → S → S) (same : S → S → Bool) (W : Sp
 
   -- The same calls end in the same state.
   pub run-same-state : (ans : C → S → ℕ) (l l′ : List C) → Rises step (W .Le) l fresh → Within l l′ → Within l′ l → (run step ans same fresh l) .state ≡ (run step ans same fresh l′) .state
-  run-same-state ans l l′ R w w′ = anti _ _ (run-below ans l′ l (rises-within l l′ R w′) w) (run-below ans l l′ R w′)
+  run-same-state ans l l′ R w w′ = anti _ _ (run-ends step same W ans fresh inv l .inv) (run-ends step same W ans fresh inv l′ .inv) (run-below ans l′ l (rises-within l l′ R w′) w) (run-below ans l l′ R w′)
 
   -- An answer of the last pass is the answer of the call in the end state.
   pub run-answer : (ans : C → S → ℕ) (l : List C) (i : ℕ) (d : C) → i < length l → getD ((run step ans same fresh l) .answers) i 0 ≡ ans (getD l i d) ((run step ans same fresh l) .state)

@@ -1,7 +1,7 @@
 -- The run of a list of calls, over any states and any calls: "passes from first to last until a pass changes nothing (that pass counts)".
 use Prim.Native.Nat.{ℕ, zero, suc}
 use mathlib.Core.Bool.{Bool, cond}
-use mathlib.Core.List.{List, [], _∷_}
+use mathlib.Core.List.{List, [], _∷_, List·Memᴰ}
 use lib.ListN.{length}
 
 -- "The answer is the state, the number of passes, and one byte a call with its answer in the last pass."
@@ -52,3 +52,11 @@ module _ {S C : Type 0} (step : C → S → S) where
       unfoldable pub run : S → List C → Run S
       unfolding passes
       run fresh l = passes (suc (length l)) l fresh
+
+-- every call of a stands in b
+abbrev pub Within : {C : Type 0} → List C → List C → Type 0
+Within {C} a b = (c : C) → List·Memᴰ c a → List·Memᴰ c b
+
+-- "every list of the same calls, in whichever order and with whichever repeats"
+abbrev pub SameCalls : {C : Type 0} → List C → List C → Type 0
+SameCalls a b = Within a b × Within b a

@@ -1,0 +1,12 @@
+-- `in_quorum` meets its contract: it asks for the receiver in the largest quorum.
+use mathlib.Core.Path.{_∙_}
+use borrow.Author.Needs.{needs}
+use Rattle.sets.proofs.Promises.{quorum-asked}
+use Rattle.asking.proofs.in_quorum.Statement.{statement}
+use Rattle.asking.proofs.in_quorum.Tie as tie
+
+returns : tie.Need-returns
+returns c = let s = c .before .before in c .in-largest .ensures ∙ quorum-asked (s .pre .0) (s .args .receiver) (s .args .w)
+
+pub in-quorum-spec : {M : Type 1} → statement M
+in-quorum-spec = tie.close (tie.spec (λ c κs. search needs) returns)

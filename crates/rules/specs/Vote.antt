@@ -1,0 +1,24 @@
+-- The vote of 01, as a run knows it.
+use Prim.Native.Nat.{ℕ, _<_}
+use mathlib.Core.List.{List}
+use Rattle.masks.specs.Mask.{_∈_}
+use Rattle.rules.specs.Rules.{answer, taken}
+use Rattle.rules.specs.Sound.{Sound}
+use Rattle.rules.specs.State.{size, Below}
+use Rattle.sets.specs.Promises.{Questions, questions}
+use Rattle.votes.specs.Vote.{Vote}
+
+-- of n sites, those of F faulty; "the list proposes both sides to no correct site"
+abbrev pub vote : Questions → ℕ → ℕ → Vote
+vote Q n F = record {
+  width = size n;
+  answer = answer n F;
+  taken = taken Q n;
+  Sound = Sound Q n F;
+  Below = Below;
+  OneSided = λ May. (v : ℕ) → v < n → (v ∈ F → ⊥) → May v 0 → May v 1 → ⊥;
+}
+
+-- of a table in memory of n sites
+abbrev pub voteOf : List ℕ → ℕ → ℕ → Vote
+voteOf t n F = vote (questions t) n F
