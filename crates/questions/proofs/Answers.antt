@@ -14,7 +14,7 @@ use Rattle.refusals.specs.declared.Refusal.{Refusal}
 use Rattle.refusals.specs.declared.Refusal.the-variants.{Set, Range, Large}
 use Rattle.sets.specs.Quorum as Quorum
 use Rattle.sets.specs.Slices.{slicesOf}
-use Rattle.sets.specs.Verdicts as Verdicts
+use Rattle.verdicts.specs.Verdicts as Verdicts
 use Rattle.table.specs.Table.{check, setCheck}
 
 module _ (t : List ℕ) (set : ℕ) where

@@ -17,7 +17,7 @@ use Rattle.refusals.specs.declared.Check.the-variants.{Sound}
 use Rattle.refusals.specs.declared.Refusal.the-variants.{Range, Large}
 use Rattle.sets.specs.Quorum as Quorum
 use Rattle.sets.specs.Slices.{slicesOf}
-use Rattle.sets.specs.Verdicts as Verdicts
+use Rattle.verdicts.specs.Verdicts as Verdicts
 use Rattle.table.specs.Table.{sites, check, setCheck}
 
 -- the number of sites of a table

@@ -92,13 +92,13 @@ pub fn shared(table: &[u64]) -> Sharing
     if 12 < n {
         return Sharing::Refused(Refusal::Large);
     }
-    let first = sets::first_apart(table, n);
+    let first = verdicts::first_apart(table, n);
     if first == masks::single(n as u64) {
         return Sharing::Meet;
     }
     Sharing::Apart {
         first,
-        second: sets::beside(table, n, first),
+        second: verdicts::beside(table, n, first),
     }
 }
 
@@ -114,5 +114,5 @@ pub fn intact(table: &[u64], faulty: u64) -> Standing
     if 12 < n {
         return Standing::Refused(Refusal::Large);
     }
-    Standing::Intact(sets::intact(table, n, faulty))
+    Standing::Intact(verdicts::intact(table, n, faulty))
 }

@@ -29,7 +29,7 @@ use Rattle.report.specs.Table.{sitesOn, imageCheck, checkText}
 use Rattle.report.specs.Verdict.{sevenLines, judgedText, verdictText, inputText, met}
 use Rattle.sets.specs.Quorum as Quorum
 use Rattle.sets.specs.Slices.{slicesOf}
-use Rattle.sets.specs.Verdicts as Verdicts
+use Rattle.verdicts.specs.Verdicts as Verdicts
 use Rattle.table.proofs.SetCheck.{set-sound}
 use Rattle.table.specs.Table.{sites, check, setCheck}
 use Rattle.text.specs.Text.{ascii, decimal}

@@ -14,7 +14,7 @@ use Rattle.refusals.specs.declared.Refusal.the-variants.{Length}
 use Rattle.report.specs.Table.{tableOn, imageCheck, unless}
 use Rattle.sets.specs.Quorum.{largest, rounds}
 use Rattle.sets.specs.Slices.{slicesOf}
-use Rattle.sets.specs.Verdicts.{meets, intact}
+use Rattle.verdicts.specs.Verdicts.{meets, intact}
 use Rattle.table.specs.Table.{sites, setCheck}
 use Rattle.text.specs.Text.{ascii, decimal, mask}
 

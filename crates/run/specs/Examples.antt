@@ -12,7 +12,7 @@ use Rattle.run.specs.Run.{runVotes}
 use Rattle.sets.specs.Promises.{questionsOf, questions}
 use Rattle.sets.specs.Quorum.{quorum, round, left, dropping, largest, rounds}
 use Rattle.sets.specs.Slices.{slicesOf}
-use Rattle.sets.specs.Verdicts.{beside, apart, firstApart, meets, dispensable, isIntact, intact}
+use Rattle.verdicts.specs.Verdicts.{beside, apart, firstApart, meets, dispensable, isIntact, intact}
 use Rattle.rules.specs.Rules.{accepting, confirming, nowAccepts, nowConfirms, hears, taken, outOfRange, crooked, against, unsent, answer}
 use Rattle.rules.specs.State.{accepted, confirmed, get, add}
 use Rattle.votes.specs.Passes.{pass, passes, run}

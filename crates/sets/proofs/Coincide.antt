@@ -1,18 +1,12 @@
 -- Two answers that meet a contract of this crate coincide.
 use mathlib.Core.Path.{sym, _∙_}
 use Rattle.ground.specs.Coincide.{Answers}
-use Rattle.sets.proofs.beside.Kinds as beside-kinds
-use Rattle.sets.proofs.beside.Reads as beside-reads
 use Rattle.sets.proofs.blocks.Kinds as blocks-kinds
 use Rattle.sets.proofs.blocks.Reads as blocks-reads
-use Rattle.sets.proofs.first_apart.Kinds as first-apart-kinds
-use Rattle.sets.proofs.first_apart.Reads as first-apart-reads
 use Rattle.sets.proofs.has_slice.Kinds as has-slice-kinds
 use Rattle.sets.proofs.has_slice.Reads as has-slice-reads
 use Rattle.sets.proofs.in_largest.Kinds as in-largest-kinds
 use Rattle.sets.proofs.in_largest.Reads as in-largest-reads
-use Rattle.sets.proofs.intact.Kinds as intact-kinds
-use Rattle.sets.proofs.intact.Reads as intact-reads
 use Rattle.sets.proofs.is_quorum.Kinds as is-quorum-kinds
 use Rattle.sets.proofs.is_quorum.Reads as is-quorum-reads
 use Rattle.sets.proofs.largest.Kinds as largest-kinds
@@ -32,12 +26,3 @@ is-quorum-coincide κs a x y s t p q = p ∙ sym q
 
 pub blocks-coincide : Answers blocks-kinds.ps blocks-kinds.r blocks-reads.Post
 blocks-coincide κs a x y s t p q = p ∙ sym q
-
-pub beside-coincide : Answers beside-kinds.ps beside-kinds.r beside-reads.Post
-beside-coincide κs a x y s t p q = p ∙ sym q
-
-pub first-apart-coincide : Answers first-apart-kinds.ps first-apart-kinds.r first-apart-reads.Post
-first-apart-coincide κs a x y s t p q = p ∙ sym q
-
-pub intact-coincide : Answers intact-kinds.ps intact-kinds.r intact-reads.Post
-intact-coincide κs a x y s t p q = p ∙ sym q

@@ -1,6 +1,5 @@
 pub mod Quorum
 pub mod Slices
-pub mod Verdicts
 pub mod Lawful
 pub mod Decides
 pub mod Promises
@@ -8,5 +7,4 @@ pub mod Without
 pub mod WholeQuorum
 pub mod Rounds
 pub mod Places
-pub mod HolderLaws
 pub mod Coincide

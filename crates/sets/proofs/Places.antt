@@ -12,7 +12,7 @@ use borrow.Author.Tests.{eqb-true, eqb-false, ltb-true, ltb-false}
 use Rattle.ground.proofs.Logic.{is-false, clash, cases}
 use Rattle.masks.proofs.Laws.Subsets.{within-⊆, ⊆-within, ⊆-trans}
 use Rattle.masks.specs.Mask.{within, _⊆_}
-use Rattle.sets.specs.Places.{Passed}
+use Rattle.sets.specs.Inner.Places.{Passed}
 use Rattle.sets.specs.Slices.{slicesOf}
 use Rattle.sets.proofs.Slices.{inside-of, inside-ex}
 use Rattle.table.specs.Table.{countOf, sliceOf}

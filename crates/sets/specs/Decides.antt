@@ -1,16 +1,14 @@
 -- The computed answers are the paper's: what is proved of a checked table, for every n.
 use Prim.Native.Nat.{ℕ, suc, _≤_, _<_}
-use mathlib.Core.Bool.{Bool, true, false}
+use mathlib.Core.Bool.{Bool, true}
 use mathlib.Core.List.{List}
 use mathlib.Core.Logic.{_⊎_, _↔_}
 use mathlib.Core.Path.{_≡_}
-use lib.Bits.{bitAnd}
-use Rattle.masks.specs.Mask.{minus, allBelow, size, _∈_, _⊆_}
-use Rattle.sets.specs.Paper.{Fbqs, WellFormed, Quorum, Intersection, Dispensable, Intact, Befouled, Blocking}
+use Rattle.masks.specs.Mask.{size, _⊆_}
+use Rattle.sets.specs.Paper.{Fbqs, WellFormed, Quorum, Blocking}
 use Rattle.sets.specs.Promises.{Promises, questions}
 use Rattle.sets.specs.Quorum.{quorum, round, after, largest, rounds}
 use Rattle.sets.specs.Slices.{Slices, fbqsOf, slicesOf}
-use Rattle.sets.specs.Verdicts.{beside, firstApart, meets, dispensable, isIntact, intact}
 use Rattle.table.specs.Table.{Table}
 
 -- of the largest quorum inside w, over any rule s: it is 0 or a quorum of S, inside w, and contains every quorum inside w; it is what is left after its
@@ -24,25 +22,11 @@ pub record Greatest (S : Fbqs) (s : ℕ → ℕ → Bool) (n w : ℕ) : Type 0 w
   pub still : round s n (largest s n w) ≡ largest s n w
   pub few : rounds s n w ≤ size w
 
--- of two quorums with no common site: p is the one of the smallest mask that has a quorum in its complement, q the largest quorum there
-pub record Apart (S : Fbqs) (p q : ℕ) : Type 0 where
-  pub first : Quorum S p
-  pub second : Quorum S q
-  pub no-common : bitAnd p q ≡ 0
-  pub smallest : (a b : ℕ) → Quorum S a → Quorum S b → bitAnd a b ≡ 0 → p ≤ a
-  pub largest-beside : (b : ℕ) → Quorum S b → bitAnd p b ≡ 0 → b ⊆ q
-
--- every answer decides the paper's statement, both ways
+-- quorums, blocking and the largest quorum: every answer decides the paper's statement, both ways
 pub record Decides (S : Fbqs) (r : Slices) (n : ℕ) : Type 0 where
   pub quorum-decides : (q : ℕ) → (quorum (r .inside) n q ≡ true) ↔ Quorum S q
   pub blocked-decides : (v w : ℕ) → (r .blocked v w ≡ true) ↔ Blocking S v w
   pub largest-decides : (w : ℕ) → Greatest S (r .inside) n w
-  pub meets-decides : (meets (r .inside) n ≡ true) ↔ Intersection S
-  pub apart-decides : meets (r .inside) n ≡ false → Apart S (firstApart (r .inside) n) (beside (r .inside) n (firstApart (r .inside) n))
-  pub dispensable-decides : (b : ℕ) → b ⊆ allBelow n → (dispensable r n b ≡ true) ↔ Dispensable S b
-  pub intact-decides : (f v : ℕ) → v < n → (isIntact r n f v ≡ true) ↔ Intact S f v
-  pub intact-set : (f v : ℕ) → (v ∈ intact r n f) ↔ Intact S f v
-  pub befouled-set : (f v : ℕ) → (v ∈ minus (allBelow n) (intact r n f)) ↔ Befouled S f v
 
 -- a checked table is a well-formed FBQS, its answers decide the paper's statements, and it keeps the promises that the voting rests on
 abbrev pub TableIsFbqs : Type 0

@@ -6,11 +6,7 @@ ghost use Rattle.masks.specs.Mask.{has, single, within, _∈_};
 ghost use Rattle.table.specs.Table.{countOf, sliceOf, Table};
 ghost use Rattle.sets.specs.Slices.{slicesOf};
 ghost use Rattle.sets.specs.Quorum.{quorum, round, largest, rounds};
-ghost use Rattle.sets.specs.Verdicts.{beside, firstApart, intact};
-ghost use Rattle.sets.specs.Places.{Passed};
-
-mod holders;
-mod search;
+ghost use Rattle.sets.specs.Inner.Places.{Passed};
 
 // The set w blocks site v: it meets every slice of v.
 pub fn blocks(table: &[u64], n: usize, w: u64, v: usize) -> bool
@@ -164,36 +160,4 @@ pub fn is_quorum(table: &[u64], n: usize, q: u64) -> bool
         v += 1;
     }
     true
-}
-
-// The largest quorum in the complement of p.
-pub fn beside(table: &[u64], n: usize, p: u64) -> u64
-    requires { ⌜ Table (now table) n ⌝ }
-    ensures { λ r. ⌜ r ≡ beside (slicesOf (now (table .entry)) .inside) n p ⌝ }
-{
-    let l = largest(table, n, masks::minus(masks::all_below(n as u64), p));
-    l.set
-}
-
-// The quorum of the smallest mask that has a quorum in its complement; 2^n if there is none.
-pub fn first_apart(table: &[u64], n: usize) -> u64
-    requires { ⌜ Table (now table) n × (n ≤ 12) ⌝ }
-    ensures { λ r. ⌜ r ≡ firstApart (slicesOf (now (table .entry)) .inside) n ⌝ }
-{
-    let mut list = [0u16; 4096];
-    holders::fill(table, n, &mut list);
-    search::first_apart(table, n, &list, 0)
-}
-
-// The sites that are intact when those of f are faulty.
-pub fn intact(table: &[u64], n: usize, f: u64) -> u64
-    requires { ⌜ Table (now table) n × (n ≤ 12) ⌝ }
-    ensures { λ r. ⌜ r ≡ intact (slicesOf (now (table .entry))) n f ⌝ }
-{
-    if !masks::within(f, masks::all_below(n as u64)) {
-        return 0;
-    }
-    let mut list = [0u16; 4096];
-    holders::fill(table, n, &mut list);
-    search::intact(table, n, &list, f)
 }

@@ -8,7 +8,7 @@ use denote.Ref.{now}
 use Rattle.ground.proofs.Logic.{is-false, clash}
 use Rattle.masks.proofs.Laws.Subsets.{mem}
 use Rattle.masks.specs.Mask.{has, _⊆_}
-use Rattle.sets.specs.Places.{Passed}
+use Rattle.sets.specs.Inner.Places.{Passed}
 use Rattle.sets.specs.Quorum.{round, largest}
 use Rattle.sets.specs.Slices.{slicesOf}
 use Rattle.sets.proofs.Places.{passed-none, passed-less}

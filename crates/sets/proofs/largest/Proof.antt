@@ -6,7 +6,7 @@ use native.Mathlib.Omega.{arith}
 use lib.Count.{ones-le}
 use denote.Ref.{now}
 use Rattle.masks.specs.Mask.{_⊆_}
-use Rattle.sets.specs.Places.{Passed}
+use Rattle.sets.specs.Inner.Places.{Passed}
 use Rattle.sets.specs.Quorum.{round, largest, rounds}
 use Rattle.sets.specs.Slices.{slicesOf}
 use Rattle.sets.proofs.Places.{passed-none, passed-less}

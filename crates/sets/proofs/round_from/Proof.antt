@@ -8,7 +8,7 @@ use borrow.Author.Needs.{needs}
 use denote.Ref.{now}
 use Rattle.masks.proofs.Laws.Subsets.{⊆-trans, ∈-below, and-⊆-r, minus-⊆}
 use Rattle.masks.specs.Mask.{single, minus, allBelow, _∈_, _⊆_}
-use Rattle.sets.specs.Places.{Passed}
+use Rattle.sets.specs.Inner.Places.{Passed}
 use Rattle.sets.specs.Quorum.{round}
 use Rattle.sets.specs.Slices.{slicesOf}
 use Rattle.sets.proofs.Rounds.{fewer, asked-none, asked-more, asked-all}

@@ -1,0 +1,2 @@
+-- What the loops of the sets carry.
+pub mod Places
