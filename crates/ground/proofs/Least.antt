@@ -1,10 +1,9 @@
 -- Laws of `least`.
-use Prim.Native.Nat.{ℕ, zero, suc, _+_, _≤_, _<_}
+use Prim.Native.Nat.{ℕ, zero, suc, _≤_, _<_}
 use mathlib.Core.Bool.{Bool, true, false, cond}
 use mathlib.Core.Logic.{⊎-elim}
 use mathlib.Core.Path.{_≡_, refl, sym, ap, _∙_, subst}
 use native.Mathlib.Nat.{not-suc-le-zero, le-of-suc-le-suc, eq-or-lt-of-le, le-refl, le-suc, le-trans}
-use native.Mathlib.Numerals.{add-one}
 use native.Mathlib.Omega.{arith}
 use borrow.Author.Tests.{lt-ltb, le-ltb}
 use Rattle.ground.specs.Search.{least}
@@ -21,9 +20,6 @@ found k p l = rw (lt-ltb (least k p) k l) refl
 pub least-none : (p : ℕ → Bool) → least 0 p ≡ 0
 unfolding least
 least-none p = refl
-
-pub least-more : (i : ℕ) (p : ℕ → Bool) → least i p ≡ i → p i ≡ false → least (i + 1) p ≡ i + 1
-least-more i p e f = ap (λ (k : ℕ). least k p) (add-one i) ∙ at-end i p e ∙ ap (λ (b : Bool). cond b i (suc i)) f ∙ sym (add-one i)
 
 pub least-hit : (k i : ℕ) (p : ℕ → Bool) → i < k → least i p ≡ i → p i ≡ true → least k p ≡ i
 least-hit zero i p l e h = absurd (not-suc-le-zero l)

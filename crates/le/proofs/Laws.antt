@@ -1,13 +1,13 @@
 -- Laws of little-endian numbers: what was written is read, what was read is written, and two fields side by side are one.
 use Prim.Native.Nat.{ℕ, zero, suc, _+_, _*_, _/_, _%_, _^_, _≤_, _<_}
-use mathlib.Core.List.{List, [], _∷_, _++_, append-assoc}
+use mathlib.Core.List.{List, [], _∷_, _++_}
 use mathlib.Core.Path.{_≡_, refl, sym, ap, _∙_}
 use native.Mathlib.Nat.{div-one, one-le-pow, mul-comm, div-div-eq-div-mul, mod-lt, pow-suc, pow-zero, zero-add, add-zero, suc-add, div-lt-iff-lt-mul}
 use native.Mathlib.Numerals.{add-one}
 use native.Mathlib.Omega.{arith}
 use lib.Arith.{mod-mul, digits-mod, digits-div}
-use lib.ListN.{length, getD, take, drop, length-drop, take-append-drop, set}
-use lib.Seq.{take-nil, drop-nil, sets, sets-eq, drop-at, take-at, length-take-le, drop-drop, getD-drop, drop-append-le, take-append-le}
+use lib.ListN.{length, getD, take, drop, length-drop, set}
+use lib.Seq.{take-nil, drop-nil, sets, drop-at, take-at, length-take-le, getD-drop, drop-append-le, take-append-le}
 use Rattle.le.specs.Le.{number, digits, field}
 
 -- one byte more: holds also past the end, where every byte is 0
@@ -103,40 +103,6 @@ digits-number (x ∷ l) h =
     let r : (x + 256 * number l) % 256 ≡ x = omega arith in
     let q : (x + 256 * number l) / 256 ≡ number l = omega arith in
     rw (r, q) (ap (λ (t : List ℕ). x ∷ t) (digits-number l (λ i. h (suc i))))
-
--- what was written is read
-pub field-sets : (w : ℕ) (b : List ℕ) (at v : ℕ) → at + w ≤ length b → v < 256 ^ w → field w (sets b at (digits w v)) at ≡ v
-unfolding field
-field-sets w b at v h hv =
-    let n : length (digits w v) ≡ w = length-digits w v in
-    let h′ : at + length (digits w v) ≤ length b = rw n h in
-    let ht : at ≤ length b = omega arith in
-    rw (
-      sets-eq (digits w v) b at h′,
-      append-assoc (take at b) (digits w v),
-      drop-at (take at b) (digits w v ++ drop (at + length (digits w v)) b) at (length-take-le at b ht),
-      take-at (digits w v) (drop (at + length (digits w v)) b) w n,
-    )
-    (number-digits w v hv)
-
--- what was read, written again, changes nothing
-pub sets-field : (w : ℕ) (b : List ℕ) (at : ℕ) → at + w ≤ length b → Bytes b → sets b at (digits w (field w b at)) ≡ b
-unfolding field Bytes
-sets-field w b at h hb =
-    let n : length (take w (drop at b)) ≡ w = length-take-le w (drop at b) (rw length-drop (omega arith)) in
-    let e : digits w (number (take w (drop at b))) ≡ take w (drop at b) =
-    ap (λ (k : ℕ). digits k (number (take w (drop at b)))) (sym n)
-    ∙ digits-number (take w (drop at b)) (bytes-part w at b hb) in
-    let k : at + length (take w (drop at b)) ≤ length b = rw n h in
-    rw (
-      e,
-      sets-eq (take w (drop at b)) b at k,
-      n,
-      append-assoc (take at b) (take w (drop at b)),
-      ← drop-drop w at b,
-      take-append-drop w (drop at b),
-    )
-    (take-append-drop at b)
 
 -- the bytes of a field
 pub digits-field : (w : ℕ) (b : List ℕ) (at : ℕ) → at + w ≤ length b → Bytes b → digits w (field w b at) ≡ take w (drop at b)

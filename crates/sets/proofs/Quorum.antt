@@ -128,9 +128,6 @@ module _ (s : ℕ → ℕ → Bool) (n : ℕ) where
   largest-still =
       along (λ (w : ℕ). round s n (largest s n w) ≡ largest s n w) (λ u e. rw (largest-stop u e) e) (λ u ne ih. rw (largest-step u ne) ih)
 
-  pub largest-lt : (w : ℕ) → largest s n w < 2 ^ n
-  largest-lt w = subst (λ (x : ℕ). x < 2 ^ n) (largest-still w) (round-lt (largest s n w))
-
   -- its rounds
 
   pub rounds-few : (w : ℕ) → rounds s n w ≤ size w

@@ -10,15 +10,13 @@ use lib.Dec.{eqb, ltb}
 use lib.ListN.{getD, take, drop-of-length-le}
 use borrow.Author.Tests.{not-false, ltb-true, ltb-false, eqb-true, eqb-false}
 use Rattle.ground.proofs.Every.{every-at, every-fails}
-use Rattle.ground.proofs.Logic.{and-l, cases, iff, is-false, clash, not-t}
+use Rattle.ground.proofs.Logic.{and-l, cases, clash, not-t}
 use Rattle.ground.proofs.Some.{some-of, some-ex}
 use Rattle.ground.specs.Search.{some}
-use Rattle.masks.proofs.Laws.Apart.{⊆-minus, ⊆-minus-apart}
 use Rattle.masks.proofs.Laws.Members.{has-zero}
-use Rattle.masks.proofs.Laws.Subsets.{⊆-trans, within-⊆, ⊆-within, minus-within}
-use Rattle.masks.specs.Mask.{has, within, minus, allBelow, _∈_, _⊆_}
+use Rattle.masks.proofs.Laws.Subsets.{within-⊆, ⊆-within, minus-within}
+use Rattle.masks.specs.Mask.{has, within, allBelow, _∈_, _⊆_}
 use Rattle.sets.specs.Slices.{slicesOf}
-use Rattle.sets.proofs.Quorum.{Rule}
 use Rattle.table.specs.Table.{countOf, sliceOf, Table}
 
 module _ (t : List ℕ) where
@@ -33,9 +31,6 @@ module _ (t : List ℕ) where
   inside-ex v u e =
       let r = some-ex (countOf t v) (λ i. within (sliceOf t v i) u) e in
       (r .0, r .1, within-⊆ (sliceOf t v (r .0)) u (r .2))
-
-  pub inside-rule : Rule (slicesOf t .inside)
-  inside-rule = record { grows = λ v a b sub e. let r = inside-ex v a e in inside-of v (r .0) (r .1) (⊆-trans (r .2) sub) }
 
   -- deleting: "every slice loses the members of b", or the set gains them
 
@@ -81,22 +76,3 @@ module _ {t : List ℕ} {n : ℕ} (table : Table t n) where
   slice-below v i l =
       ⊎-elim (λ h. table .below v i (ltb-true v n h) l) (λ h. absurd (not-suc-le-zero (subst (λ (x : ℕ). i < x) (no-slice v (ltb-false v n h)) l)))
       (cases (ltb v n))
-
-  -- w blocks v exactly if v has no slice inside the rest
-  pub blocked-rest : (v w : ℕ) → slicesOf t .blocked v w ≡ not (slicesOf t .inside v (minus (allBelow n) w))
-  blocked-rest v w =
-      iff (slicesOf t .blocked v w) (not (slicesOf t .inside v (minus (allBelow n) w)))
-      (λ e.
-      ap not
-      (is-false (slicesOf t .inside v (minus (allBelow n) w))
-      (λ h. let r = inside-ex t v (minus (allBelow n) w) h in blocked-meets t v w (r .0) e (r .1) (⊆-minus-apart (allBelow n) w (r .2)))))
-      (λ e.
-      ⊎-elim (λ h. h)
-      (λ h.
-      let r = unblocked-misses t v w h in
-      absurd (clash (inside-of t v (r .0) (r .1) (⊆-minus w (slice-below v (r .0) (r .1)) (r .2))) (not-t (slicesOf t .inside v (minus (allBelow n) w)) e)))
-      (cases (slicesOf t .blocked v w)))
-
-  -- each site has a slice inside all sites
-  pub inside-all : (v : ℕ) → v < n → slicesOf t .inside v (allBelow n) ≡ true
-  inside-all v l = inside-of t v 0 (table .some-slice v l) (slice-below v 0 (table .some-slice v l))

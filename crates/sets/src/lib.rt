@@ -10,7 +10,8 @@ ghost use Rattle.sets.specs.Inner.Places.{Passed};
 
 // The set w blocks site v: it meets every slice of v.
 pub fn blocks(table: &[u64], n: usize, w: u64, v: usize) -> bool
-    requires { ⌜ Table (now table) n × (v < n) ⌝ }
+    requires { ⌜ Table (now table) n ⌝ }
+    requires { ⌜ v < n ⌝ }
     ensures { λ r. ⌜ r ≡ slicesOf (now (table .entry)) .blocked v w ⌝ }
 {
     let many = table[63 * v] as usize;
@@ -26,7 +27,8 @@ pub fn blocks(table: &[u64], n: usize, w: u64, v: usize) -> bool
 
 // The first slice of site v from slice start on that is inside u, or the count of its slices.
 fn next_inside(table: &[u64], n: usize, v: usize, u: u64, start: u8) -> usize
-    requires { ⌜ Table (now table) n × (v < n) ⌝ }
+    requires { ⌜ Table (now table) n ⌝ }
+    requires { ⌜ v < n ⌝ }
     ensures { λ r. ⌜ r ≤ countOf (now (table .entry)) v ⌝ }
     ensures { λ r. ⌜ (r < countOf (now (table .entry)) v → within (sliceOf (now (table .entry)) v r) u ≡ true) ⌝ }
     ensures { λ r. ⌜ ((i : ℕ) → start ≤ i → i < r → within (sliceOf (now (table .entry)) v i) u ≡ false) ⌝ }
@@ -44,7 +46,8 @@ fn next_inside(table: &[u64], n: usize, v: usize, u: u64, start: u8) -> usize
 
 // Site v has a slice inside u.
 pub fn has_slice(table: &[u64], n: usize, v: usize, u: u64) -> bool
-    requires { ⌜ Table (now table) n × (v < n) ⌝ }
+    requires { ⌜ Table (now table) n ⌝ }
+    requires { ⌜ v < n ⌝ }
     ensures { λ r. ⌜ r ≡ slicesOf (now (table .entry)) .inside v u ⌝ }
 {
     next_inside(table, n, v, u, 0) < table[63 * v] as usize
@@ -52,7 +55,9 @@ pub fn has_slice(table: &[u64], n: usize, v: usize, u: u64) -> bool
 
 // The set of site v if it stays in the round that starts at w, else the empty set. Its place moves on to its first slice that still holds.
 fn stays(table: &[u64], n: usize, v: usize, w: u64, places: &mut [u8; 64]) -> u64
-    requires { ⌜ Table (now table) n × (v < n) × Passed (now table) n w (now places) ⌝ }
+    requires { ⌜ Table (now table) n ⌝ }
+    requires { ⌜ v < n ⌝ }
+    requires { ⌜ Passed (now table) n w (now places) ⌝ }
     ensures { λ r. ⌜ r ≡ cond (has w v && slicesOf (now (table .entry)) .inside v w) (single v) 0 ⌝ }
     ensures { λ r. ⌜ Passed (now (table .entry)) n w (now (places .exit)) ⌝ }
 {
@@ -77,7 +82,8 @@ fn first_member(m: u64) -> usize
 
 // One round from w: the sites that stay, asked member by member. Each member's place moves on to its first slice that still holds.
 fn round_from(table: &[u64], n: usize, w: u64, places: &mut [u8; 64]) -> u64
-    requires { ⌜ Table (now table) n × Passed (now table) n w (now places) ⌝ }
+    requires { ⌜ Table (now table) n ⌝ }
+    requires { ⌜ Passed (now table) n w (now places) ⌝ }
     ensures { λ r. ⌜ (r ≡ round (slicesOf (now (table .entry)) .inside) n w) × Passed (now (table .entry)) n w (now (places .exit)) ⌝ }
 {
     let mut stay = 0u64;
@@ -116,7 +122,8 @@ pub fn largest(table: &[u64], n: usize, w: u64) -> SetLeft
 
 // Site v belongs to the largest quorum inside w. Its own slices are asked first, and the rounds end with the one that drops it.
 pub fn in_largest(table: &[u64], n: usize, v: usize, w: u64) -> bool
-    requires { ⌜ Table (now table) n × (v < n) ⌝ }
+    requires { ⌜ Table (now table) n ⌝ }
+    requires { ⌜ v < n ⌝ }
     ensures { λ r. ⌜ r ≡ has (largest (slicesOf (now (table .entry)) .inside) n w) v ⌝ }
 {
     if !masks::has(w, v as u64) {

@@ -13,7 +13,10 @@ use refusals::Refusal;
 
 // Slice k of site v, from the site's 63 numbers: 5, then 6.
 fn check_slice(m: &[u64], n: u64, v: u64, k: usize) -> Check
-    requires { ⌜ (length (now m) ≡ 63) × (k < 62) × (v < 64) × (n ≤ 64) ⌝ }
+    requires { ⌜ length (now m) ≡ 63 ⌝ }
+    requires { ⌜ k < 62 ⌝ }
+    requires { ⌜ v < 64 ⌝ }
+    requires { ⌜ n ≤ 64 ⌝ }
     ensures { λ r. ⌜ r ≡ sliceCheck n v (slice (now (m .entry))) k ⌝ }
 {
     let q = m[1 + k];
@@ -42,7 +45,10 @@ fn below(p: u64, q: u64) -> u64
 // True only if the first many slices of site v are sound: each contains what all have in common, is inside what they name together, and is above
 // the one before. No branch in the loop.
 fn are_sound(m: &[u64], n: u64, v: u64, many: usize) -> bool
-    requires { ⌜ (length (now m) ≡ 63) × (many ≤ 62) × (v < 64) × (n ≤ 64) ⌝ }
+    requires { ⌜ length (now m) ≡ 63 ⌝ }
+    requires { ⌜ many ≤ 62 ⌝ }
+    requires { ⌜ v < 64 ⌝ }
+    requires { ⌜ n ≤ 64 ⌝ }
     ensures { λ r. ⌜ (r ≡ true → first (sliceCheck n v (slice (now (m .entry)))) many ≡ Check.Sound) ⌝ }
 {
     let mut every = m[1];
@@ -61,7 +67,10 @@ fn are_sound(m: &[u64], n: u64, v: u64, many: usize) -> bool
 
 // The first many slices of site v, in order: walked only where one is not sound.
 fn check_slices(m: &[u64], n: u64, v: u64, many: usize) -> Check
-    requires { ⌜ (length (now m) ≡ 63) × (many ≤ 62) × (v < 64) × (n ≤ 64) ⌝ }
+    requires { ⌜ length (now m) ≡ 63 ⌝ }
+    requires { ⌜ many ≤ 62 ⌝ }
+    requires { ⌜ v < 64 ⌝ }
+    requires { ⌜ n ≤ 64 ⌝ }
     ensures { λ r. ⌜ r ≡ first (sliceCheck n v (slice (now (m .entry)))) many ⌝ }
 {
     if are_sound(m, n, v, many) {
@@ -80,7 +89,8 @@ fn check_slices(m: &[u64], n: u64, v: u64, many: usize) -> Check
 
 // An unused place is not zero.
 fn is_unclean(m: &[u64]) -> bool
-    requires { ⌜ (length (now m) ≡ 63) × (count (now m) ≤ 62) ⌝ }
+    requires { ⌜ length (now m) ≡ 63 ⌝ }
+    requires { ⌜ count (now m) ≤ 62 ⌝ }
     ensures { λ r. ⌜ r ≡ unclean (now (m .entry)) ⌝ }
 {
     let many = m[0] as usize;
@@ -96,7 +106,9 @@ fn is_unclean(m: &[u64]) -> bool
 
 // The 63 numbers of site v in a table of n sites: 4, each slice 5 then 6, then 8.
 pub fn check_site(m: &[u64], n: u64, v: u64) -> Check
-    requires { ⌜ (length (now m) ≡ 63) × (v < 64) × (n ≤ 64) ⌝ }
+    requires { ⌜ length (now m) ≡ 63 ⌝ }
+    requires { ⌜ v < 64 ⌝ }
+    requires { ⌜ n ≤ 64 ⌝ }
     ensures { λ r. ⌜ r ≡ siteCheck n v (now (m .entry)) ⌝ }
 {
     let many = m[0];
@@ -118,7 +130,8 @@ pub fn check_site(m: &[u64], n: u64, v: u64) -> Check
 
 // The n sites of a table, in order.
 pub fn check_sites(table: &[u64], n: usize) -> Check
-    requires { ⌜ (length (now table) ≡ 63 * n) × (n ≤ 64) ⌝ }
+    requires { ⌜ length (now table) ≡ 63 * n ⌝ }
+    requires { ⌜ n ≤ 64 ⌝ }
     ensures { λ r. ⌜ r ≡ sitesCheck n (now (table .entry)) ⌝ }
 {
     let mut v: usize = 0;

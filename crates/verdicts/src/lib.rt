@@ -18,7 +18,8 @@ pub fn beside(table: &[u64], n: usize, p: u64) -> u64
 
 // The quorum of the smallest mask that has a quorum in its complement; 2^n if there is none.
 pub fn first_apart(table: &[u64], n: usize) -> u64
-    requires { ⌜ Table (now table) n × (n ≤ 12) ⌝ }
+    requires { ⌜ Table (now table) n ⌝ }
+    requires { ⌜ n ≤ 12 ⌝ }
     ensures { λ r. ⌜ r ≡ firstApart (slicesOf (now (table .entry)) .inside) n ⌝ }
 {
     let mut list = [0u16; 4096];
@@ -28,7 +29,8 @@ pub fn first_apart(table: &[u64], n: usize) -> u64
 
 // The sites that are intact when those of f are faulty.
 pub fn intact(table: &[u64], n: usize, f: u64) -> u64
-    requires { ⌜ Table (now table) n × (n ≤ 12) ⌝ }
+    requires { ⌜ Table (now table) n ⌝ }
+    requires { ⌜ n ≤ 12 ⌝ }
     ensures { λ r. ⌜ r ≡ intact (slicesOf (now (table .entry))) n f ⌝ }
 {
     if !masks::within(f, masks::all_below(n as u64)) {

@@ -3,7 +3,7 @@ ghost use mathlib.Core.Path.{_≡_};
 ghost use mathlib.Core.Bool.{cond};
 ghost use Prim.Native.Nat.{_<_, _^_};
 ghost use lib.Bits.{bitOr};
-ghost use Rattle.masks.specs.Mask.{minus, allBelow, _⊆_};
+ghost use Rattle.masks.specs.Mask.{minus, allBelow};
 ghost use Rattle.table.specs.Table.{Table};
 ghost use Rattle.sets.specs.Slices.{slicesOf};
 ghost use Rattle.sets.specs.Quorum.{largest};
@@ -12,7 +12,9 @@ ghost use Rattle.holders.specs.Inner.{Holds};
 
 // The largest quorum inside w.
 fn largest(table: &[u64], n: usize, list: &[u16; 4096], b: u64, w: u64) -> u64
-    requires { ⌜ Holds (now table) n (now list) × (b < 2 ^ n) × (w < 2 ^ n) ⌝ }
+    requires { ⌜ Holds (now table) n (now list) ⌝ }
+    requires { ⌜ b < 2 ^ n ⌝ }
+    requires { ⌜ w < 2 ^ n ⌝ }
     ensures { λ r. ⌜ r ≡ largest (slicesOf (now (table .entry)) .deleted b) n w ⌝ }
 {
     let mut set = w;
@@ -27,7 +29,9 @@ fn largest(table: &[u64], n: usize, list: &[u16; 4096], b: u64, w: u64) -> u64
 
 // p is a quorum that has a quorum in its complement.
 fn is_apart(table: &[u64], n: usize, list: &[u16; 4096], b: u64, p: u64) -> bool
-    requires { ⌜ Holds (now table) n (now list) × (b < 2 ^ n) × (p < 2 ^ n) ⌝ }
+    requires { ⌜ Holds (now table) n (now list) ⌝ }
+    requires { ⌜ b < 2 ^ n ⌝ }
+    requires { ⌜ p < 2 ^ n ⌝ }
     ensures { λ r. ⌜ r ≡ apart (slicesOf (now (table .entry)) .deleted b) n p ⌝ }
 {
     if holders::round(table, n, list, b, p) != p {
@@ -49,7 +53,9 @@ fn is_apart(table: &[u64], n: usize, list: &[u16; 4096], b: u64, p: u64) -> bool
 // The quorum of the smallest mask that has a quorum in its complement; 2^n if there is none. Of two quorums without a common site the smaller is no more
 // than half of all sites.
 pub fn first_apart(table: &[u64], n: usize, list: &[u16; 4096], b: u64) -> u64
-    requires { ⌜ Table (now table) n × Holds (now table) n (now list) × (b < 2 ^ n) ⌝ }
+    requires { ⌜ Table (now table) n ⌝ }
+    requires { ⌜ Holds (now table) n (now list) ⌝ }
+    requires { ⌜ b < 2 ^ n ⌝ }
     ensures { λ r. ⌜ r ≡ firstApart (slicesOf (now (table .entry)) .deleted b) n ⌝ }
 {
     let rest = masks::minus(masks::all_below(n as u64), b);
@@ -65,7 +71,9 @@ pub fn first_apart(table: &[u64], n: usize, list: &[u16; 4096], b: u64) -> u64
 
 // b is dispensable.
 fn is_dispensable(table: &[u64], n: usize, list: &[u16; 4096], b: u64) -> bool
-    requires { ⌜ Table (now table) n × Holds (now table) n (now list) × (b < 2 ^ n) ⌝ }
+    requires { ⌜ Table (now table) n ⌝ }
+    requires { ⌜ Holds (now table) n (now list) ⌝ }
+    requires { ⌜ b < 2 ^ n ⌝ }
     ensures { λ r. ⌜ r ≡ dispensable (slicesOf (now (table .entry))) n b ⌝ }
 {
     let rest = masks::minus(masks::all_below(n as u64), b);
@@ -77,7 +85,9 @@ fn is_dispensable(table: &[u64], n: usize, list: &[u16; 4096], b: u64) -> bool
 
 // The sites outside b if b is dispensable, else none. Where those sites are known already, b is not asked.
 fn spared(table: &[u64], n: usize, list: &[u16; 4096], b: u64, known: u64) -> u64
-    requires { ⌜ Table (now table) n × Holds (now table) n (now list) × (b < 2 ^ n) ⌝ }
+    requires { ⌜ Table (now table) n ⌝ }
+    requires { ⌜ Holds (now table) n (now list) ⌝ }
+    requires { ⌜ b < 2 ^ n ⌝ }
     ensures { λ r. ⌜ bitOr known r ≡ bitOr known (cond (dispensable (slicesOf (now (table .entry))) n b) (minus (allBelow n) b) 0) ⌝ }
 {
     let outside = masks::minus(masks::all_below(n as u64), b);
@@ -92,7 +102,9 @@ fn spared(table: &[u64], n: usize, list: &[u16; 4096], b: u64, known: u64) -> u6
 
 // The sites that are intact when those of f are faulty: b runs through the sets that contain f, until every site outside f is found.
 pub fn intact(table: &[u64], n: usize, list: &[u16; 4096], f: u64) -> u64
-    requires { ⌜ Table (now table) n × Holds (now table) n (now list) × (f < 2 ^ n) ⌝ }
+    requires { ⌜ Table (now table) n ⌝ }
+    requires { ⌜ Holds (now table) n (now list) ⌝ }
+    requires { ⌜ f < 2 ^ n ⌝ }
     ensures { λ r. ⌜ r ≡ intact (slicesOf (now (table .entry))) n f ⌝ }
 {
     let end = masks::single(n as u64);

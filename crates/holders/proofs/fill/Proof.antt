@@ -27,7 +27,7 @@ returns c =
     let l = c .before .loop in
     let h = l .inv .0 in
     let e : l .x ≡ 12 = omega arith in
-    handed-end (now (a .table)) (a .n) (s .pre .1) (subst (λ (k : ℕ). Handed (now (a .table)) (a .n) k 0 (l .list)) e (l .inv .1))
+    handed-end (now (a .table)) (a .n) (s .pre .1 .0) (subst (λ (k : ℕ). Handed (now (a .table)) (a .n) k 0 (l .list)) e (l .inv .1))
 
 pub fill-spec : {M : Type 1} → statement M
 fill-spec =

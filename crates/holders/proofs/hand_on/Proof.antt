@@ -34,8 +34,8 @@ hand-part-requires c κs =
     let a = s .args in
     let l = c .before .before .loop in
     let below = part-below (a .x) (l .k) (omega arith) (subst (λ (y : ℕ). l .k < y) (c .before .before .before .single2 .ensures) (c .before .loop-test .taken)) in
-    subst (λ (y : ℕ). ((a .x < 12) × (l .k * y + 2 ^ a .x ≤ 4096) × Handed (now (a .table)) (a .n) (a .x) (l .k * y) (l .list)) × ((u : ℕ) → l .k * y ≤ u → u < l .k * y + 2 ^ a .x → a .x ∈ u))
-    (sym (c .before .before .before .before .single .ensures)) ((s .pre .0, below, l .inv .2), odd-part (a .x) (l .k) (l .inv .0))
+    subst (λ (y : ℕ). (a .x < 12) × ((l .k * y + 2 ^ a .x ≤ 4096) × (Handed (now (a .table)) (a .n) (a .x) (l .k * y) (l .list) × ((u : ℕ) → l .k * y ≤ u → u < l .k * y + 2 ^ a .x → a .x ∈ u))))
+    (sym (c .before .before .before .before .single .ensures)) (s .pre .0, (below, (l .inv .2, odd-part (a .x) (l .k) (l .inv .0))))
 
 add-k : tie.Need-add-k Inv-loop μ-loop
 add-k c =

@@ -25,7 +25,7 @@ sub-list c =
     let l = c .before .before .loop in
     let e = c .before .before .before .single .ensures in
     let top : l .u < s .args .start + 2 ^ s .args .x = omega arith in
-    omega (arith, ⊆-le (single-⊆ (s .pre .1 (l .u) (l .inv .0) top)))
+    omega (arith, ⊆-le (single-⊆ (s .pre .1 .1 .1 (l .u) (l .inv .0) top)))
 
 loop-again : tie.Need-loop-again Inv-loop μ-loop
 loop-again c =
@@ -37,7 +37,7 @@ loop-again c =
       search needs,
       search needs,
       subst (λ (k : ℕ). Handed (now (a .table)) (a .n) (a .x) (l .u + 1) (set (l .list) (l .u) (bitOr (getD (l .list) (l .u) 0) (getD (l .list) (l .u - k) 0)))) (sym e)
-          (handed-one (now (a .table)) (a .n) (a .x) (l .u) (omega arith) (s .pre .1 (l .u) (l .inv .0) top) (l .inv .2)),
+          (handed-one (now (a .table)) (a .n) (a .x) (l .u) (omega arith) (s .pre .1 .1 .1 (l .u) (l .inv .0) top) (l .inv .2)),
     )
 
 returns : tie.Need-returns Inv-loop μ-loop

@@ -26,12 +26,12 @@ abbrev μ-loop : tie.MeasureT-loop
 cast-own : tie.Need-cast-own Inv-loop μ-loop
 cast-own c =
     let s = c .before .before in
-    omega (arith, c .single .ensures, pow-lt (lt-of-lt-of-le (s .pre .2) (s .pre .1)))
+    omega (arith, c .single .ensures, pow-lt (lt-of-lt-of-le (s .pre .1 .1 .0) (s .pre .1 .0)))
 
 loop-holds : tie.Need-loop-holds Inv-loop μ-loop
 loop-holds c =
     let s = c .before .before .before in
-    (search needs, subst (λ (k : ℕ). k ≤ 62) (count-at (now (s .args .table)) (s .args .v)) (s .pre .0 .few-slices (s .args .v) (s .pre .2)), search needs)
+    (search needs, subst (λ (k : ℕ). k ≤ 62) (count-at (now (s .args .table)) (s .args .v)) (s .pre .0 .few-slices (s .args .v) (s .pre .1 .1 .0)), search needs)
 
 -- a slice is the number of a set in the list
 slice-few : {t : List ℕ} {n : ℕ} → Table t n → n ≤ 12 → (v i : ℕ) → i < 62 → getD t (63 * v + 1 + i) 0 < 4096
@@ -40,22 +40,22 @@ slice-few {t} table few v i l = subst (λ (q : ℕ). q < 4096) (slice-at t v i l
 mul-list : tie.Need-mul-list Inv-loop μ-loop
 mul-list c =
     let s = c .before .before .before .before .before .before in
-    omega (arith, slice-few (s .pre .0) (s .pre .1) (s .args .v) (c .before .before .loop .i) (omega arith))
+    omega (arith, slice-few (s .pre .0) (s .pre .1 .0) (s .args .v) (c .before .before .loop .i) (omega arith))
 
 element-copy-out-list : tie.Need-element-copy-out-list Inv-loop μ-loop
 element-copy-out-list c =
     let s = c .before .before .before .before .before .before in
-    slice-few (s .pre .0) (s .pre .1) (s .args .v) (c .before .before .loop .i) (omega arith)
+    slice-few (s .pre .0) (s .pre .1 .0) (s .args .v) (c .before .before .loop .i) (omega arith)
 
 mul-list-2 : tie.Need-mul-list-2 Inv-loop μ-loop
 mul-list-2 c =
     let s = c .before .before .before .before .before .before .before in
-    omega (arith, slice-few (s .pre .0) (s .pre .1) (s .args .v) (c .before .before .before .loop .i) (omega arith))
+    omega (arith, slice-few (s .pre .0) (s .pre .1 .0) (s .args .v) (c .before .before .before .loop .i) (omega arith))
 
 element-write-list : tie.Need-element-write-list Inv-loop μ-loop
 element-write-list c =
     let s = c .before .before .before .before .before .before .before in
-    slice-few (s .pre .0) (s .pre .1) (s .args .v) (c .before .before .before .loop .i) (omega arith)
+    slice-few (s .pre .0) (s .pre .1 .0) (s .args .v) (c .before .before .before .loop .i) (omega arith)
 
 loop-again : tie.Need-loop-again Inv-loop μ-loop
 loop-again c =
@@ -69,7 +69,7 @@ loop-again c =
       subst (λ (k : ℕ). Marked t (a .v) (l .i + 1) (set (l .list) (getD t (63 * a .v + 1 + l .i) 0) (bitOr (getD (l .list) (getD t (63 * a .v + 1 + l .i) 0) 0) k)))
           (sym (c .before .before .before .before .before .single .ensures))
           (subst (λ (q : ℕ). Marked t (a .v) (l .i + 1) (set (l .list) q (bitOr (getD (l .list) q 0) (single (a .v))))) (slice-at t (a .v) (l .i) few)
-          (marked-slice t (a .v) (l .i) (lt-of-lt-of-le (slice-lt (s .pre .0) (a .v) (l .i)) (pow-mono (s .pre .1))) (l .inv .2))),
+          (marked-slice t (a .v) (l .i) (lt-of-lt-of-le (slice-lt (s .pre .0) (a .v) (l .i)) (pow-mono (s .pre .1 .0))) (l .inv .2))),
     )
 
 returns : tie.Need-returns Inv-loop μ-loop

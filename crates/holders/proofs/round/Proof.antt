@@ -9,22 +9,22 @@ use Rattle.holders.proofs.round.Tie as tie
 mul-minus : tie.Need-mul-minus
 mul-minus c =
     let s = c .before in
-    omega (arith, held-at (s .pre .0) (s .args .b) (s .args .u) (s .pre .1) (s .pre .2))
+    omega (arith, held-at (s .pre .0) (s .args .b) (s .args .u) (s .pre .1 .0) (s .pre .1 .1))
 
 element-copy-out-minus : tie.Need-element-copy-out-minus
 element-copy-out-minus c =
     let s = c .before in
-    held-at (s .pre .0) (s .args .b) (s .args .u) (s .pre .1) (s .pre .2)
+    held-at (s .pre .0) (s .args .b) (s .args .u) (s .pre .1 .0) (s .pre .1 .1)
 
 cast-minus : tie.Need-cast-minus
 cast-minus c =
     let s = c .before .before in
-    omega (arith, held-few (s .pre .0) (s .args .b) (s .args .u) (s .pre .1) (s .pre .2))
+    omega (arith, held-few (s .pre .0) (s .args .b) (s .args .u) (s .pre .1 .0) (s .pre .1 .1))
 
 returns : tie.Need-returns
 returns c =
     let s = c .before .before .before in
-    c .minus .ensures ∙ held-round (s .pre .0) (s .args .b) (s .args .u) (s .pre .1) (s .pre .2)
+    c .minus .ensures ∙ held-round (s .pre .0) (s .args .b) (s .args .u) (s .pre .1 .0) (s .pre .1 .1)
 
 pub round-spec : {M : Type 1} → statement M
 round-spec =

@@ -2,17 +2,17 @@
 use Prim.Native.Nat.{ℕ, zero, suc, _-_, _/_, _%_, _^_, _<_}
 use mathlib.Core.Bool.{Bool, _&&_, not}
 use mathlib.Core.Logic.{⊎-elim}
-use mathlib.Core.Path.{_≡_, refl, sym, ap, _∙_, subst}
+use mathlib.Core.Path.{_≡_, refl, sym, ap, _∙_}
 use native.Mathlib.Nat.{sub-zero, not-suc-le-zero, le-of-suc-le-suc, mod-lt, pow-suc}
 use native.Mathlib.Omega.{arith}
 use lib.Bits.{bitAnd}
 use lib.Dec.{eqb, ltb}
-use lib.Pow.{ones-lt, pow-pos}
-use borrow.Author.Tests.{eqb-true, eq-eqb, ltb-true, ltb-false, lt-ltb}
-use Rattle.ground.proofs.Logic.{iff, cases}
-use Rattle.masks.specs.Mask.{has, within, minus, _∈_, _⊆_, allBelow}
+use lib.Pow.{pow-pos}
+use borrow.Author.Tests.{ltb-true, ltb-false}
+use Rattle.ground.proofs.Logic.{cases}
+use Rattle.masks.specs.Mask.{has, minus, _∈_, _⊆_, allBelow}
 use Rattle.masks.proofs.Laws.Members.{two-pos, has-and, has-minus, has-zero, has-suc, has-above, half-lt, ext}
-use Rattle.masks.proofs.Laws.Subsets.{mem, not-in-zero, within-⊆, ⊆-within, ∈-below, ∈-and, and-⊆-l, and-⊆-r, ∈-minus, minus-not-in, empty}
+use Rattle.masks.proofs.Laws.Subsets.{mem, ∈-below}
 
 -- the complement, as `!` gives it
 
@@ -52,14 +52,3 @@ in-all {n} {v} l =
 
 pub ⊆-all : (n : ℕ) {u : ℕ} → u < 2 ^ n → u ⊆ 2 ^ n - 1
 ⊆-all n {u} h = record { each = λ v k. in-all (∈-below h k) }
-
-pub has-all : (n v : ℕ) → has (allBelow n) v ≡ ltb v n
-has-all n v =
-    iff (has (allBelow n) v) (ltb v n) (λ e. lt-ltb v n (∈-below (ones-lt n) (mem e))) (λ e. in-all (ltb-true v n e) .holds)
-
--- outside b, or not meeting b
-pub within-rest : (n q b : ℕ) → q < 2 ^ n → within q (minus (allBelow n) b) ≡ eqb (bitAnd q b) 0
-within-rest n q b h =
-    iff (within q (minus (allBelow n) b)) (eqb (bitAnd q b) 0)
-    (λ e. eq-eqb (bitAnd q b) 0 (empty (bitAnd q b) (λ v k. minus-not-in (allBelow n) (within-⊆ q (minus (allBelow n) b) e .each v (and-⊆-l q b .each v k)) (and-⊆-r q b .each v k))))
-    (λ e. ⊆-within (record { each = λ v k. ∈-minus (in-all (∈-below h k)) (λ i. not-in-zero (subst (λ (x : ℕ). v ∈ x) (eqb-true (bitAnd q b) 0 e) (∈-and k i))) }))

@@ -12,7 +12,7 @@ use borrow.Author.Tests.{eqb-true, eqb-false, eq-eqb, ne-eqb, ltb-true, ltb-fals
 use Rattle.ground.proofs.Logic.{and-r, and-i, cases}
 use Rattle.masks.specs.Mask.{has, gather, _∈_}
 use Rattle.masks.proofs.Laws.Members.{has-or, has-zero, has-single}
-use Rattle.masks.proofs.Laws.Subsets.{mem, ⊆-antisym, ∈-below}
+use Rattle.masks.proofs.Laws.Subsets.{mem}
 
 -- the sites that pass a test
 
@@ -88,13 +88,6 @@ pub ∈-gather : {n v : ℕ} (p : ℕ → Bool) → v < n → p v ≡ true → v
 
 pub gather-∈ : (n : ℕ) (p : ℕ → Bool) {v : ℕ} → v ∈ gather n p → p v ≡ true
 gather-∈ n p {v} h = and-r (ltb v n) (p v) (sym (has-gather n p v) ∙ h .holds)
-
--- a set is gathered by its own test; with no member at or above n it is below 2 ^ n
-pub gather-has : (n a : ℕ) → a < 2 ^ n → gather n (has a) ≡ a
-gather-has n a h =
-    ⊆-antisym
-    (record { each = λ v k. mem (gather-∈ n (has a) k) })
-    (record { each = λ v k. ∈-gather (has a) (∈-below h k) (k .holds) })
 
 -- the step of a loop that adds a set for each site, the site's own or none
 pub gather-more : (n : ℕ) (p : ℕ → Bool) → bitOr (gather n p) (cond (p n) (2 ^ n) 0) ≡ gather (n + 1) p

@@ -1,6 +1,5 @@
 -- `first_member` meets its contract: the zeros below the lowest member say which it is.
 use Prim.Native.Nat.{_^_, _<_}
-use native.Mathlib.Omega.{arith}
 use lib.Count.{trailing-le}
 use borrow.Author.Needs.{needs}
 use Rattle.sets.proofs.Rounds.{first-member}

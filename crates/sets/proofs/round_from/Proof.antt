@@ -1,6 +1,6 @@
 -- `round_from` meets its contract: of the members that are not in `rest` those that stay are gathered.
 use Prim.Native.Nat.{ℕ, _<_}
-use mathlib.Core.Path.{_≡_, sym, ap, ap₂, _∙_, subst}
+use mathlib.Core.Path.{_≡_, sym, ap, _∙_, subst}
 use native.Mathlib.Omega.{arith}
 use lib.Bits.{bitAnd}
 use lib.Pow.{ones-lt}
@@ -38,7 +38,7 @@ is-site {n} {v} s h = ∈-below (ones-lt n) (s .each v h)
 stays-requires : tie.Need-stays-requires Inv-loop μ-loop
 stays-requires c κs =
     let l = c .before .before .before .loop in
-    (c .before .before .before .before .before .before .pre .0, is-site (l .inv .0) (c .before .first-member .ensures), l .inv .2)
+    (c .before .before .before .before .before .before .pre .0, (is-site (l .inv .0) (c .before .first-member .ensures), l .inv .2))
 
 single-requires : tie.Need-single-requires Inv-loop μ-loop
 single-requires c κs =

@@ -11,10 +11,10 @@ use Rattle.verdicts.proofs.first_apart.Statement.{statement}
 use Rattle.verdicts.proofs.first_apart.Tie as tie
 
 fill-requires : tie.Need-fill-requires
-fill-requires c κs = let s = c .before .before in (s .pre .0, s .pre .1, marked-none (now (s .args .table)))
+fill-requires c κs = let s = c .before .before in (s .pre .0, (s .pre .1, marked-none (now (s .args .table))))
 
 first-apart-requires : tie.Need-first-apart-requires
-first-apart-requires c κs = let s = c .before .before .before .before in (s .pre .0, c .before .fill .ensures, pow-pos (s .args .n))
+first-apart-requires c κs = let s = c .before .before .before .before in (s .pre .0, (c .before .fill .ensures, pow-pos (s .args .n)))
 
 returns : tie.Need-returns
 returns c =

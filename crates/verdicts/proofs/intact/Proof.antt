@@ -21,7 +21,7 @@ returns c =
     sym (intact-outside (slicesOf (now (a .table))) (a .n) (a .f) e)
 
 fill-requires : tie.Need-fill-requires
-fill-requires c κs = let s = c .before .before .before .before .before in (s .pre .0, s .pre .1, marked-none (now (s .args .table)))
+fill-requires c κs = let s = c .before .before .before .before .before in (s .pre .0, (s .pre .1, marked-none (now (s .args .table))))
 
 intact-requires : tie.Need-intact-requires
 intact-requires c κs =
@@ -29,7 +29,7 @@ intact-requires c κs =
     let a = s .args in
     let e : within (a .f) (allBelow (a .n)) ≡ true =
     ap (within (a .f)) (sym (c .before .before .before .before .before .all-below .ensures)) ∙ sym (c .before .before .before .before .within .ensures) ∙ not-false _ (c .before .before .before .if1 .left) in
-    (s .pre .0, c .before .fill .ensures, below-⊆ (a .n) (within-⊆ (a .f) (allBelow (a .n)) e) (ones-lt (a .n)))
+    (s .pre .0, (c .before .fill .ensures, below-⊆ (a .n) (within-⊆ (a .f) (allBelow (a .n)) e) (ones-lt (a .n))))
 
 pub intact-spec : {M : Type 1} → statement M
 intact-spec =

@@ -35,7 +35,7 @@ loop-holds c =
 add-loop : tie.Need-add-loop Inv-loop μ-loop
 add-loop c =
     let l = c .loop .inv .0 in
-    omega (arith, pow-mono (c .before .before .before .before .pre .1 .few))
+    omega (arith, pow-mono (c .before .before .before .before .pre .1 .0 .few))
 
 -- p is a set of the sites
 below : {p rest m : ℕ} → p + p ≤ rest → rest < m → p < m
@@ -44,7 +44,7 @@ below l h = omega arith
 is-apart-requires : tie.Need-is-apart-requires Inv-loop μ-loop
 is-apart-requires c κs =
     let s = c .before .before .before .before .before in
-    (s .pre .1, s .pre .2, below (c .loop-test .taken) (c .before .loop .inv .1))
+    (s .pre .1 .0, (s .pre .1 .1, below (c .loop-test .taken) (c .before .loop .inv .1)))
 
 returns : tie.Need-returns Inv-loop μ-loop
 returns c =
@@ -58,7 +58,7 @@ add-minus c =
     let s = c .before .before .before .before .before .before .before in
     let a = s .args in
     let l = c .before .before .before .loop in
-    omega (arith, or-lt (a .n) (l .p) (a .b) (below (c .before .before .loop-test .taken) (l .inv .1)) (s .pre .2), pow-mono (s .pre .1 .few))
+    omega (arith, or-lt (a .n) (l .p) (a .b) (below (c .before .before .loop-test .taken) (l .inv .1)) (s .pre .1 .1), pow-mono (s .pre .1 .0 .few))
 
 loop-less : tie.Need-loop-less Inv-loop μ-loop
 loop-less c =
@@ -74,7 +74,7 @@ loop-again c =
     let t = now (a .table) in
     let l = c .before .before .before .before .loop in
     let e = c .minus2 .ensures in (
-      subst (λ (k : ℕ). k ≤ 2 ^ a .n) (sym e) (next-le (a .n) (l .p) (a .b) (below (c .before .before .before .loop-test .taken) (l .inv .1)) (s .pre .2)),
+      subst (λ (k : ℕ). k ≤ 2 ^ a .n) (sym e) (next-le (a .n) (l .p) (a .b) (below (c .before .before .before .loop-test .taken) (l .inv .1)) (s .pre .1 .1)),
       l .inv .1,
       ap (λ (x : ℕ). bitAnd x (a .b)) e ∙ next-apart (l .p) (a .b),
       λ q h. none-apart-next (slicesOf t .deleted (a .b)) (a .n) (a .b) (deleted-stays t (a .b)) (l .p) (l .inv .2) (l .inv .3)

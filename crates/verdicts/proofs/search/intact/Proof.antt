@@ -27,7 +27,7 @@ loop-holds c =
 spared-requires : tie.Need-spared-requires Inv-loop μ-loop
 spared-requires c κs =
     let p = c .before .before .before .before .before .before .pre in
-    (p .0, p .1, subst (λ (k : ℕ). c .before .loop .b < k) (c .before .before .before .before .single .ensures) (c .loop-test .taken))
+    (p .0, (p .1 .0, subst (λ (k : ℕ). c .before .loop .b < k) (c .before .before .before .before .single .ensures) (c .loop-test .taken)))
 
 returns : tie.Need-returns Inv-loop μ-loop
 returns c =

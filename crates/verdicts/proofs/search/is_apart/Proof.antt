@@ -31,7 +31,7 @@ largest-requires c κs =
     let s = c .before .before .before .before .before .before in
     let a = s .args in
     let e : c .minus .result ≡ minus (allBelow (a .n)) (a .p) = c .minus .ensures ∙ ap (λ (x : ℕ). minus x (a .p)) (c .before .all-below .ensures) in
-    (s .pre .0, s .pre .1, subst (λ (k : ℕ). k < 2 ^ a .n) (sym e) (minus-lt (a .n) (allBelow (a .n)) (a .p) (ones-lt (a .n))))
+    (s .pre .0, (s .pre .1 .0, subst (λ (k : ℕ). k < 2 ^ a .n) (sym e) (minus-lt (a .n) (allBelow (a .n)) (a .p) (ones-lt (a .n)))))
 
 returns-3 : tie.Need-returns-3
 unfolding beside

@@ -20,7 +20,7 @@ round-requires c κs =
     let s = c .before .before .before in
     let a = s .args in
     let e : c .minus .result ≡ minus (allBelow (a .n)) (a .b) = c .minus .ensures ∙ ap (λ (x : ℕ). minus x (a .b)) (c .before .all-below .ensures) in
-    (s .pre .1, pow-pos (a .n), subst (λ (k : ℕ). k < 2 ^ a .n) (sym e) (minus-lt (a .n) (allBelow (a .n)) (a .b) (ones-lt (a .n))))
+    (s .pre .1 .0, (pow-pos (a .n), subst (λ (k : ℕ). k < 2 ^ a .n) (sym e) (minus-lt (a .n) (allBelow (a .n)) (a .b) (ones-lt (a .n)))))
 
 returns : tie.Need-returns
 returns c =
@@ -40,7 +40,7 @@ returns-2 c =
     let m = c .before .before .before .before .minus in
     let e : m .result ≡ minus (allBelow (a .n)) (a .b) = m .ensures ∙ ap (λ (x : ℕ). minus x (a .b)) (c .before .before .before .before .before .all-below .ensures) in
     ap₂ eqb (c .before .first-apart .ensures) (c .single .ensures)
-    ∙ sym (dispensable-left r (a .n) (a .b) (still-leaves r (a .n) (a .b) (s .pre .2)
+    ∙ sym (dispensable-left r (a .n) (a .b) (still-leaves r (a .n) (a .b) (s .pre .1 .1)
     (subst (λ (x : ℕ). round (r .inside) (a .n) x ≡ x) e
     (sym (ap (λ (s : ℕ → ℕ → Bool). round s (a .n) (m .result)) (deleted-none (now (a .table)))) ∙ sym (c .before .before .before .round .ensures) ∙ c .before .before .if1 .left))))
 

@@ -15,10 +15,10 @@ abbrev μ-loop : tie.MeasureT-loop
 μ-loop table n list b w set₀ set = set
 
 loop-holds : tie.Need-loop-holds Inv-loop μ-loop
-loop-holds c = (c .before .pre .2, refl)
+loop-holds c = (c .before .pre .1 .1, refl)
 
 round-requires : tie.Need-round-requires Inv-loop μ-loop
-round-requires c κs = (c .before .before .pre .0, c .before .before .pre .1, c .loop .inv .0)
+round-requires c κs = (c .before .before .pre .0, (c .before .before .pre .1 .0, c .loop .inv .0))
 
 returns : tie.Need-returns Inv-loop μ-loop
 returns c =
