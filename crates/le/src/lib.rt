@@ -5,11 +5,11 @@ ghost use lib.ListN.{length};
 ghost use lib.Seq.{sets};
 ghost use Rattle.le.specs.Le.{field, digits};
 
-// A byte as a 16-bit number.
-fn wide(x: u8) -> u16
+// A byte as a number that can be an index.
+pub fn wide(x: u8) -> usize
     ensures { λ r. ⌜ (r ≡ x) × (r < 256) ⌝ }
 {
-    x as u16
+    x as usize
 }
 
 // The 16-bit number in bytes at and at + 1.
@@ -17,7 +17,7 @@ pub fn get16(b: &[u8], at: usize) -> u16
     requires { ⌜ at + 2 ≤ length (now b) ⌝ }
     ensures { λ r. ⌜ r ≡ field 2 (now (b .entry)) at ⌝ }
 {
-    wide(b[at]) + 256 * wide(b[at + 1])
+    (wide(b[at]) + 256 * wide(b[at + 1])) as u16
 }
 
 // The 32-bit number in the four bytes from at.

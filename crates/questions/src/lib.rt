@@ -4,6 +4,9 @@ ghost use Rattle.questions.specs.Answers.{quorum, largest, blocks, share
 use refusals::Check;
 use refusals::Refusal;
 
+// Verdicts on shared sites and on intact sites are given for so many sites at most.
+const MOST: usize = 12;
+
 // Whether it holds, or the refusal.
 pub enum Holds {
     Yes,
@@ -89,7 +92,7 @@ pub fn shared(table: &[u64]) -> Sharing
         return Sharing::Refused(r);
     }
     let n = table.len() / 63;
-    if 12 < n {
+    if MOST < n {
         return Sharing::Refused(Refusal::Large);
     }
     let first = verdicts::first_apart(table, n);
@@ -111,7 +114,7 @@ pub fn intact(table: &[u64], faulty: u64) -> Standing
         return Standing::Refused(r);
     }
     let n = table.len() / 63;
-    if 12 < n {
+    if MOST < n {
         return Standing::Refused(Refusal::Large);
     }
     Standing::Intact(verdicts::intact(table, n, faulty))
