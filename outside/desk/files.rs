@@ -25,6 +25,11 @@ pub fn table_apart() -> Vec<Vec<u64>> {
     [3, 3, 12, 12].map(|slice| vec![slice]).to_vec()
 }
 
+/// Three sites that all take the word of site 3, which is faulty in the sample: 11; 11; 12; 8.
+pub fn table_leaning() -> Vec<Vec<u64>> {
+    [11, 11, 12, 8].map(|slice| vec![slice]).to_vec()
+}
+
 /// One site that takes its own word.
 pub fn table_alone() -> Vec<Vec<u64>> {
     vec![vec![1]]
@@ -104,6 +109,13 @@ pub fn window_of_64() -> Vec<[u8; 4]> {
 pub fn two_faced() -> Vec<[u8; 4]> {
     let mut calls = whole_vote(&[0, 1, 2], DRILL);
     calls.extend([vote(3, 0, LIVE), vote(3, 1, DRILL), accept(3, 0, LIVE), accept(3, 2, LIVE), accept(3, 1, DRILL)]);
+    calls
+}
+
+/// Sites 0 and 1 vote live with site 3, and site 3 tells site 2 that it accepts drill.
+pub fn leaning() -> Vec<[u8; 4]> {
+    let mut calls = whole_vote(&[0, 1], LIVE);
+    calls.extend([vote(3, 0, LIVE), vote(3, 1, LIVE), accept(3, 0, LIVE), accept(3, 1, LIVE), accept(3, 2, DRILL)]);
     calls
 }
 
