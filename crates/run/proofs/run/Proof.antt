@@ -59,9 +59,10 @@ run-cleared-requires c κs =
     let f = fits (now (a .table)) (a .faulty) (length (now (a .list))) (length (now (a .state))) (length (now (a .answers))) (sym (c .before .before .before .before .check .ensures) ∙ c .before .before .enum-told .given .1) in
     let q = length-take-le (length (now (a .list)) / 4) (now (a .answers)) (f .many) in (
       f .table,
-      length-take-le (4 * sites (length (now (a .table))) + 6) (now (a .state)) (f .states),
-      f .four ∙ ap (λ (k : ℕ). 4 * k) (sym q),
-      subst (λ (k : ℕ). k ≤ 4096) (sym q) (f .few),
+      (
+        length-take-le (4 * sites (length (now (a .table))) + 6) (now (a .state)) (f .states),
+        (f .four ∙ ap (λ (k : ℕ). 4 * k) (sym q), subst (λ (k : ℕ). k ≤ 4096) (sym q) (f .few)),
+      ),
     )
 
 same-length : tie.Need-same-length

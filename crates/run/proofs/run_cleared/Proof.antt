@@ -11,7 +11,7 @@ run-fresh-requires : tie.Need-run-fresh-requires
 unfolding fresh
 run-fresh-requires c κs =
     let p = c .before .before .before .before .before .before .before .before .before .before .pre in
-    (p .0, c .before .before .before .before .clear .ensures ∙ ap (λ (k : ℕ). replicate k 0) (p .1), p .2, p .3)
+    (p .0, (c .before .before .before .before .clear .ensures ∙ ap (λ (k : ℕ). replicate k 0) (p .1 .0), p .1 .1))
 
 pub run-cleared-spec : {M : Type 1} → statement M
 run-cleared-spec =

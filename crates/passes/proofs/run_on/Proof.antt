@@ -5,20 +5,19 @@ use native.Mathlib.Omega.{arith}
 use borrow.Author.Tests.{not-true, not-false}
 use denote.Ref.{now}
 use lib.ListN.{length}
-use Rattle.run.proofs.Calls.{calls-length}
-use Rattle.run.proofs.Turns.{going-few, going-more, going-done, passed-long, passed-size, passed-told}
-use Rattle.run.specs.Inner.{Listed, Told, Going}
-use Rattle.run.specs.Run.{calls}
-use Rattle.sets.specs.Promises.{questionsOf}
-use Rattle.sets.specs.Slices.{slicesOf}
-use Rattle.rules.proofs.WorkWays.{table-rests}
-use Rattle.run.proofs.run_on.Statement.{statement}
-use Rattle.run.proofs.run_on.Tie as tie
+use Rattle.passes.proofs.Calls.{calls-length}
+use Rattle.passes.proofs.Turns.{going-few, going-more, going-done, passed-long, passed-size, passed-told}
+use Rattle.passes.specs.Inner.{Listed, Told, Going}
+use Rattle.passes.specs.Calls.{calls}
+use Rattle.rules.specs.Vote.{voteOf}
+use Rattle.passes.proofs.Lawful.{lawful}
+use Rattle.passes.proofs.run_on.Statement.{statement}
+use Rattle.passes.proofs.run_on.Tie as tie
 
 abbrev Inv-loop : tie.InvT-loop
 Inv-loop table n faulty list state₀ answers₀ waiting₀ count₀ passes₀ state answers waiting count passes =
-    Going (questionsOf (slicesOf table) n) n faulty (calls list) passes state × (length answers ≡ length answers₀)
-    × Told (questionsOf (slicesOf table) n) n faulty list state answers × Listed answers 0 (length answers) waiting 0 count
+    Going (voteOf table n faulty) (calls list) passes state × (length answers ≡ length answers₀)
+    × Told (voteOf table n faulty) list state answers × Listed answers 0 (length answers) waiting 0 count
     × (count ≤ length waiting) × (length waiting ≡ length waiting₀)
 
 abbrev μ-loop : tie.MeasureT-loop
@@ -53,7 +52,7 @@ add-passes c =
     let a = c .before .before .before .before .before .before .before .before .before .before .before .before .before .before .before .before .before .before .before .before .before .args in
     let p = c .before .before .before .before .before .before .before .before .before .before .before .before .before .before .before .before .before .before .before .before .before .pre in
     let L = c .before .before .before .before .before .before .before .before .before .before .loop in
-    let few : L .passes ≤ length (calls (now (a .list))) = going-few (table-rests (p .0)) (a .faulty) (calls (now (a .list))) (L .inv .0) in
+    let few : L .passes ≤ length (calls (now (a .list))) = going-few (lawful (p .0) (a .faulty)) (calls (now (a .list))) (L .inv .0) in
     let many = calls-length (now (a .list)) (length (now (a .answers))) (p .1 .fits) in
     omega (arith, few, many, p .1 .short)
 
@@ -61,13 +60,13 @@ same-length : tie.Need-same-length Inv-loop μ-loop
 same-length c =
     let a = c .before .before .before .before .before .before .before .before .before .before .before .before .before .before .before .before .before .before .before .before .before .before .before .args in
     let p = c .before .before .before .before .before .before .before .before .before .before .before .before .before .before .before .before .before .before .before .before .before .before .before .pre in
-    passed-size (table-rests (p .0)) (a .faulty) (calls (now (a .list))) (c .before .before .before .before .before .before .before .before .before .before .before .before .loop .inv .0) (c .before .before .before .before .before .before .before .before .pass-again .ensures .passed) ∙ sym (p .1 .going .sound .long)
+    passed-size (lawful (p .0) (a .faulty)) (calls (now (a .list))) (c .before .before .before .before .before .before .before .before .before .before .before .before .loop .inv .0) (c .before .before .before .before .before .before .before .before .pass-again .ensures .passed) ∙ sym (p .1 .going .sound .long)
 
 same-length-2 : tie.Need-same-length-2 Inv-loop μ-loop
 same-length-2 c =
     let a = c .before .before .before .before .before .before .before .before .before .before .before .before .before .before .before .before .before .before .before .before .before .before .before .args in
     let p = c .before .before .before .before .before .before .before .before .before .before .before .before .before .before .before .before .before .before .before .before .before .before .before .pre in
-    passed-long (table-rests (p .0)) (a .faulty) (now (a .list)) (length (now (a .answers))) (p .1 .fits) (c .before .before .before .before .before .before .before .before .pass-again .ensures .passed)
+    passed-long (lawful (p .0) (a .faulty)) (now (a .list)) (length (now (a .answers))) (p .1 .fits) (c .before .before .before .before .before .before .before .before .pass-again .ensures .passed)
 
 same-length-3 : tie.Need-same-length-3 Inv-loop μ-loop
 same-length-3 c = c .before .before .before .before .before .before .before .before .pass-again .kept .1 .1 .1 .1 .1 .1 .0 ∙ c .before .before .before .before .before .before .before .before .before .before .before .before .loop .inv .5 ∙ c .before .before .before .before .before .before .before .before .before .before .before .before .before .before .before .gather .kept .1 .0
@@ -77,14 +76,14 @@ returns c =
     let a = c .before .before .before .before .before .before .before .before .before .before .before .before .before .before .before .before .before .before .before .before .before .before .before .args in
     let p = c .before .before .before .before .before .before .before .before .before .before .before .before .before .before .before .before .before .before .before .before .before .before .before .pre in
     let L = c .before .before .before .before .before .before .before .before .before .before .before .before .loop in
-    going-done (table-rests (p .0)) (a .faulty) (calls (now (a .list))) (L .passes) (L .inv .0) (c .before .before .before .before .before .before .before .before .pass-again .ensures .passed) (not-true _ (c .if1 .taken))
+    going-done (lawful (p .0) (a .faulty)) (calls (now (a .list))) (L .passes) (L .inv .0) (c .before .before .before .before .before .before .before .before .pass-again .ensures .passed) (not-true _ (c .if1 .taken))
 
 loop-less : tie.Need-loop-less Inv-loop μ-loop
 loop-less c =
     let a = c .before .before .before .before .before .before .before .before .before .before .before .before .before .before .before .before .before .before .before .before .before .before .before .args in
     let p = c .before .before .before .before .before .before .before .before .before .before .before .before .before .before .before .before .before .before .before .before .before .before .before .pre in
     let L = c .before .before .before .before .before .before .before .before .before .before .before .before .loop in
-    let few : L .passes ≤ length (calls (now (a .list))) = going-few (table-rests (p .0)) (a .faulty) (calls (now (a .list))) (L .inv .0) in
+    let few : L .passes ≤ length (calls (now (a .list))) = going-few (lawful (p .0) (a .faulty)) (calls (now (a .list))) (L .inv .0) in
     let many = calls-length (now (a .list)) (length (now (a .answers))) (p .1 .fits) in
     omega (arith, few, many)
 
@@ -96,9 +95,9 @@ loop-again c =
     let r = c .before .before .before .before .before .before .before .before .pass-again in
     let Z = r .ensures .passed in
     let e = r .kept .1 .1 .1 .1 .1 .1 .0 in (
-      going-more (table-rests (p .0)) (a .faulty) (calls (now (a .list))) (L .passes) (L .inv .0) Z (not-false _ (c .if1 .left)),
-      passed-long (table-rests (p .0)) (a .faulty) (now (a .list)) (length (now (a .answers))) (p .1 .fits) Z,
-      passed-told (table-rests (p .0)) (a .faulty) (now (a .list)) (length (now (a .answers))) (p .1 .fits) (L .inv .0 .sound) Z,
+      going-more (lawful (p .0) (a .faulty)) (calls (now (a .list))) (L .passes) (L .inv .0) Z (not-false _ (c .if1 .left)),
+      passed-long (lawful (p .0) (a .faulty)) (now (a .list)) (length (now (a .answers))) (p .1 .fits) Z,
+      passed-told (lawful (p .0) (a .faulty)) (now (a .list)) (length (now (a .answers))) (p .1 .fits) (L .inv .0 .sound) Z,
       r .ensures .listed,
       omega (arith, r .ensures .fewer, L .inv .4, e),
       e ∙ L .inv .5,

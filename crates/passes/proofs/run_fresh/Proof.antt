@@ -6,44 +6,44 @@ use borrow.Author.Needs.{needs}
 use borrow.Author.Tests.{not-true, not-false}
 use denote.Ref.{now}
 use lib.ListN.{length, replicate, length-replicate}
-use Rattle.run.proofs.Turns.{going-none, going-more, going-done, passed-long, passed-told}
-use Rattle.run.specs.Run.{calls}
-use Rattle.rules.proofs.WorkWays.{table-rests}
-use Rattle.run.proofs.run_fresh.Statement.{statement}
-use Rattle.run.proofs.run_fresh.Tie as tie
+use Rattle.passes.proofs.Turns.{going-none, going-more, going-done, passed-long, passed-told}
+use Rattle.passes.specs.Calls.{calls}
+use Rattle.passes.proofs.Lawful.{lawful}
+use Rattle.passes.proofs.run_fresh.Statement.{statement}
+use Rattle.passes.proofs.run_fresh.Tie as tie
 
 pass-over-requires : tie.Need-pass-over-requires
 pass-over-requires c κs =
     let a = c .before .before .before .before .before .before .args in
     let p = c .before .before .before .before .before .before .pre in
-    (p .0, going-none (table-rests (p .0)) (a .faulty) (calls (now (a .list))) (p .1) .sound, p .2)
+    (p .0, (going-none (lawful (p .0) (a .faulty)) (calls (now (a .list))) (p .1 .0) .sound, p .1 .1 .0))
 
 returns : tie.Need-returns
 returns c =
     let a = c .before .before .before .before .before .before .before .before .before .before .before .before .args in
     let p = c .before .before .before .before .before .before .before .before .before .before .before .before .pre in
-    let R = table-rests (p .0) in
+    let law = lawful (p .0) (a .faulty) in
     let l = calls (now (a .list)) in
-    going-done R (a .faulty) l 0 (going-none R (a .faulty) l (p .1)) (c .before .before .before .before .before .pass-over .ensures) (not-true _ (c .if1 .taken))
+    going-done law l 0 (going-none law l (p .1 .0)) (c .before .before .before .before .before .pass-over .ensures) (not-true _ (c .if1 .taken))
 
 run-on-requires : tie.Need-run-on-requires
 run-on-requires c κs =
     let a = c .before .before .before .before .before .before .before .before .before .before .before .before .before .before .before .args in
     let p = c .before .before .before .before .before .before .before .before .before .before .before .before .before .before .before .pre in
-    let R = table-rests (p .0) in
+    let law = lawful (p .0) (a .faulty) in
     let l = calls (now (a .list)) in
-    let G = going-none R (a .faulty) l (p .1) in
+    let G = going-none law l (p .1 .0) in
     let Z = c .before .before .before .before .before .before .before .before .pass-over .ensures in
     let k = length (now (a .answers)) in
-    let e = passed-long R (a .faulty) (now (a .list)) k (p .2) Z in
+    let e = passed-long law (now (a .list)) k (p .1 .1 .0) Z in
     let many : length {A = ℕ} (replicate 4096 0) ≡ 4096 = length-replicate {A = ℕ} 4096 0 in (
       p .0,
       record {
-        fits = omega (arith, p .2, e);
-        short = omega (arith, p .3, e);
-        going = going-more R (a .faulty) l 0 G Z (not-false _ (c .before .before .before .if1 .left));
-        told = passed-told R (a .faulty) (now (a .list)) k (p .2) (G .sound) Z;
-        room = omega (arith, p .3, e, many);
+        fits = omega (arith, p .1 .1 .0, e);
+        short = omega (arith, p .1 .1 .1, e);
+        going = going-more law l 0 G Z (not-false _ (c .before .before .before .if1 .left));
+        told = passed-told law (now (a .list)) k (p .1 .1 .0) (G .sound) Z;
+        room = omega (arith, p .1 .1 .1, e, many);
       },
     )
 
