@@ -1,32 +1,27 @@
--- One turn of each loop of the run, and its end.
+-- One turn of the loop over the calls of a pass, and its end.
 use Prim.Native.Nat.{ℕ, suc, _+_, _-_, _*_, _≤_, _<_}
 use mathlib.Core.Bool.{Bool, true, false, _&&_, _||_, not}
 use mathlib.Core.List.{List, [], _∷_, _++_, append-nil}
-use mathlib.Core.Logic.{⊎-elim}
 use mathlib.Core.Path.{_≡_, refl, sym, ap, ap₂, subst, subst₂, _∙_}
-use native.Mathlib.Nat.{eq-or-lt-of-le, le-of-suc-le-suc}
 use native.Mathlib.Numerals.{add-one}
 use native.Mathlib.Omega.{arith}
 use lib.ListN.{length, getD, take, drop, set, length-set, drop-of-length-le}
 use lib.Seq.{take-suc, length-take-le, take-all, getD-append-add, getD-drop, set-getD}
-use borrow.Author.Tests.{not-true, not-false}
 use Rattle.ground.proofs.Alike.{eq-alike}
-use Rattle.ground.proofs.Logic.{clash}
 use Rattle.ground.proofs.Pieces.{fill-one}
 use Rattle.ground.specs.Alike.{alike}
 use Rattle.refusals.specs.Refusal.{code}
 use Rattle.refusals.specs.declared.Check.{Check}
 use Rattle.passes.proofs.Calls.{calls-at, calls-length}
-use Rattle.votes.proofs.Loops.{quiet-still, still-quiet, iter-more, changed-few, run-unique}
-use Rattle.votes.proofs.Passes.{pass-more, answers-more, pass-inv, pass-up}
+use Rattle.votes.proofs.Passes.{pass-more, answers-more, pass-up}
 use Rattle.passes.proofs.Waiting.{pass-settles}
 use Rattle.passes.specs.Calls.{calls, callAt}
-use Rattle.passes.specs.Inner.{answersFrom, After, Passed, Settled, Told, Going, Whole}
+use Rattle.passes.specs.Inner.{answersFrom, After, Passed, Settled, Told}
 use Rattle.votes.proofs.AnyVote.{spends}
 use Rattle.votes.specs.Call.{Call, call}
 use Rattle.votes.specs.Inner.{Lawful, Works, quiet}
-use Rattle.votes.specs.Passes.{Run, pass, iter, answersOf, run}
-use Rattle.votes.specs.Vote.{Vote, fresh, step, runOf}
+use Rattle.votes.specs.Passes.{pass}
+use Rattle.votes.specs.Vote.{Vote, step}
 
 -- a call read from four bytes of the list is its call i
 pub works-at : (X : Vote) (i : ℕ) (list : List ℕ) {k f v d : ℕ} {a : Check} {b : Bool} {s s₁ : List ℕ} → k ≡ getD list (4 * i) 0 →
@@ -145,58 +140,6 @@ module _ {X : Vote} (L : Lawful X) where
               ∙ append-nil (answersFrom X (calls list) s₀);
           flag = A .flag ∙ ap (λ (x : List Call). not (quiet (step X) alike x s₀)) e;
         }
-
-  -- the passes
-  module _ (l : List Call) where
-    pub going-none : {s : List ℕ} → s ≡ fresh (X .width) → Going X l 0 s
-    going-none e = record { state = e; sound = subst (X .Sound) (sym e) (L .fresh-sound); each = λ j h q. omega arith }
-
-    pub going-few : {k : ℕ} {s : List ℕ} → Going X l k s → k ≤ length l
-    going-few {k} G = changed-few (step X) alike (spends X L) ans (fresh (X .width)) (L .fresh-sound) l k (G .each)
-
-    passes-sound : (s : List ℕ) → X .Sound s → X .Sound (pass (step X) l s)
-    passes-sound s S = pass-inv (step X) alike (spends X L) l s S
-
-    pub going-more : (k : ℕ) {s s₁ out : List ℕ} {changed : Bool} → Going X l k s → Passed X l s changed s₁ out → changed ≡ true →
-        Going X l (k + 1) s₁
-    going-more k {s} {s₁} G Z e = subst (λ (j : ℕ). Going X l j s₁) (sym (add-one k)) (record {
-      state = Z .state ∙ ap (pass (step X) l) (G .state) ∙ sym (iter-more (step X) l k (fresh (X .width)));
-      sound = subst (X .Sound) (sym (Z .state)) (passes-sound s (G .sound));
-      each = λ j h. ⊎-elim (λ q. last j q) (λ m. G .each j m) (eq-or-lt-of-le (le-of-suc-le-suc h));
-    })
-      where
-        moved : pass (step X) l s ≡ s → ⊥
-        moved q =
-            clash (still-quiet (step X) alike (spends X L) (L .below-antisym) l s (G .sound) q)
-            (not-true (quiet (step X) alike l s) (sym (Z .flag) ∙ e))
-
-        last : (j : ℕ) → j ≡ k → iter (step X) (suc j) l (fresh (X .width)) ≡ iter (step X) j l (fresh (X .width)) → ⊥
-        last j q w =
-            moved (ap (pass (step X) l) (G .state) ∙ sym (iter-more (step X) l k (fresh (X .width)))
-            ∙ subst (λ (x : ℕ). iter (step X) (suc x) l (fresh (X .width)) ≡ iter (step X) x l (fresh (X .width))) q w ∙ sym (G .state))
-
-    pub going-done : (k : ℕ) {s s₁ out : List ℕ} {changed : Bool} → Going X l k s → Passed X l s changed s₁ out → changed ≡ false →
-        Whole X l (k + 1) s₁ out
-    unfolding runOf
-    going-done k {s} {s₁} {out} G Z e = record {
-      count = add-one k ∙ sym (ap (λ (r : Run (List ℕ)). r .passes) whole);
-      state = Z .state ∙ fixed ∙ G .state ∙ sym (ap (λ (r : Run (List ℕ)). r .state) whole);
-      answers = Z .answers ∙ ap (answersFrom X l) (G .state) ∙ sym (ap (λ (r : Run (List ℕ)). r .answers) whole);
-    }
-      where
-        fixed : pass (step X) l s ≡ s
-        fixed =
-            quiet-still (step X) alike (spends X L) (L .below-antisym) l s
-            (not-false (quiet (step X) alike l s) (sym (Z .flag) ∙ e))
-
-        whole : run (step X) ans alike (fresh (X .width)) l
-            ≡ record { state = iter (step X) k l (fresh (X .width)); passes = suc k; answers = answersOf (step X) ans l (iter (step X) k l (fresh (X .width))) }
-        whole =
-            run-unique (step X) alike (spends X L) ans (fresh (X .width)) (L .fresh-sound) l k (G .each)
-            (subst (λ (x : List ℕ). pass (step X) l x ≡ x) (G .state) fixed)
-
-    pub passed-size : {k : ℕ} {s s₁ out : List ℕ} {changed : Bool} → Going X l k s → Passed X l s changed s₁ out → length s₁ ≡ X .width
-    passed-size {s = s} G Z = ap length (Z .state) ∙ L .long _ (passes-sound s (G .sound))
 
   pub passed-long : (list : List ℕ) (k : ℕ) {s s₁ out : List ℕ} {changed : Bool} → length list ≡ 4 * k → Passed X (calls list) s changed s₁ out →
       length out ≡ k

@@ -1,5 +1,5 @@
--- What the loops over the calls and over the passes carry, of any vote.
-use Prim.Native.Nat.{ℕ, suc, _*_, _≤_, _<_}
+-- What the loops over the calls of one pass carry, of any vote.
+use Prim.Native.Nat.{ℕ, _*_, _≤_, _<_}
 use mathlib.Core.Bool.{Bool, not}
 use mathlib.Core.List.{List, _++_}
 use mathlib.Core.Path.{_≡_}
@@ -10,8 +10,8 @@ use Rattle.passes.specs.Calls.{calls, callAt}
 use Rattle.refusals.specs.Refusal.{code}
 use Rattle.votes.specs.Call.{Call}
 use Rattle.votes.specs.Inner.{quiet, Works}
-use Rattle.votes.specs.Passes.{pass, iter, answersOf}
-use Rattle.votes.specs.Vote.{Vote, fresh, step, runOf}
+use Rattle.votes.specs.Passes.{pass, answersOf}
+use Rattle.votes.specs.Vote.{Vote, step}
 
 -- of w the numbers from a on and before b are the places from p on and before q where the answer byte is 15, in order
 pub record Listed (out : List ℕ) (p q : ℕ) (w : List ℕ) (a b : ℕ) : Type 0 where
@@ -79,23 +79,3 @@ module _ (X : Vote) where
     pub passed : Passed l s₀ changed s out
     pub listed : Listed out 0 (length out) w 0 left
     pub fewer : left ≤ count
-
-  -- k passes from a fresh state, each of which changed something
-  pub record Going (l : List Call) (k : ℕ) (s : List ℕ) : Type 0 where
-    pub state : s ≡ iter (step X) k l (fresh (X .width))
-    pub sound : X .Sound s
-    pub each : (j : ℕ) → j < k → iter (step X) (suc j) l (fresh (X .width)) ≡ iter (step X) j l (fresh (X .width)) → ⊥
-
-  -- after a first pass that changed something
-  pub record Begun (list s out w : List ℕ) : Type 0 where
-    pub fits : length list ≡ 4 * length out
-    pub short : length out ≤ 4096
-    pub going : Going (calls list) 1 s
-    pub told : Told list s out
-    pub room : length out ≤ length w
-
-  -- the whole run
-  pub record Whole (l : List Call) (passes : ℕ) (s out : List ℕ) : Type 0 where
-    pub count : passes ≡ runOf X l .passes
-    pub state : s ≡ runOf X l .state
-    pub answers : out ≡ runOf X l .answers

@@ -1,4 +1,4 @@
-// Passes over a list of calls, given as bytes, until one changes nothing: after the first pass only the calls that wait are tried again.
+// One pass over a list of calls, given as bytes: the first over all of them, each later one over those that wait.
 ghost use mathlib.Core.Path.{_≡_};
 ghost use mathlib.Core.Bool.{_||_, cond};
 ghost use Prim.Native.Nat.{_+_, _*_, _<_, _≤_};
@@ -6,8 +6,7 @@ ghost use lib.ListN.{length, getD, set};
 ghost use Rattle.table.specs.Table.{Table};
 ghost use Rattle.rules.specs.Vote.{voteOf};
 ghost use Rattle.passes.specs.Calls.{calls, callAt};
-ghost use Rattle.passes.specs.Inner.{Passed, Listed, Again, Waiting, PassedAgain, Begun, Whole};
-ghost use Rattle.votes.specs.Vote.{fresh};
+ghost use Rattle.passes.specs.Inner.{Passed, Listed, Again, Waiting, PassedAgain};
 ghost use Rattle.votes.specs.Inner.{Works};
 
 // A byte as a number that can be an index.
@@ -57,15 +56,16 @@ fn work_at(
     ensures { λ r. ⌜ Works (voteOf (now (table .entry)) n faulty) (callAt (now (list .entry)) i)
         (now (state .entry)) (r .answer) (r .changed) (now (state .exit)) ⌝ }
 {
-    let kind = wide(list[4 * i]);
-    let from = wide(list[4 * i + 1]);
-    let to = wide(list[4 * i + 2]);
-    let side = wide(list[4 * i + 3]);
+    let at = 4 * i;
+    let kind = wide(list[at]);
+    let from = wide(list[at + 1]);
+    let to = wide(list[at + 2]);
+    let side = wide(list[at + 3]);
     taking::work(table, n, faulty, state, kind, from, to, side)
 }
 
 // One pass over the list, from the first call to the last: whether it changed the state. One answer a call.
-fn pass_over(
+pub fn pass_over(
     table: &[u64],
     n: usize,
     faulty: u64,
@@ -106,7 +106,7 @@ fn keep(waiting: &mut [u16], count: usize, i: usize, waits: bool) -> usize
 }
 
 // The places of the calls that were refused with 15, in order: how many they are.
-fn gather(answers: &[u8], waiting: &mut [u16]) -> usize
+pub fn gather(answers: &[u8], waiting: &mut [u16]) -> usize
     requires { ⌜ length (now answers) ≤ length (now waiting) ⌝ }
     requires { ⌜ length (now answers) ≤ 4096 ⌝ }
     ensures places { λ r. ⌜ Listed (now (answers .entry)) 0 (length (now (answers .entry))) (now (waiting .exit)) 0 r ⌝ }
@@ -162,13 +162,13 @@ fn work_again(
 }
 
 // Whether a pass changed the state, and how many calls wait still.
-struct Round {
-    changed: bool,
-    count: usize,
+pub struct Round {
+    pub changed: bool,
+    pub count: usize,
 }
 
 // One pass more: only the calls that wait can change anything or answer otherwise.
-fn pass_again(
+pub fn pass_again(
     table: &[u64],
     n: usize,
     faulty: u64,
@@ -197,53 +197,4 @@ fn pass_again(
         changed: changed,
         count: left,
     }
-}
-
-// Passes after a first one that changed the state, until one changes nothing: how many, the first and the last counted.
-fn run_on(
-    table: &[u64],
-    n: usize,
-    faulty: u64,
-    list: &[u8],
-    state: &mut [u64],
-    answers: &mut [u8],
-    waiting: &mut [u16],
-) -> u64
-    requires { ⌜ Table (now table) n ⌝ }
-    requires { ⌜ Begun (voteOf (now table) n faulty) (now list) (now state) (now answers) (now waiting) ⌝ }
-    ensures { λ r. ⌜ Whole (voteOf (now (table .entry)) n faulty) (calls (now (list .entry))) r (now (state .exit)) (now (answers .exit)) ⌝ }
-{
-    let mut count = gather(answers, waiting);
-    let mut passes = 1u64;
-    loop {
-        let round = pass_again(table, n, faulty, list, state, answers, waiting, count);
-        passes += 1;
-        if !round.changed {
-            return passes;
-        }
-        count = round.count;
-    }
-}
-
-// Passes from a fresh state until one changes nothing: how many, that one counted.
-pub fn run_fresh(
-    table: &[u64],
-    n: usize,
-    faulty: u64,
-    list: &[u8],
-    state: &mut [u64],
-    answers: &mut [u8],
-) -> u64
-    requires { ⌜ Table (now table) n ⌝ }
-    requires { ⌜ now state ≡ fresh (voteOf (now table) n faulty .width) ⌝ }
-    requires { ⌜ length (now list) ≡ 4 * length (now answers) ⌝ }
-    requires { ⌜ length (now answers) ≤ 4096 ⌝ }
-    ensures { λ r. ⌜ Whole (voteOf (now (table .entry)) n faulty) (calls (now (list .entry))) r (now (state .exit)) (now (answers .exit)) ⌝ }
-{
-    let changed = pass_over(table, n, faulty, list, state, answers);
-    if !changed {
-        return 1;
-    }
-    let mut waiting = [0u16; 4096];
-    run_on(table, n, faulty, list, state, answers, &mut waiting)
 }

@@ -1,4 +1,5 @@
 pub mod RunWays
+pub mod Going
 pub mod Public
 pub mod Spent
 pub mod Bound

@@ -1,3 +1,4 @@
 pub mod Run
 pub mod Theorems
 pub mod Examples
+pub mod Inner

@@ -5,7 +5,8 @@ ghost use lib.ListN.{length, replicate};
 ghost use Rattle.table.specs.Table.{Table};
 ghost use Rattle.rules.specs.Vote.{voteOf};
 ghost use Rattle.passes.specs.Calls.{calls};
-ghost use Rattle.passes.specs.Inner.{Whole};
+ghost use Rattle.votes.specs.Vote.{fresh};
+ghost use Rattle.run.specs.Inner.{Begun, Whole};
 ghost use Rattle.run.specs.Run.{runCheck, ran, stateInto, answersInto};
 use refusals::Check;
 use refusals::Refusal;
@@ -14,6 +15,55 @@ use refusals::Refusal;
 pub enum Ran {
     Passes(u64),
     Refused(Refusal),
+}
+
+// Passes after a first one that changed the state, until one changes nothing: how many, the first and the last counted.
+fn run_on(
+    table: &[u64],
+    n: usize,
+    faulty: u64,
+    list: &[u8],
+    state: &mut [u64],
+    answers: &mut [u8],
+    waiting: &mut [u16],
+) -> u64
+    requires { ⌜ Table (now table) n ⌝ }
+    requires { ⌜ Begun (voteOf (now table) n faulty) (now list) (now state) (now answers) (now waiting) ⌝ }
+    ensures { λ r. ⌜ Whole (voteOf (now (table .entry)) n faulty) (calls (now (list .entry))) r (now (state .exit)) (now (answers .exit)) ⌝ }
+{
+    let mut count = passes::gather(answers, waiting);
+    let mut passes = 1u64;
+    loop {
+        let round = passes::pass_again(table, n, faulty, list, state, answers, waiting, count);
+        passes += 1;
+        if !round.changed {
+            return passes;
+        }
+        count = round.count;
+    }
+}
+
+// Passes from a fresh state until one changes nothing: how many, that one counted.
+fn run_fresh(
+    table: &[u64],
+    n: usize,
+    faulty: u64,
+    list: &[u8],
+    state: &mut [u64],
+    answers: &mut [u8],
+) -> u64
+    requires { ⌜ Table (now table) n ⌝ }
+    requires { ⌜ now state ≡ fresh (voteOf (now table) n faulty .width) ⌝ }
+    requires { ⌜ length (now list) ≡ 4 * length (now answers) ⌝ }
+    requires { ⌜ length (now answers) ≤ 4096 ⌝ }
+    ensures { λ r. ⌜ Whole (voteOf (now (table .entry)) n faulty) (calls (now (list .entry))) r (now (state .exit)) (now (answers .exit)) ⌝ }
+{
+    let changed = passes::pass_over(table, n, faulty, list, state, answers);
+    if !changed {
+        return 1;
+    }
+    let mut waiting = [0u16; 4096];
+    run_on(table, n, faulty, list, state, answers, &mut waiting)
 }
 
 // Zeros all over.
@@ -43,7 +93,7 @@ fn run_cleared(
     ensures { λ r. ⌜ Whole (voteOf (now (table .entry)) n faulty) (calls (now (list .entry))) r (now (state .exit)) (now (answers .exit)) ⌝ }
 {
     clear(state);
-    passes::run_fresh(table, n, faulty, list, state, answers)
+    run_fresh(table, n, faulty, list, state, answers)
 }
 
 // Table, 10, 17, 9, for a list of so many bytes and rooms of so many numbers and bytes.

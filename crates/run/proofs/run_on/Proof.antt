@@ -5,14 +5,16 @@ use native.Mathlib.Omega.{arith}
 use borrow.Author.Tests.{not-true, not-false}
 use denote.Ref.{now}
 use lib.ListN.{length}
 use Rattle.passes.proofs.Calls.{calls-length}
-use Rattle.passes.proofs.Turns.{going-few, going-more, going-done, passed-long, passed-size, passed-told}
-use Rattle.passes.specs.Inner.{Listed, Told, Going}
+use Rattle.passes.proofs.Turns.{passed-long, passed-told}
+use Rattle.run.proofs.Going.{going-few, going-more, going-done, passed-size}
+use Rattle.passes.specs.Inner.{Listed, Told}
+use Rattle.run.specs.Inner.{Going}
 use Rattle.passes.specs.Calls.{calls}
 use Rattle.rules.specs.Vote.{voteOf}
 use Rattle.passes.proofs.Lawful.{lawful}
-use Rattle.passes.proofs.run_on.Statement.{statement}
-use Rattle.passes.proofs.run_on.Tie as tie
+use Rattle.run.proofs.run_on.Statement.{statement}
+use Rattle.run.proofs.run_on.Tie as tie
 
 abbrev Inv-loop : tie.InvT-loop
 Inv-loop table n faulty list state₀ answers₀ waiting₀ count₀ passes₀ state answers waiting count passes =

@@ -6,11 +6,12 @@ use borrow.Author.Needs.{needs}
 use borrow.Author.Tests.{not-true, not-false}
 use denote.Ref.{now}
 use lib.ListN.{length, replicate, length-replicate}
-use Rattle.passes.proofs.Turns.{going-none, going-more, going-done, passed-long, passed-told}
+use Rattle.passes.proofs.Turns.{passed-long, passed-told}
+use Rattle.run.proofs.Going.{going-none, going-more, going-done}
 use Rattle.passes.specs.Calls.{calls}
 use Rattle.passes.proofs.Lawful.{lawful}
-use Rattle.passes.proofs.run_fresh.Statement.{statement}
-use Rattle.passes.proofs.run_fresh.Tie as tie
+use Rattle.run.proofs.run_fresh.Statement.{statement}
+use Rattle.run.proofs.run_fresh.Tie as tie
 
 pass-over-requires : tie.Need-pass-over-requires
 pass-over-requires c κs =

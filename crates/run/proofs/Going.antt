@@ -1,0 +1,77 @@
+-- One pass more of a run, and its end: so many passes changed something, and the one after them nothing.
+use Prim.Native.Nat.{ℕ, suc, _+_, _≤_}
+use mathlib.Core.Bool.{Bool, true, false}
+use mathlib.Core.List.{List}
+use mathlib.Core.Logic.{⊎-elim}
+use mathlib.Core.Path.{_≡_, sym, ap, subst, _∙_}
+use native.Mathlib.Nat.{eq-or-lt-of-le, le-of-suc-le-suc}
+use native.Mathlib.Numerals.{add-one}
+use native.Mathlib.Omega.{arith}
+use lib.ListN.{length}
+use borrow.Author.Tests.{not-true, not-false}
+use Rattle.ground.proofs.Logic.{clash}
+use Rattle.ground.specs.Alike.{alike}
+use Rattle.passes.specs.Inner.{answersFrom, Passed}
+use Rattle.refusals.specs.Refusal.{code}
+use Rattle.run.specs.Inner.{Going, Whole}
+use Rattle.votes.proofs.AnyVote.{spends}
+use Rattle.votes.proofs.Loops.{quiet-still, still-quiet, iter-more, changed-few, run-unique}
+use Rattle.votes.proofs.Passes.{pass-inv}
+use Rattle.votes.specs.Call.{Call}
+use Rattle.votes.specs.Inner.{Lawful, quiet}
+use Rattle.votes.specs.Passes.{Run, pass, iter, answersOf, run}
+use Rattle.votes.specs.Vote.{Vote, fresh, step, runOf}
+
+module _ {X : Vote} (L : Lawful X) (l : List Call) where
+  abbrev ans : Call → List ℕ → ℕ
+  ans c s = code (X .answer c s)
+
+  pub going-none : {s : List ℕ} → s ≡ fresh (X .width) → Going X l 0 s
+  going-none e = record { state = e; sound = subst (X .Sound) (sym e) (L .fresh-sound); each = λ j h q. omega arith }
+
+  pub going-few : {k : ℕ} {s : List ℕ} → Going X l k s → k ≤ length l
+  going-few {k} G = changed-few (step X) alike (spends X L) ans (fresh (X .width)) (L .fresh-sound) l k (G .each)
+
+  passes-sound : (s : List ℕ) → X .Sound s → X .Sound (pass (step X) l s)
+  passes-sound s S = pass-inv (step X) alike (spends X L) l s S
+
+  pub going-more : (k : ℕ) {s s₁ out : List ℕ} {changed : Bool} → Going X l k s → Passed X l s changed s₁ out → changed ≡ true →
+      Going X l (k + 1) s₁
+  going-more k {s} {s₁} G Z e = subst (λ (j : ℕ). Going X l j s₁) (sym (add-one k)) (record {
+    state = Z .state ∙ ap (pass (step X) l) (G .state) ∙ sym (iter-more (step X) l k (fresh (X .width)));
+    sound = subst (X .Sound) (sym (Z .state)) (passes-sound s (G .sound));
+    each = λ j h. ⊎-elim (λ q. last j q) (λ m. G .each j m) (eq-or-lt-of-le (le-of-suc-le-suc h));
+  })
+    where
+      moved : pass (step X) l s ≡ s → ⊥
+      moved q =
+          clash (still-quiet (step X) alike (spends X L) (L .below-antisym) l s (G .sound) q)
+          (not-true (quiet (step X) alike l s) (sym (Z .flag) ∙ e))
+
+      last : (j : ℕ) → j ≡ k → iter (step X) (suc j) l (fresh (X .width)) ≡ iter (step X) j l (fresh (X .width)) → ⊥
+      last j q w =
+          moved (ap (pass (step X) l) (G .state) ∙ sym (iter-more (step X) l k (fresh (X .width)))
+          ∙ subst (λ (x : ℕ). iter (step X) (suc x) l (fresh (X .width)) ≡ iter (step X) x l (fresh (X .width))) q w ∙ sym (G .state))
+
+  pub going-done : (k : ℕ) {s s₁ out : List ℕ} {changed : Bool} → Going X l k s → Passed X l s changed s₁ out → changed ≡ false →
+      Whole X l (k + 1) s₁ out
+  unfolding runOf
+  going-done k {s} {s₁} {out} G Z e = record {
+    count = add-one k ∙ sym (ap (λ (r : Run (List ℕ)). r .passes) whole);
+    state = Z .state ∙ fixed ∙ G .state ∙ sym (ap (λ (r : Run (List ℕ)). r .state) whole);
+    answers = Z .answers ∙ ap (answersFrom X l) (G .state) ∙ sym (ap (λ (r : Run (List ℕ)). r .answers) whole);
+  }
+    where
+      fixed : pass (step X) l s ≡ s
+      fixed =
+          quiet-still (step X) alike (spends X L) (L .below-antisym) l s
+          (not-false (quiet (step X) alike l s) (sym (Z .flag) ∙ e))
+
+      whole : run (step X) ans alike (fresh (X .width)) l
+          ≡ record { state = iter (step X) k l (fresh (X .width)); passes = suc k; answers = answersOf (step X) ans l (iter (step X) k l (fresh (X .width))) }
+      whole =
+          run-unique (step X) alike (spends X L) ans (fresh (X .width)) (L .fresh-sound) l k (G .each)
+          (subst (λ (x : List ℕ). pass (step X) l x ≡ x) (G .state) fixed)
+
+  pub passed-size : {k : ℕ} {s s₁ out : List ℕ} {changed : Bool} → Going X l k s → Passed X l s changed s₁ out → length s₁ ≡ X .width
+  passed-size {s = s} G Z = ap length (Z .state) ∙ L .long _ (passes-sound s (G .sound))
