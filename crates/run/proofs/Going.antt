@@ -7,7 +7,7 @@ use mathlib.Core.Path.{_≡_, sym, ap, subst, _∙_}
 use native.Mathlib.Nat.{eq-or-lt-of-le, le-of-suc-le-suc}
 use native.Mathlib.Numerals.{add-one}
 use native.Mathlib.Omega.{arith}
-use lib.ListN.{length}
+use lib.ListN.{length, replicate}
 use borrow.Author.Tests.{not-true, not-false}
 use Rattle.ground.proofs.Logic.{clash}
 use Rattle.ground.specs.Alike.{alike}
@@ -26,8 +26,12 @@ module _ {X : Vote} (L : Lawful X) (l : List Call) where
   abbrev ans : Call → List ℕ → ℕ
   ans c s = code (X .answer c s)
 
-  pub going-none : {s : List ℕ} → s ≡ fresh (X .width) → Going X l 0 s
-  going-none e = record { state = e; sound = subst (X .Sound) (sym e) (L .fresh-sound); each = λ j h q. omega arith }
+  -- zeros all over are the fresh state
+  pub going-none : (s : List ℕ) {s₁ : List ℕ} → length s ≡ X .width → s₁ ≡ replicate (length s) 0 → Going X l 0 s₁
+  unfolding fresh
+  going-none s h e =
+      let z : _ ≡ fresh (X .width) = e ∙ ap (λ (k : ℕ). replicate k 0) h in
+      record { state = z; sound = subst (X .Sound) (sym z) (L .fresh-sound); each = λ j h q. omega arith }
 
   pub going-few : {k : ℕ} {s : List ℕ} → Going X l k s → k ≤ length l
   going-few {k} G = changed-few (step X) alike (spends X L) ans (fresh (X .width)) (L .fresh-sound) l k (G .each)

@@ -5,7 +5,6 @@ ghost use lib.ListN.{length, replicate};
 ghost use Rattle.table.specs.Table.{Table};
 ghost use Rattle.rules.specs.Vote.{voteOf};
 ghost use Rattle.passes.specs.Calls.{calls};
-ghost use Rattle.votes.specs.Vote.{fresh};
 ghost use Rattle.run.specs.Inner.{Begun, Whole};
 ghost use Rattle.run.specs.Run.{runCheck, ran, stateInto, answersInto};
 use refusals::Check;
@@ -43,29 +42,6 @@ fn run_on(
     }
 }
 
-// Passes from a fresh state until one changes nothing: how many, that one counted.
-fn run_fresh(
-    table: &[u64],
-    n: usize,
-    faulty: u64,
-    list: &[u8],
-    state: &mut [u64],
-    answers: &mut [u8],
-) -> u64
-    requires { ⌜ Table (now table) n ⌝ }
-    requires { ⌜ now state ≡ fresh (voteOf (now table) n faulty .width) ⌝ }
-    requires { ⌜ length (now list) ≡ 4 * length (now answers) ⌝ }
-    requires { ⌜ length (now answers) ≤ 4096 ⌝ }
-    ensures { λ r. ⌜ Whole (voteOf (now (table .entry)) n faulty) (calls (now (list .entry))) r (now (state .exit)) (now (answers .exit)) ⌝ }
-{
-    let changed = passes::pass_over(table, n, faulty, list, state, answers);
-    if !changed {
-        return 1;
-    }
-    let mut waiting = [0u16; 4096];
-    run_on(table, n, faulty, list, state, answers, &mut waiting)
-}
-
 // Zeros all over.
 fn clear(state: &mut [u64])
     ensures { λ r. ⌜ now (state .exit) ≡ replicate (length (now (state .entry))) 0 ⌝ }
@@ -77,8 +53,8 @@ fn clear(state: &mut [u64])
     }
 }
 
-// The run in rooms of the right size, whatever they held.
-fn run_cleared(
+// Passes from a fresh state until one changes nothing, in rooms of the right size, whatever they held: how many, that one counted.
+fn run_fresh(
     table: &[u64],
     n: usize,
     faulty: u64,
@@ -93,7 +69,12 @@ fn run_cleared(
     ensures { λ r. ⌜ Whole (voteOf (now (table .entry)) n faulty) (calls (now (list .entry))) r (now (state .exit)) (now (answers .exit)) ⌝ }
 {
     clear(state);
-    run_fresh(table, n, faulty, list, state, answers)
+    let changed = passes::pass_over(table, n, faulty, list, state, answers);
+    if !changed {
+        return 1;
+    }
+    let mut waiting = [0u16; 4096];
+    run_on(table, n, faulty, list, state, answers, &mut waiting)
 }
 
 // Table, 10, 17, 9, for a list of so many bytes and rooms of so many numbers and bytes.
@@ -133,7 +114,7 @@ pub fn run(table: &[u64], faulty: u64, list: &[u8], state: &mut [u64], answers: 
     let n = table.len() / 63;
     let size = 4 * n + 6;
     let many = list.len() / 4;
-    let passes = run_cleared(
+    let passes = run_fresh(
         table,
         n,
         faulty,
