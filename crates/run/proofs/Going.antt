@@ -11,9 +11,12 @@ use lib.ListN.{length, replicate}
 use borrow.Author.Tests.{not-true, not-false}
 use Rattle.ground.proofs.Logic.{clash}
 use Rattle.ground.specs.Alike.{alike}
-use Rattle.passes.specs.Inner.{answersFrom, Passed}
+use Rattle.passes.proofs.Calls.{calls-length}
+use Rattle.passes.proofs.Turns.{passed-told}
+use Rattle.passes.specs.Calls.{calls}
+use Rattle.passes.specs.Inner.{answersFrom, Listed, Passed, PassedAgain}
 use Rattle.refusals.specs.Refusal.{code}
-use Rattle.run.specs.Inner.{Going, Whole}
+use Rattle.run.specs.Inner.{Going, Begun, Between, Whole}
 use Rattle.votes.proofs.AnyVote.{spends}
 use Rattle.votes.proofs.Loops.{quiet-still, still-quiet, iter-more, changed-few, run-unique}
 use Rattle.votes.proofs.Passes.{pass-inv}
@@ -33,7 +36,7 @@ module _ {X : Vote} (L : Lawful X) (l : List Call) where
       let z : _ ≡ fresh (X .width) = e ∙ ap (λ (k : ℕ). replicate k 0) h in
       record { state = z; sound = subst (X .Sound) (sym z) (L .fresh-sound); each = λ j h q. omega arith }
 
-  pub going-few : {k : ℕ} {s : List ℕ} → Going X l k s → k ≤ length l
+  going-few : {k : ℕ} {s : List ℕ} → Going X l k s → k ≤ length l
   going-few {k} G = changed-few (step X) alike (spends X L) ans (fresh (X .width)) (L .fresh-sound) l k (G .each)
 
   passes-sound : (s : List ℕ) → X .Sound s → X .Sound (pass (step X) l s)
@@ -77,5 +80,35 @@ module _ {X : Vote} (L : Lawful X) (l : List Call) where
           run-unique (step X) alike (spends X L) ans (fresh (X .width)) (L .fresh-sound) l k (G .each)
           (subst (λ (x : List ℕ). pass (step X) l x ≡ x) (G .state) fixed)
 
-  pub passed-size : {k : ℕ} {s s₁ out : List ℕ} {changed : Bool} → Going X l k s → Passed X l s changed s₁ out → length s₁ ≡ X .width
-  passed-size {s = s} G Z = ap length (Z .state) ∙ L .long _ (passes-sound s (G .sound))
+-- the same of a list of bytes, with the calls that wait
+module _ {X : Vote} (L : Lawful X) (list : List ℕ) where
+  pub begun-between : {s out w w₁ : List ℕ} {count : ℕ} → Begun X list s out w → Listed out 0 (length out) w₁ 0 count → count ≤ length out →
+      length w₁ ≡ length w → Between X list 1 s out count w₁
+  begun-between B K h e = record {
+    going = B .going;
+    waiting = record { fits = B .fits; short = B .short; sound = B .going .sound; told = B .told; listed = K; few = omega (arith, h, e, B .room) };
+  }
+
+  module _ (k : ℕ) {s out w : List ℕ} {count : ℕ} (B : Between X list k s out count w) where
+    pub between-few : k ≤ length out
+    between-few = omega (arith, going-few L (calls list) (B .going), calls-length list (length out) (B .waiting .fits))
+
+    module _ {changed : Bool} {left : ℕ} {s₁ out₁ w₁ : List ℕ} (P : PassedAgain X (calls list) s count changed left s₁ out₁ w₁) where
+      pub between-more : length out₁ ≡ length out → length w₁ ≡ length w → changed ≡ true → Between X list (k + 1) s₁ out₁ left w₁
+      between-more eo ew e = record {
+        going = G;
+        waiting = record {
+          fits = omega (arith, B .waiting .fits, eo);
+          short = omega (arith, B .waiting .short, eo);
+          sound = G .sound;
+          told = passed-told L list (length out) (B .waiting .fits) (B .waiting .sound) (P .passed);
+          listed = P .listed;
+          few = omega (arith, P .fewer, B .waiting .few, ew);
+        };
+      }
+        where
+          G : Going X (calls list) (k + 1) s₁
+          G = going-more L (calls list) k (B .going) (P .passed) e
+
+      pub between-done : changed ≡ false → Whole X (calls list) (k + 1) s₁ out₁
+      between-done e = going-done L (calls list) k (B .going) (P .passed) e

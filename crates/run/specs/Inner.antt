@@ -4,7 +4,7 @@ use mathlib.Core.List.{List}
 use mathlib.Core.Path.{_≡_}
 use lib.ListN.{length}
 use Rattle.passes.specs.Calls.{calls}
-use Rattle.passes.specs.Inner.{Told}
+use Rattle.passes.specs.Inner.{Told, Waiting}
 use Rattle.votes.specs.Call.{Call}
 use Rattle.votes.specs.Passes.{iter}
 use Rattle.votes.specs.Vote.{Vote, fresh, step, runOf}
@@ -23,6 +23,11 @@ module _ (X : Vote) where
     pub going : Going (calls list) 1 s
     pub told : Told X list s out
     pub room : length out ≤ length w
+
+  -- between two passes: k are behind, each of which changed something, and the first `count` of w are the calls that wait
+  pub record Between (list : List ℕ) (k : ℕ) (s out : List ℕ) (count : ℕ) (w : List ℕ) : Type 0 where
+    pub going : Going (calls list) k s
+    pub waiting : Waiting X list s out count w
 
   -- the whole run
   pub record Whole (l : List Call) (passes : ℕ) (s out : List ℕ) : Type 0 where
