@@ -16,11 +16,11 @@ use Rattle.masks.proofs.Laws.Apart.{apart-not-in}
 use Rattle.masks.proofs.Laws.Single.{∈-eq, ∈-or, ∈-single, single-∈, single-⊆}
 use Rattle.masks.proofs.Laws.Subsets.{or-⊆, or-⊆-l, or-⊆-r, not-in-zero}
 use Rattle.masks.specs.Mask.{single, _∈_, _⊆_}
-use Rattle.sets.proofs.Promises.{table-promises}
+use Rattle.rules.proofs.WorkWays.{table-rests}
 use Rattle.sets.specs.Paper.{Quorum}
-use Rattle.sets.specs.Promises.{Questions, Promises, questionsOf}
-use Rattle.sets.specs.Slices.{fbqsOf, slicesOf}
-use Rattle.table.specs.Table.{siteOf, countOf, sliceOf, sites, Table}
+use Rattle.sets.specs.Promises.{Questions, Promises, questions}
+use Rattle.sets.specs.Slices.{fbqsOf}
+use Rattle.table.specs.Table.{siteOf, countOf, sliceOf, Table}
 use Rattle.rules.specs.Theorems.{Rests}
 
 -- the other site of a site's slice, and the slice
@@ -79,9 +79,6 @@ module _ (n : ℕ) where
   unfolding chain
   chain-length = length-cat row 63 n (λ i l. row-length i)
 
-  pub chain-sites : sites (length (chain n)) ≡ n
-  chain-sites = let e = chain-length in omega arith
-
   chain-row : {v : ℕ} → v < n → siteOf (chain n) v ≡ row v
   unfolding chain
   chain-row {v} l = part-cat row 63 n v l (λ i h. row-length i)
@@ -119,10 +116,10 @@ pub record Chained (Q : Questions) (n : ℕ) : Type 0 where
 
 module _ {n : ℕ} (two : 2 ≤ n) (few : n ≤ 64) where
   abbrev Q : Questions
-  Q = questionsOf (slicesOf (chain n)) n
+  Q = questions (chain n)
 
   pub chain-rests : Rests (λ v. fbqsOf (chain n) n) Q n
-  chain-rests = record { promises = table-promises (chain n) n (chain-table n two few); sites = λ v l. in-all l }
+  chain-rests = table-rests (chain-table n two few)
 
   pub chained : Chained Q n
   chained = record {

@@ -1,27 +1,28 @@
--- The theorems of the public run: what it leaves in its rooms is the run of the rules, so what is true of the one is true of the other.
+-- The theorems of the public run: what it leaves in its rooms is the run of the list, so what is true of the one is true of the other.
 use Prim.Native.Nat.{ℕ, suc, _/_, _≤_, _<_}
 use mathlib.Core.List.{List}
 use mathlib.Core.Path.{_≡_, refl, sym, ap, subst, _∙_}
 use native.Mathlib.Omega.{arith}
 use lib.ListN.{length, getD, drop}
 use lib.Seq.{take-at}
+use Rattle.passes.proofs.Calls.{calls-at, calls-length}
+use Rattle.passes.proofs.Lawful.{lawful}
+use Rattle.passes.proofs.Turns.{length-answers}
+use Rattle.passes.specs.Calls.{calls, callAt}
 use Rattle.refusals.specs.declared.Check.{Check}
 use Rattle.refusals.specs.declared.Check.the-variants.{Sound, Refused}
-use Rattle.run.specs.Run.{calls, callAt, runCheck, runOf, toRan, ran, stateInto, answersInto}
+use Rattle.rules.specs.State.{size}
+use Rattle.rules.specs.Vote.{voteOf}
+use Rattle.run.proofs.RunWays.{Fits, fits}
+use Rattle.run.specs.Run.{runCheck, theRun, toRan, ran, stateInto, answersInto}
 use Rattle.run.specs.Theorems.{Taken, endState, endAnswers, OrderFree, FewPasses, TheRun, FewerBelow}
 use Rattle.run.specs.declared.Ran.the-variants.{Passes}
-use Rattle.run.proofs.Calls.{calls-at, calls-length}
-use Rattle.run.proofs.Order.{run-is, few-passes, same-end, same-answers, fewer-below}
-use Rattle.run.proofs.RunWays.{Fits, fits}
-use Rattle.run.proofs.Turns.{length-answers}
-use Rattle.sets.specs.Slices.{fbqsOf}
 use Rattle.table.specs.Table.{sites}
-use Rattle.rules.proofs.WorkWays.{table-rests}
-use Rattle.rules.specs.State.{size}
-use Rattle.rules.specs.Theorems.{Rests}
-use Rattle.votes.specs.Theorems.{IsRun}
+use Rattle.votes.proofs.AnyVote.{is-run, order-free, few-passes, fewer-below}
 use Rattle.votes.specs.Call.{Call}
-use Rattle.sets.specs.Promises.{questions}
+use Rattle.votes.specs.Inner.{Lawful}
+use Rattle.votes.specs.Theorems.{IsRun}
+use Rattle.votes.specs.Vote.{Vote}
 
 taken-inv : (q : Check) (k p : ℕ) → toRan q k ≡ Passes p → (q ≡ Sound) × (k ≡ p)
 taken-inv Sound k p e = (refl, cc)
@@ -29,33 +30,36 @@ taken-inv (Refused r) k p e = let z : _≡_ {A = ℕ} 0 1 = cc in absurd (omega 
 
 -- what a taken run has shown of its table and its list
 module _ {t : List ℕ} {F : ℕ} {list state answers : List ℕ} {p : ℕ} (T : Taken t F list state answers p) where
-  checks : (runCheck t F (length list) (length state) (length answers) ≡ Sound) × (runOf t F list .passes ≡ p)
-  unfolding ran
-  checks = taken-inv (runCheck t F (length list) (length state) (length answers)) (runOf t F list .passes) p (T .took)
+  abbrev X : Vote
+  X = voteOf t (sites (length t)) F
 
-  fit : Fits t (length list) (length state) (length answers)
+  checks : (runCheck t F (length list) (length state) (length answers) ≡ Sound) × (theRun t F list .passes ≡ p)
+  unfolding ran
+  checks = taken-inv (runCheck t F (length list) (length state) (length answers)) (theRun t F list .passes) p (T .took)
+
+  pub fit : Fits t (length list) (length state) (length answers)
   fit = fits t F (length list) (length state) (length answers) (checks .0)
 
-  pub rests : Rests (λ v. fbqsOf t (sites (length t))) (questions t) (sites (length t))
-  rests = table-rests (fit .table)
+  law : Lawful X
+  law = lawful (fit .table) F
 
   call-count : length (calls list) ≡ length list / 4
   call-count = calls-length list (length list / 4) (fit .four)
 
   -- the front of the state room is the state of the run, the front of the answer room its answers
-  pub state-is-run : endState t F list state p ≡ runOf t F list .state
+  state-is-run : endState t F list state p ≡ theRun t F list .state
   unfolding stateInto
-  state-is-run = take-at (runOf t F list .state) (drop (size (sites (length t))) state) (size (sites (length t))) (run-is rests F (calls list) .inv .long)
+  state-is-run =
+      take-at (theRun t F list .state) (drop (size (sites (length t))) state) (size (sites (length t)))
+      (law .long (theRun t F list .state) (is-run X law (calls list) .1))
 
-  pub answers-are-run : endAnswers t F list answers p ≡ runOf t F list .answers
+  answers-are-run : endAnswers t F list answers p ≡ theRun t F list .answers
   unfolding answersInto
   answers-are-run =
-      take-at (runOf t F list .answers) (drop (length list / 4) answers) (length list / 4)
-      (ap length (run-is rests F (calls list) .last-answers)
-      ∙ length-answers (questions t) (sites (length t)) F (calls list) (runOf t F list .state)
-      ∙ call-count)
+      take-at (theRun t F list .answers) (drop (length list / 4) answers) (length list / 4)
+      (ap length (is-run X law (calls list) .0 .last-answers) ∙ length-answers X (calls list) (theRun t F list .state) ∙ call-count)
 
-  pub passes-are-run : runOf t F list .passes ≡ p
+  pub passes-are-run : theRun t F list .passes ≡ p
   passes-are-run = checks .1
 
   at-call : (i : ℕ) (d : Call) → i < length list / 4 → getD (calls list) i d ≡ callAt list i
@@ -64,33 +68,25 @@ module _ {t : List ℕ} {F : ℕ} {list state answers : List ℕ} {p : ℕ} (T :
 pub few : FewPasses
 few t F list state answers p T =
     subst (λ (k : ℕ). k ≤ suc (length list / 4)) (passes-are-run T)
-    (subst (λ (k : ℕ). runOf t F list .passes ≤ suc k) (call-count T) (few-passes (rests T) F (calls list)))
+    (subst (λ (k : ℕ). theRun t F list .passes ≤ suc k) (call-count T) (few-passes (X T) (law T) (calls list)))
 
-pub order-free : OrderFree
-order-free t F a stateA answersA p b stateB answersB q A B o w = (
-  state-is-run A ∙ same-end (rests A) F (calls a) o (calls b) (w .0) (w .1) ∙ sym (state-is-run B),
-  λ i j hi hj e.
-      let d : Call = callAt a i in
-      ap (λ (l : List ℕ). getD l i 0) (answers-are-run A)
-      ∙ same-answers (rests A) F (calls a) o (calls b) (w .0) (w .1) d i j (rw (call-count A) hi) (rw (call-count B) hj)
-      (at-call A i d hi ∙ e ∙ sym (at-call B j d hj))
-      ∙ sym (ap (λ (l : List ℕ). getD l j 0) (answers-are-run B)),
-)
+pub any-order : OrderFree
+any-order t F a stateA answersA p b stateB answersB q A B o w =
+    let same = order-free (X A) (law A) (calls a) (calls b) o w in (
+      state-is-run A ∙ same .0 ∙ sym (state-is-run B),
+      λ i j hi hj e.
+          let d : Call = callAt a i in
+          ap (λ (l : List ℕ). getD l i 0) (answers-are-run A)
+          ∙ same .1 d i j (rw (call-count A) hi) (rw (call-count B) hj) (at-call A i d hi ∙ e ∙ sym (at-call B j d hj))
+          ∙ sym (ap (λ (l : List ℕ). getD l j 0) (answers-are-run B)),
+    )
 
 pub fewer : FewerBelow
 fewer t F a stateA answersA p b stateB answersB q A B o w =
-    rw (state-is-run A, state-is-run B) (fewer-below (rests A) F (calls a) o (calls b) w)
+    rw (state-is-run A, state-is-run B) (fewer-below (X A) (law A) (calls a) (calls b) o w)
 
 pub the-run : TheRun
 the-run t F list state answers p T =
-    let E = run-is (rests T) F (calls list) in
-    subst (IsRun (questions t) (sites (length t)) F (calls list))
+    subst (IsRun (X T) (calls list))
     (λ i. record { state = sym (state-is-run T) i; passes = passes-are-run T i; answers = sym (answers-are-run T) i })
-    (record {
-      changing = E .changing;
-      passes-is = E .passes-is;
-      state-is = E .state-is;
-      each-changed = E .each-changed;
-      last-still = E .fixed;
-      last-answers = E .last-answers;
-    })
+    (is-run (X T) (law T) (calls list) .0)

@@ -15,12 +15,12 @@ use Rattle.ground.specs.Alike.{alike}
 use Rattle.masks.proofs.Laws.Single.{∈-or, ∈-single}
 use Rattle.masks.proofs.Laws.Subsets.{not-in-zero, minus-⊆, minus-not-in, minus-lt}
 use Rattle.masks.specs.Mask.{single, minus, allBelow, _∈_, _⊆_}
-use Rattle.run.specs.Run.{runVotes}
 use Rattle.run.specs.Theorems.{Reached}
 use Rattle.run.proofs.Bound.{at, iter-at, few}
-use Rattle.run.proofs.Chain.{chain, chain-sites, chain-table, chain-rests, Chained, chained}
-use Rattle.run.proofs.Order.{spends, run-is}
-use Rattle.run.proofs.Passes.{pass-up}
+use Rattle.run.proofs.Chain.{chain, chain-table, chain-rests, Chained, chained}
+use Rattle.passes.proofs.Lawful.{vote-lawful}
+use Rattle.votes.proofs.AnyVote.{spends, is-run}
+use Rattle.votes.proofs.Passes.{pass-up}
 use Rattle.run.proofs.Stages.{link, links, back, longest, links-length, Stage, voted-0, takes-accept, heard-it, stage-pass}
 use Rattle.sets.specs.Paper.{Fbqs}
 use Rattle.sets.specs.Promises.{Questions}
@@ -34,18 +34,19 @@ use Rattle.rules.proofs.Steps.{step-sound, step-adds}
 use Rattle.rules.proofs.Taken.{taken-voted, taken-votes, taken-accepted}
 use Rattle.rules.specs.Rules.{others, accepting, taken}
 use Rattle.rules.specs.Sound.{Sound}
-use Rattle.rules.specs.State.{votes, accepts, voted, accepted, get}
+use Rattle.rules.specs.State.{votes, accepts, voted, accepted, size, get}
 use Rattle.rules.specs.Theorems.{Rests}
+use Rattle.rules.specs.Vote.{vote}
 use Rattle.votes.specs.Passes.{pass}
 use Rattle.votes.specs.Call.{propose, call, Call}
-use Rattle.votes.specs.Vote.{step, fresh}
+use Rattle.votes.specs.Vote.{step, fresh, runOf}
 
 module _ {Σ : ℕ → Fbqs} {Q : Questions} (j : ℕ) (more : 1 ≤ j) (R : Rests Σ Q (suc j)) (C : Chained Q (suc j)) where
   abbrev n : ℕ
   n = suc j
 
   abbrev does : Call → List ℕ → List ℕ
-  does c s = step Q n 0 c s
+  does c s = step (vote Q n 0) c s
 
   -- before the links: a state in which nobody has accepted, and each site has heard its own vote at most, for drill
   record Quiet (s : List ℕ) : Type 0 where
@@ -100,7 +101,7 @@ module _ {Σ : ℕ → Fbqs} {Q : Questions} (j : ℕ) (more : 1 ≤ j) (R : Res
             (λ u k. is-v u (S₁ .accepts-sent w u 0 hw (omega arith) not-in-zero k) ∙ sym (is-v w h)) (accepted-rule S₁ (omega arith) h)
 
   -- the first pass takes the two proposals
-  quiet-fresh : Quiet (fresh n)
+  quiet-fresh : Quiet (fresh (size n))
   quiet-fresh = record {
     sound = fresh-sound Σ Q n 0 R;
     nobody = λ w. fresh-none n (accepted n 0);
@@ -109,20 +110,20 @@ module _ {Σ : ℕ → Fbqs} {Q : Questions} (j : ℕ) (more : 1 ≤ j) (R : Res
   }
 
   abbrev s₀ : List ℕ
-  s₀ = does (propose 1 0) (does (propose 0 0) (fresh n))
+  s₀ = does (propose 1 0) (does (propose 0 0) (fresh (size n)))
 
-  fresh-accept : (u v : ℕ) → does (call 2 u v 0) (fresh n) ≡ fresh n
-  fresh-accept u v = step-not-taken n 0 (call 2 u v 0) (fresh n) Q (λ K. fresh-none n (accepted n 0) (K .accept-sent refl not-in-zero))
+  fresh-accept : (u v : ℕ) → does (call 2 u v 0) (fresh (size n)) ≡ fresh (size n)
+  fresh-accept u v = step-not-taken n 0 (call 2 u v 0) (fresh (size n)) Q (λ K. fresh-none n (accepted n 0) (K .accept-sent refl not-in-zero))
 
-  fresh-link : (k : ℕ) → does (link k) (fresh n) ≡ fresh n
-  fresh-link zero = step-not-taken n 0 (link 0) (fresh n) Q (λ K. fresh-none n (voted n 0) (K .vote-sent refl not-in-zero))
+  fresh-link : (k : ℕ) → does (link k) (fresh (size n)) ≡ fresh (size n)
+  fresh-link zero = step-not-taken n 0 (link 0) (fresh (size n)) Q (λ K. fresh-none n (voted n 0) (K .vote-sent refl not-in-zero))
   fresh-link (suc v) = fresh-accept v (suc v)
 
-  fresh-links : (k : ℕ) → pass does (links k) (fresh n) ≡ s₀
+  fresh-links : (k : ℕ) → pass does (links k) (fresh (size n)) ≡ s₀
   fresh-links zero = refl
   fresh-links (suc k) = ap (pass does (links k)) (fresh-link k) ∙ fresh-links k
 
-  first : Stage Q j 0 (pass does (longest j) (fresh n))
+  first : Stage Q j 0 (pass does (longest j) (fresh (size n)))
   first = subst (Stage Q j 0) (sym (ap (pass does (links n)) (fresh-accept j 0) ∙ fresh-links n)) (record {
     sound = q₂ .sound;
     before = λ c m. ⊎-elim
@@ -136,7 +137,7 @@ module _ {Σ : ℕ → Fbqs} {Q : Questions} (j : ℕ) (more : 1 ≤ j) (R : Res
   })
     where
       s₁ : List ℕ
-      s₁ = does (propose 0 0) (fresh n)
+      s₁ = does (propose 0 0) (fresh (size n))
 
       q₁ : Quiet s₁
       q₁ = quiet-step quiet-fresh 0 (omega arith)
@@ -161,17 +162,17 @@ module _ {Σ : ℕ → Fbqs} {Q : Questions} (j : ℕ) (more : 1 ≤ j) (R : Res
       told T d =
           let s = at R 0 (longest j) (suc k) in
           T .waits (subst (λ (t : List ℕ). j ∈ get t (accepts 0 0)) e
-          (pass-up does alike (spends R 0) (links n) (does (back j) s) (step-sound Σ Q n 0 R (back j) s (T .sound)) .each (accepts 0 0) .each j
+          (pass-up does alike (spends (vote Q n 0) (vote-lawful R 0)) (links n) (does (back j) s) (step-sound Σ Q n 0 R (back j) s (T .sound)) .each (accepts 0 0) .each j
           (heard-it T j 0 (takes-accept T j 0 (omega arith) (omega arith)))))
 
-  longest-passes : runVotes Q n 0 (longest j) .passes ≡ n + 3
+  longest-passes : runOf (vote Q n 0) (longest j) .passes ≡ n + 3
   longest-passes =
-      let E = run-is R 0 (longest j) in
-      let e : runVotes Q n 0 (longest j) .state ≡ at R 0 (longest j) (E .changing) = E .state-is ∙ iter-at R 0 (longest j) (E .changing) in
+      let E = is-run (vote Q n 0) (vote-lawful R 0) (longest j) .0 in
+      let e : runOf (vote Q n 0) (longest j) .state ≡ at R 0 (longest j) (E .changing) = E .state-is ∙ iter-at R 0 (longest j) (E .changing) in
       let most = few R 0 (longest j) in
       let sites = ones-le n (minus (allBelow n) 0) (minus-lt n (allBelow n) 0 (ones-lt n)) in
       elim (decLt (E .changing) (n + 2)) [
-        | yes h ↦ absurd (changes (E .changing) h (ap (pass does (longest j)) (sym e) ∙ E .fixed ∙ e))
+        | yes h ↦ absurd (changes (E .changing) h (ap (pass does (longest j)) (sym e) ∙ E .last-still ∙ e))
         | no h ↦ omega (arith, E .passes-is)
       ]
 
@@ -182,5 +183,5 @@ reached (suc j) two few = (
   longest j,
   chain-table (suc j) two few,
   ap suc (links-length (suc j)) ∙ omega arith,
-  rw (chain-sites (suc j)) (longest-passes j (omega arith) (chain-rests two few) (chained two few)),
+  longest-passes j (omega arith) (chain-rests two few) (chained two few),
 )

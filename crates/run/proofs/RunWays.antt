@@ -13,14 +13,15 @@ use Rattle.refusals.specs.First.{orElse, refuse}
 use Rattle.refusals.specs.declared.Check.the-variants.{Sound, Refused}
 use Rattle.refusals.specs.declared.Refusal as Refusal
 use Rattle.refusals.specs.declared.Refusal.the-variants.{Room}
+use Rattle.passes.specs.Calls.{calls}
 use Rattle.run.specs.Inner.{Whole}
-use Rattle.run.specs.Run.{calls, misshapen, roomless, runCheck, ran, stateInto, answersInto}
+use Rattle.run.specs.Run.{misshapen, roomless, runCheck, ran, stateInto, answersInto}
 use Rattle.run.specs.declared.Ran.{Ran}
 use Rattle.run.specs.declared.Ran.the-variants.{Passes}
 use Rattle.table.proofs.SetCheck.{set-table}
 use Rattle.table.specs.Table.{sites, setCheck, Table}
 use Rattle.rules.specs.State.{size}
-use Rattle.sets.specs.Promises.{questions}
+use Rattle.rules.specs.Vote.{voteOf}
 
 -- the check of a run: table, 10, 17, 9
 module _ (t : List ℕ) (F bytes state answers : ℕ) where
@@ -94,7 +95,7 @@ module _ (t : List ℕ) (F : ℕ) (list state answers : List ℕ) where
   ran-refused r e = (rw e refl, refl, refl)
 
   pub ran-passes : {p : ℕ} {s b : List ℕ} → runCheck t F (length list) (length state) (length answers) ≡ Sound →
-      Whole (questions t) (sites (length t)) F (calls list) p s b →
+      Whole (voteOf t (sites (length t)) F) (calls list) p s b →
       (Passes p ≡ ran t F list (length state) (length answers))
       × (s ++ drop (size (sites (length t))) state ≡ stateInto (Passes p) t F list state)
       × (b ++ drop (length list / 4) answers ≡ answersInto (Passes p) t F list answers)

@@ -10,8 +10,9 @@ use Rattle.ground.proofs.Numbers.{two}
 use Rattle.ground.specs.Alike.{alike}
 use Rattle.masks.proofs.Laws.Subsets.{⊆-refl, ⊆-trans}
 use Rattle.masks.specs.Mask.{_∈_, _⊆_}
-use Rattle.run.proofs.Order.{spends}
-use Rattle.run.proofs.Passes.{pass-still, pass-up}
+use Rattle.passes.proofs.Lawful.{vote-lawful}
+use Rattle.votes.proofs.AnyVote.{spends}
+use Rattle.votes.proofs.Passes.{pass-still, pass-up}
 use Rattle.sets.specs.Paper.{Fbqs}
 use Rattle.sets.specs.Promises.{Questions}
 use Rattle.rules.proofs.Answer.{Takes, takes-later, takes-earlier, step-cases}
@@ -25,6 +26,7 @@ use Rattle.rules.specs.Rules.{taken}
 use Rattle.rules.specs.Sound.{Sound}
 use Rattle.rules.specs.State.{voted, accepted, get, Below}
 use Rattle.rules.specs.Theorems.{Rests}
+use Rattle.rules.specs.Vote.{vote}
 use Rattle.votes.specs.Passes.{pass}
 use Rattle.votes.specs.Call.{Call}
 use Rattle.votes.specs.Vote.{step}
@@ -87,49 +89,49 @@ module _ {Σ : ℕ → Fbqs} {Q : Questions} {n : ℕ} (R : Rests Σ Q n) (F : �
 
   -- a spent call changes nothing
   pub spent-still : {P : Call → Type 0} {s : List ℕ} → Sound Q n F s → Spent P s → (c : Call) → List·Memᴰ c l → P c →
-      step Q n F c s ≡ s
+      step (vote Q n F) c s ≡ s
   spent-still {s = s} S z c m p = ⊎-elim (λ e. e) (λ x. heard-still S c (z c m p (x .0))) (step-cases n F c s Q)
 
   -- a pass meets each of its calls in some state between its start and its end
   through : (m : List Call) (s : List ℕ) → Sound Q n F s → (c : Call) → List·Memᴰ c m →
-      (u : List ℕ) × Sound Q n F u × Below s u × Below (step Q n F c u) (pass (step Q n F) m s)
+      (u : List ℕ) × Sound Q n F u × Below s u × Below (step (vote Q n F) c u) (pass (step (vote Q n F)) m s)
   through [] s S c h = absurd (List·Memᴰ·not-nil h)
   through (x ∷ m) s S c h =
       let S₁ = step-sound Σ Q n F R x s S in
       ⊎-elim
-      (λ e. (s, S, below-refl s, rw e (pass-up (step Q n F) alike (spends R F) m (step Q n F x s) S₁)))
-      (λ k. let p = through m (step Q n F x s) S₁ c k in (p .0, p .1, below-trans (step-adds Q n F x s) (p .2), p .3))
+      (λ e. (s, S, below-refl s, rw e (pass-up (step (vote Q n F)) alike (spends (vote Q n F) (vote-lawful R F)) m (step (vote Q n F) x s) S₁)))
+      (λ k. let p = through m (step (vote Q n F) x s) S₁ c k in (p .0, p .1, below-trans (step-adds Q n F x s) (p .2), p .3))
       (List·Memᴰ·cases-cons h)
 
   -- a pass spends each call that it could take from its start and could take again at its end
   pub spent-after : {P : Call → Type 0} {s : List ℕ} → Sound Q n F s →
-      ((c : Call) → P c → Takes n F c (pass (step Q n F) l s) → Takes n F c s) → Spent P (pass (step Q n F) l s)
+      ((c : Call) → P c → Takes n F c (pass (step (vote Q n F)) l s) → Takes n F c s) → Spent P (pass (step (vote Q n F)) l s)
   spent-after {s = s} S back c h p K =
       let x = through l s S c h in
       let u = x .0 in
-      heard-grows n c (step Q n F c u) (x .3)
+      heard-grows n c (step (vote Q n F) c u) (x .3)
       (step-heard (x .1) c
       (takes-later (x .2) (λ k w. K .free k (below-trans (step-adds Q n F c u) (x .3) .each (voted n _) .each (c .to) w)) (back c p K)))
 
   module _ {P : Call → Type 0} {I : ℕ → Type 0} (A : Sort Q n F P I) where
     -- spent calls stay spent, and nobody new comes to their places
     step-kept : {s : List ℕ} → Sound Q n F s → Spent P s → (c : Call) → List·Memᴰ c l → (i : ℕ) → I i →
-        get (step Q n F c s) i ⊆ get s i
+        get (step (vote Q n F) c s) i ⊆ get s i
     step-kept {s} S z c m i hi = record {
       each = λ u h.
-          let same : step Q n F c s ≡ s → u ∈ get s i = λ e. subst (λ (t : List ℕ). u ∈ get t i) e h in
+          let same : step (vote Q n F) c s ≡ s → u ∈ get s i = λ e. subst (λ (t : List ℕ). u ∈ get t i) e h in
           ⊎-elim same
           (λ x. ⊎-elim (λ k. k) (λ p. same (spent-still S z c m p)) (A .theirs S (x .0) hi (subst (λ (t : List ℕ). u ∈ get t i) (x .1) h)))
           (step-cases n F c s Q);
     }
 
-    pub step-spent : {s : List ℕ} → Sound Q n F s → Spent P s → (c : Call) → List·Memᴰ c l → Spent P (step Q n F c s)
+    pub step-spent : {s : List ℕ} → Sound Q n F s → Spent P s → (c : Call) → List·Memᴰ c l → Spent P (step (vote Q n F) c s)
     step-spent {s} S z c m d h p K =
         let up = step-adds Q n F c s in
         heard-grows n d s up (z d h p (A .before p up (step-kept S z c m) K))
 
     pub pass-kept : (m : List Call) → ((c : Call) → List·Memᴰ c m → List·Memᴰ c l) → {s : List ℕ} → Sound Q n F s → Spent P s →
-        Spent P (pass (step Q n F) m s) × ((i : ℕ) → I i → get (pass (step Q n F) m s) i ⊆ get s i)
+        Spent P (pass (step (vote Q n F)) m s) × ((i : ℕ) → I i → get (pass (step (vote Q n F)) m s) i ⊆ get s i)
     pass-kept [] f {s} S z = (z, λ i hi. ⊆-refl (get s i))
     pass-kept (c ∷ m) f {s} S z =
         let hc = f c (List·Memᴰ·head refl) in
@@ -137,18 +139,18 @@ module _ {Σ : ℕ → Fbqs} {Q : Questions} {n : ℕ} (R : Rests Σ Q n) (F : �
         (r .0, λ i hi. ⊆-trans (r .1 i hi) (step-kept S z c hc i hi))
 
     -- a pass that brings nobody new to their places spends them
-    pub quiet-spends : {s : List ℕ} → Sound Q n F s → ((i : ℕ) → I i → get (pass (step Q n F) l s) i ⊆ get s i) →
-        Spent P (pass (step Q n F) l s)
-    quiet-spends {s} S kept = spent-after S (λ c p. A .before p (pass-up (step Q n F) alike (spends R F) l s S) kept)
+    pub quiet-spends : {s : List ℕ} → Sound Q n F s → ((i : ℕ) → I i → get (pass (step (vote Q n F)) l s) i ⊆ get s i) →
+        Spent P (pass (step (vote Q n F)) l s)
+    quiet-spends {s} S kept = spent-after S (λ c p. A .before p (pass-up (step (vote Q n F)) alike (spends (vote Q n F) (vote-lawful R F)) l s S) kept)
 
   -- the proposals are spent after any pass
-  pub proposals-spent : {s : List ℕ} → Sound Q n F s → Spent IsProposal (pass (step Q n F) l s)
-  proposals-spent {s} S = spent-after S (λ c k. takes-earlier (pass-up (step Q n F) alike (spends R F) l s S) k)
+  pub proposals-spent : {s : List ℕ} → Sound Q n F s → Spent IsProposal (pass (step (vote Q n F)) l s)
+  proposals-spent {s} S = spent-after S (λ c k. takes-earlier (pass-up (step (vote Q n F)) alike (spends (vote Q n F) (vote-lawful R F)) l s S) k)
 
   -- where the calls of both sides are spent a pass changes nothing
-  pub both-still : {s : List ℕ} → Sound Q n F s → Spent (OfSide 0) s → Spent (OfSide 1) s → pass (step Q n F) l s ≡ s
+  pub both-still : {s : List ℕ} → Sound Q n F s → Spent (OfSide 0) s → Spent (OfSide 1) s → pass (step (vote Q n F)) l s ≡ s
   both-still {s} S a b =
-      pass-still (step Q n F) l
+      pass-still (step (vote Q n F)) l
       (λ c m. ⊎-elim (λ e. e) (λ x. heard-still S c (side c m (x .0) (c .side) (x .0 .range .side-in) refl)) (step-cases n F c s Q))
     where
       side : (c : Call) → List·Memᴰ c l → Takes n F c s → (σ : ℕ) → σ < 2 → c .side ≡ σ → heard n c s ≡ true

@@ -13,7 +13,7 @@ use Rattle.masks.proofs.Laws.Single.{single-∈}
 use Rattle.masks.proofs.Laws.Subsets.{mem, not-in-zero, or-⊆-l, ∈-minus}
 use Rattle.masks.specs.Mask.{_∈_}
 use Rattle.run.proofs.Chain.{Chained}
-use Rattle.run.proofs.Passes.{pass-still}
+use Rattle.votes.proofs.Passes.{pass-still}
 use Rattle.sets.specs.Paper.{Fbqs}
 use Rattle.sets.specs.Promises.{Questions}
 use Rattle.rules.proofs.Answer.{Takes, step-taken, step-not-taken}
@@ -28,6 +28,7 @@ use Rattle.rules.specs.Rules.{others}
 use Rattle.rules.specs.Sound.{Sound}
 use Rattle.rules.specs.State.{votes, accepts, voted, accepted, get}
 use Rattle.rules.specs.Theorems.{Rests}
+use Rattle.rules.specs.Vote.{vote}
 use Rattle.votes.specs.Passes.{pass}
 use Rattle.votes.specs.Call.{propose, call, Call}
 use Rattle.votes.specs.Vote.{step}
@@ -75,7 +76,7 @@ module _ {Q : Questions} {j k : ℕ} {s : List ℕ} (T : Stage Q j k s) where
   n = suc j
 
   abbrev does : Call → List ℕ → List ℕ
-  does c t = step Q n 0 c t
+  does c t = step (vote Q n 0) c t
 
   pub voted-0 : 0 ∈ get s (voted n 0)
   voted-0 = mem (sym (heard-proposal n (propose 0 0) s refl) ∙ T .before (propose 0 0) (proposed k (List·Memᴰ·head refl)))

@@ -8,16 +8,16 @@ use Rattle.ground.specs.Alike.{alike}
 use Rattle.ground.specs.Search.{some, every, least, those}
 use Rattle.mark.specs.Mark.{mark}
 use Rattle.masks.specs.Mask.{has, within, minus, gather}
-use Rattle.run.specs.Run.{runVotes}
-use Rattle.sets.specs.Promises.{questionsOf, questions}
+use Rattle.sets.specs.Promises.{questionsOf}
 use Rattle.sets.specs.Quorum.{quorum, round, left, dropping, largest, rounds}
 use Rattle.sets.specs.Slices.{slicesOf}
 use Rattle.verdicts.specs.Verdicts.{beside, apart, firstApart, meets, dispensable, isIntact, intact}
 use Rattle.rules.specs.Rules.{accepting, confirming, nowAccepts, nowConfirms, hears, taken, outOfRange, crooked, against, unsent, answer}
-use Rattle.rules.specs.State.{accepted, confirmed, get, add}
+use Rattle.rules.specs.State.{accepted, confirmed, size, get, add}
+use Rattle.rules.specs.Vote.{voteOf}
+use Rattle.votes.specs.Call.{call, propose}
 use Rattle.votes.specs.Passes.{pass, passes, run}
-use Rattle.votes.specs.Call.{call}
-use Rattle.votes.specs.Vote.{step, fresh}
+use Rattle.votes.specs.Vote.{step, fresh, runOf}
 
 -- the 63 numbers of a site with these slices
 abbrev pub site : List ℕ → List ℕ
@@ -45,15 +45,13 @@ all (b ∷ l) = b && all l
 
 unfoldable pub examples : List Bool
 unfolding some every least those has within minus gather quorum round left dropping largest rounds slicesOf questionsOf beside apart firstApart meets dispensable isIntact intact mark
-    accepting confirming nowAccepts nowConfirms hears taken outOfRange crooked against unsent answer step fresh add passes run runVotes
+    accepting confirming nowAccepts nowConfirms hears taken outOfRange crooked against unsent answer fresh add passes run runOf
 examples =
     let A = slicesOf tableA in
     let B = slicesOf tableB in
     let C = slicesOf tableApart in
-    let oneQ = questions tableOne in
-    let bQ = questions tableB in
-    let oneEnd = runVotes oneQ 1 0 (call 0 0 0 0 ∷ []) .state in
-    let heardEnd = pass (step bQ 4 8) (call 0 0 0 0 ∷ call 0 1 1 0 ∷ call 0 2 2 0 ∷ call 1 1 0 0 ∷ call 1 2 0 0 ∷ []) (fresh 4) in
+    let oneEnd = runOf (voteOf tableOne 1 0) (propose 0 0 ∷ []) .state in
+    let heardEnd = pass (step (voteOf tableB 4 8)) (propose 0 0 ∷ propose 1 0 ∷ propose 2 0 ∷ call 1 1 0 0 ∷ call 1 2 0 0 ∷ []) (fresh (size 4)) in
     -- A's quorums are 3, 7, 11, 15, 27, 31
     alike (those 32 (quorum (A .inside) 5)) (3 ∷ 7 ∷ 11 ∷ 15 ∷ 27 ∷ 31 ∷ [])
     -- A's dispensable sets are 0, 4, 16, 20, 24, 28, 31
@@ -79,6 +77,6 @@ examples =
     ∷ eqb (get heardEnd (accepted 4 0)) 1
     ∷ eqb (get heardEnd (confirmed 4 0)) 0
     -- list "vote 0 to 1 drill, propose 0 drill" in B, F = 0: 3 passes. Empty list: 1 pass
-    ∷ eqb (runVotes bQ 4 0 (call 1 0 1 0 ∷ call 0 0 0 0 ∷ []) .passes) 3
-    ∷ eqb (runVotes bQ 4 0 [] .passes) 1
+    ∷ eqb (runOf (voteOf tableB 4 0) (call 1 0 1 0 ∷ propose 0 0 ∷ []) .passes) 3
+    ∷ eqb (runOf (voteOf tableB 4 0) [] .passes) 1
     ∷ []

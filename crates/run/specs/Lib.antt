@@ -1,5 +1,4 @@
-pub mod Passes
 pub mod Run
 pub mod Theorems
-pub mod Inner
 pub mod Examples
+pub mod Inner

@@ -29,56 +29,57 @@ add-size c =
     let f = fits (now (a .table)) (a .faulty) (length (now (a .list))) (length (now (a .state))) (length (now (a .answers))) (sym (c .before .before .check .ensures) ∙ c .enum-told .given .1) in
     omega (arith, f .table .few-sites)
 
-slice-relend-prefix-run-cleared : tie.Need-slice-relend-prefix-run-cleared
-slice-relend-prefix-run-cleared c =
+slice-relend-prefix-run-fresh : tie.Need-slice-relend-prefix-run-fresh
+slice-relend-prefix-run-fresh c =
     let a = c .before .before .before .before .before .before .before .args in
     let f = fits (now (a .table)) (a .faulty) (length (now (a .list))) (length (now (a .state))) (length (now (a .answers))) (sym (c .before .before .check .ensures) ∙ c .enum-told .given .1) in
     omega (arith, f .states)
 
-slice-aggregate-run-cleared : tie.Need-slice-aggregate-run-cleared
-slice-aggregate-run-cleared c =
+slice-aggregate-run-fresh : tie.Need-slice-aggregate-run-fresh
+slice-aggregate-run-fresh c =
     let a = c .before .before .before .before .before .before .before .before .args in
     let f = fits (now (a .table)) (a .faulty) (length (now (a .list))) (length (now (a .state))) (length (now (a .answers))) (sym (c .before .before .before .check .ensures) ∙ c .before .enum-told .given .1) in
     sym (length-take-le (4 * sites (length (now (a .table))) + 6) (now (a .state)) (f .states))
 
-slice-relend-prefix-run-cleared-2 : tie.Need-slice-relend-prefix-run-cleared-2
-slice-relend-prefix-run-cleared-2 c =
+slice-relend-prefix-run-fresh-2 : tie.Need-slice-relend-prefix-run-fresh-2
+slice-relend-prefix-run-fresh-2 c =
     let a = c .before .before .before .before .before .before .before .before .args in
     let f = fits (now (a .table)) (a .faulty) (length (now (a .list))) (length (now (a .state))) (length (now (a .answers))) (sym (c .before .before .before .check .ensures) ∙ c .before .enum-told .given .1) in
     omega (arith, f .many)
 
-slice-aggregate-run-cleared-2 : tie.Need-slice-aggregate-run-cleared-2
-slice-aggregate-run-cleared-2 c =
+slice-aggregate-run-fresh-2 : tie.Need-slice-aggregate-run-fresh-2
+slice-aggregate-run-fresh-2 c =
     let a = c .before .before .before .before .before .before .before .before .before .args in
     let f = fits (now (a .table)) (a .faulty) (length (now (a .list))) (length (now (a .state))) (length (now (a .answers))) (sym (c .before .before .before .before .check .ensures) ∙ c .before .before .enum-told .given .1) in
     sym (length-take-le (length (now (a .list)) / 4) (now (a .answers)) (f .many))
 
-run-cleared-requires : tie.Need-run-cleared-requires
-run-cleared-requires c κs =
+run-fresh-requires : tie.Need-run-fresh-requires
+run-fresh-requires c κs =
     let a = c .before .before .before .before .before .before .before .before .before .args in
     let f = fits (now (a .table)) (a .faulty) (length (now (a .list))) (length (now (a .state))) (length (now (a .answers))) (sym (c .before .before .before .before .check .ensures) ∙ c .before .before .enum-told .given .1) in
     let q = length-take-le (length (now (a .list)) / 4) (now (a .answers)) (f .many) in (
       f .table,
-      length-take-le (4 * sites (length (now (a .table))) + 6) (now (a .state)) (f .states),
-      f .four ∙ ap (λ (k : ℕ). 4 * k) (sym q),
-      subst (λ (k : ℕ). k ≤ 4096) (sym q) (f .few),
+      (
+        length-take-le (4 * sites (length (now (a .table))) + 6) (now (a .state)) (f .states),
+        (f .four ∙ ap (λ (k : ℕ). 4 * k) (sym q), subst (λ (k : ℕ). k ≤ 4096) (sym q) (f .few)),
+      ),
     )
 
 same-length : tie.Need-same-length
 same-length c =
     let a = c .before .before .before .before .before .before .before .before .before .before .before .before .before .before .args in
-    length-front (now (a .state)) (c .before .before .before .before .run-cleared .last .1 .1 .1 .1 .0) (4 * sites (length (now (a .table))) + 6) (c .before .before .before .before .run-cleared .kept .1 .1 .1 .1 .0)
+    length-front (now (a .state)) (c .before .before .before .before .run-fresh .last .1 .1 .1 .1 .0) (4 * sites (length (now (a .table))) + 6) (c .before .before .before .before .run-fresh .kept .1 .1 .1 .1 .0)
 
 same-length-2 : tie.Need-same-length-2
 same-length-2 c =
     let a = c .before .before .before .before .before .before .before .before .before .before .before .before .before .before .args in
-    length-front (now (a .answers)) (c .before .before .before .before .run-cleared .last .1 .1 .1 .1 .1 .0) (length (now (a .list)) / 4) (c .before .before .before .before .run-cleared .kept .1 .1 .1 .1 .1 .0)
+    length-front (now (a .answers)) (c .before .before .before .before .run-fresh .last .1 .1 .1 .1 .1 .0) (length (now (a .list)) / 4) (c .before .before .before .before .run-fresh .kept .1 .1 .1 .1 .1 .0)
 
 returns-2 : tie.Need-returns-2
 returns-2 c =
     let a = c .before .before .before .before .before .before .before .before .before .before .before .before .before .before .args in
     let x = ran-passes (now (a .table)) (a .faulty) (now (a .list)) (now (a .state)) (now (a .answers)) (sym (c .before .before .before .before .before .before .before .before .before .check .ensures) ∙ c .before .before .before .before .before .before .before .enum-told .given .1)
-    (c .before .before .before .before .run-cleared .ensures) in
+    (c .before .before .before .before .run-fresh .ensures) in
     (x .0, (x .1, x .2))
 
 pub run-spec : {M : Type 1} → statement M
@@ -91,11 +92,11 @@ run-spec =
     (λ c. search needs)
     mul-size
     add-size
-    slice-relend-prefix-run-cleared
-    slice-aggregate-run-cleared
-    slice-relend-prefix-run-cleared-2
-    slice-aggregate-run-cleared-2
-    run-cleared-requires
+    slice-relend-prefix-run-fresh
+    slice-aggregate-run-fresh
+    slice-relend-prefix-run-fresh-2
+    slice-aggregate-run-fresh-2
+    run-fresh-requires
     same-length
     same-length-2
     returns-2)

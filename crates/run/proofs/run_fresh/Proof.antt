@@ -1,4 +1,4 @@
--- `run_fresh` meets its contract: the first pass, and those after it if it changed something.
+-- `run_fresh` meets its contract: the first pass from zeros all over, and those after it if it changed something.
 use Prim.Native.Nat.{ℕ}
 use mathlib.Core.Path.{_≡_}
 use native.Mathlib.Omega.{arith}
@@ -6,44 +6,47 @@ use borrow.Author.Needs.{needs}
 use borrow.Author.Tests.{not-true, not-false}
 use denote.Ref.{now}
 use lib.ListN.{length, replicate, length-replicate}
-use Rattle.run.proofs.Turns.{going-none, going-more, going-done, passed-long, passed-told}
-use Rattle.run.specs.Run.{calls}
-use Rattle.rules.proofs.WorkWays.{table-rests}
+use Rattle.passes.proofs.Lawful.{lawful}
+use Rattle.passes.proofs.Turns.{passed-long, passed-told}
+use Rattle.passes.specs.Calls.{calls}
+use Rattle.run.proofs.Going.{going-none, going-more, going-done}
 use Rattle.run.proofs.run_fresh.Statement.{statement}
 use Rattle.run.proofs.run_fresh.Tie as tie
 
 pass-over-requires : tie.Need-pass-over-requires
 pass-over-requires c κs =
-    let a = c .before .before .before .before .before .before .args in
-    let p = c .before .before .before .before .before .before .pre in
-    (p .0, going-none (table-rests (p .0)) (a .faulty) (calls (now (a .list))) (p .1) .sound, p .2)
+    let d = c .before .before .before .before in
+    let s = d .before .before .before .before .before .before in
+    let p = s .pre in
+    (p .0, (going-none (lawful (p .0) (s .args .faulty)) (calls (now (s .args .list))) (now (s .args .state)) (p .1 .0) (d .clear .ensures) .sound, p .1 .1 .0))
 
 returns : tie.Need-returns
 returns c =
-    let a = c .before .before .before .before .before .before .before .before .before .before .before .before .args in
-    let p = c .before .before .before .before .before .before .before .before .before .before .before .before .pre in
-    let R = table-rests (p .0) in
-    let l = calls (now (a .list)) in
-    going-done R (a .faulty) l 0 (going-none R (a .faulty) l (p .1)) (c .before .before .before .before .before .pass-over .ensures) (not-true _ (c .if1 .taken))
+    let d = c .before .before .before .before .before .before .before .before .before .before in
+    let s = d .before .before .before .before .before .before in
+    let law = lawful (s .pre .0) (s .args .faulty) in
+    let l = calls (now (s .args .list)) in
+    going-done law l 0 (going-none law l (now (s .args .state)) (s .pre .1 .0) (d .clear .ensures)) (c .before .before .before .before .before .pass-over .ensures) (not-true _ (c .if1 .taken))
 
 run-on-requires : tie.Need-run-on-requires
 run-on-requires c κs =
-    let a = c .before .before .before .before .before .before .before .before .before .before .before .before .before .before .before .args in
-    let p = c .before .before .before .before .before .before .before .before .before .before .before .before .before .before .before .pre in
-    let R = table-rests (p .0) in
-    let l = calls (now (a .list)) in
-    let G = going-none R (a .faulty) l (p .1) in
+    let d = c .before .before .before .before .before .before .before .before .before .before .before .before .before in
+    let s = d .before .before .before .before .before .before in
+    let p = s .pre in
+    let list = now (s .args .list) in
+    let law = lawful (p .0) (s .args .faulty) in
+    let G = going-none law (calls list) (now (s .args .state)) (p .1 .0) (d .clear .ensures) in
     let Z = c .before .before .before .before .before .before .before .before .pass-over .ensures in
-    let k = length (now (a .answers)) in
-    let e = passed-long R (a .faulty) (now (a .list)) k (p .2) Z in
+    let k = length (now (s .args .answers)) in
+    let e = passed-long law list k (p .1 .1 .0) Z in
     let many : length {A = ℕ} (replicate 4096 0) ≡ 4096 = length-replicate {A = ℕ} 4096 0 in (
       p .0,
       record {
-        fits = omega (arith, p .2, e);
-        short = omega (arith, p .3, e);
-        going = going-more R (a .faulty) l 0 G Z (not-false _ (c .before .before .before .if1 .left));
-        told = passed-told R (a .faulty) (now (a .list)) k (p .2) (G .sound) Z;
-        room = omega (arith, p .3, e, many);
+        fits = omega (arith, p .1 .1 .0, e);
+        short = omega (arith, p .1 .1 .1, e);
+        going = going-more law (calls list) 0 G Z (not-false _ (c .before .before .before .if1 .left));
+        told = passed-told law list k (p .1 .1 .0) (G .sound) Z;
+        room = omega (arith, p .1 .1 .1, e, many);
       },
     )
 
@@ -51,6 +54,7 @@ pub run-fresh-spec : {M : Type 1} → statement M
 run-fresh-spec =
     tie.close
     (tie.spec
+    (λ c κs. search needs)
     pass-over-requires
     (λ c. search needs)
     (λ c. search needs)

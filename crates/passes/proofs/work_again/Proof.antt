@@ -1,14 +1,14 @@
 -- `work_again` meets its contract: the byte of a call that waits still is 15 already.
 use borrow.Author.Needs.{needs}
 use denote.Ref.{now}
-use Rattle.run.proofs.Rounds.{again-waits, again-settled}
-use Rattle.run.proofs.work_again.Statement.{statement}
-use Rattle.run.proofs.work_again.Tie as tie
+use Rattle.passes.proofs.Rounds.{again-waits, again-settled}
+use Rattle.passes.proofs.work_again.Statement.{statement}
+use Rattle.passes.proofs.work_again.Tie as tie
 
 returns : tie.Need-returns
 returns c =
     let s = c .before .before .before .before .before .before .before .before .before .before in
-    again-waits (c .before .before .before .before .work-at .ensures) (s .args .i) (now (s .args .answers)) (c .before .code .ensures) (c .if1 .taken) (s .pre .4)
+    again-waits (c .before .before .before .before .work-at .ensures) (s .args .i) (now (s .args .answers)) (c .before .code .ensures) (c .if1 .taken) (s .pre .1 .1 .1 .1)
 
 returns-2 : tie.Need-returns-2
 returns-2 c =
