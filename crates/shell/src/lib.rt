@@ -21,7 +21,7 @@ pub fn verdict(fd: i32) {
     let mut input = [0u8; 32777];
     let n = io::read_full(fd, &mut input);
     let mut room = [0u8; 196608];
-    let k = report::verdict_on(&input[..n], &mut room);
+    let k = verdict_text::verdict_on(&input[..n], &mut room);
     answer(&room[..k]);
 }
 
@@ -99,7 +99,7 @@ fn check(k: usize) {
         return;
     }
     let mut room = [0u8; 196608];
-    let end = report::check(&image[..n], &mut room);
+    let end = check_text::check(&image[..n], &mut room);
     answer(&room[..end]);
 }
 
@@ -115,7 +115,7 @@ fn verdict_of(table: usize, sites: usize) {
         return;
     };
     let mut room = [0u8; 196608];
-    let end = report::verdict(faulty, &image[..n], &mut room);
+    let end = verdict_text::verdict(faulty, &image[..n], &mut room);
     answer(&room[..end]);
 }
 
@@ -136,7 +136,7 @@ fn run_of(table: usize, sites: usize, calls: usize) {
         return;
     }
     let mut room = [0u8; 196608];
-    let end = report::run(faulty, &image[..n], &list[..m], &mut room);
+    let end = run_text::run(faulty, &image[..n], &list[..m], &mut room);
     answer(&room[..end]);
 }
 
