@@ -10,8 +10,8 @@ use borrow.Author.Tests.{eqb-true, eq-eqb, ne-eqb, not-false}
 use Rattle.block.specs.Block.{sealed}
 use Rattle.ground.proofs.Logic.{fail-alike, or-none}
 use Rattle.ground.proofs.Some.{none-each, each-none}
-use Rattle.image.specs.Image.{siteField, sitesField, countField, zeroField, sliceField, misheaded, unfilled, blockCheck, load}
-use Rattle.image.proofs.Load.{load-slice}
+use Rattle.site_block.specs.Block.{siteField, sitesField, countField, zeroField, sliceField, misheaded, unfilled, blockCheck, load}
+use Rattle.site_block.proofs.Load.{load-slice}
 use Rattle.le.proofs.Laws.{field-zeros, zeros-field}
 use Rattle.refusals.proofs.First.{missed, passed}
 use Rattle.refusals.specs.declared.Check.the-variants.{Sound, Refused}

@@ -6,9 +6,9 @@ use native.Mathlib.Omega.{arith}
 use lib.ListN.{length, drop, set, length-set}
 use borrow.Author.Needs.{needs}
 use denote.Ref.{now}
-use Rattle.image.proofs.Load.{loadTo, load-holds, load-again, load-done}
-use Rattle.image.proofs.load_block.Statement.{statement}
-use Rattle.image.proofs.load_block.Tie as tie
+use Rattle.site_block.proofs.Load.{loadTo, load-holds, load-again, load-done}
+use Rattle.site_block.proofs.load_block.Statement.{statement}
+use Rattle.site_block.proofs.load_block.Tie as tie
 
 abbrev Inv-loop : tie.InvT-loop
 Inv-loop b m₀ k₀ m k = (k ≤ 62) × (length m₀ ≡ 63) × (length m ≡ 63) × (m ≡ loadTo b k ++ drop (1 + k) m₀)

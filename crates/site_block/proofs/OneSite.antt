@@ -10,11 +10,10 @@ use Rattle.block.proofs.Laws.{checkS-front, checkT-front, checkS-lt, checkT-lt,
 use Rattle.block.specs.Block.{checkS, checkT, sealed}
 use Rattle.ground.proofs.Pieces.{length-cat, cat-ext, cat-split, cat-parts, cat-elements}
 use Rattle.ground.specs.Pieces.{cat, part}
-use Rattle.image.specs.Image.{siteField, sitesField, countField, zeroField, sliceField, blockCheck, load, head, places, seal, body, store}
-use Rattle.image.specs.RoundTrip.{Words}
-use Rattle.image.proofs.Block.{right-head}
-use Rattle.image.proofs.Load.{load-count, load-slice}
-use Rattle.image.proofs.Store.{length-body}
+use Rattle.site_block.specs.Block.{siteField, sitesField, countField, zeroField, sliceField, blockCheck, load, head, places, seal, body, store}
+use Rattle.site_block.proofs.Block.{right-head}
+use Rattle.site_block.proofs.Load.{load-count, load-slice}
+use Rattle.site_block.proofs.Store.{length-body}
 use Rattle.le.proofs.Laws.{Bytes, number-digits, digits-field, field-front, field-at}
 use Rattle.le.specs.Le.{digits, field}
 use Rattle.table.specs.Table.{count, slice, siteCheck}
@@ -85,7 +84,7 @@ all-places (x ∷ m) h =
     ∙ take-all 62 m (omega arith))
 
 -- what was written is read
-module _ (n i : ℕ) (m : List ℕ) (l : length m ≡ 63) (w : Words m) (h : count m < 65536) where
+module _ (n i : ℕ) (m : List ℕ) (l : length m ≡ 63) (w : (k : ℕ) → getD m k 0 < 2 ^ 64) (h : count m < 65536) where
   pub load-store : load (store n i m) ≡ m
   unfolding load
   load-store =

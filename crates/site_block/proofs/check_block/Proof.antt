@@ -5,10 +5,10 @@ use Rattle.table.specs.Table.{siteCheck}
 use borrow.Author.Needs.{needs}
 use denote.Ref.{now}
 use Rattle.block.proofs.Laws.{says-sealed, says-unsealed}
-use Rattle.image.proofs.Block.{wrong-sums, wrong-site, wrong-n, wrong-zero, right-head}
-use Rattle.image.proofs.check_block.Statement.{statement}
+use Rattle.site_block.proofs.Block.{wrong-sums, wrong-site, wrong-n, wrong-zero, right-head}
+use Rattle.site_block.proofs.check_block.Statement.{statement}
 use mathlib.Core.List.{List}
-use Rattle.image.proofs.check_block.Tie as tie
+use Rattle.site_block.proofs.check_block.Tie as tie
 
 returns : tie.Need-returns
 returns c =
