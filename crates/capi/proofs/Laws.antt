@@ -1,16 +1,13 @@
--- The laws of what a call says: equal answers say the same, and so does the run.
+-- A run whose answer is said, is said.
 use Prim.Native.Nat.{ℕ}
 use mathlib.Core.List.{List}
 use mathlib.Core.Path.{_≡_, ap, _∙_}
 use lib.ListN.{length}
-use Rattle.capi.specs.Said.{Said, ofRan, runSays, runState, runAnswers}
+use Rattle.capi.specs.Run.{runSays, runState, runAnswers}
 use Rattle.run.specs.Run.{ran, stateInto, answersInto}
 use Rattle.run.specs.declared.Ran.{Ran}
-
--- what is said of an answer is said of an equal one
-pub said : {A : Type 0} (of : A → Said) {x y : A} {number : ℕ} {out : List ℕ} → x ≡ y →
-    (number ≡ of x .number) × (out ≡ of x .out) → (number ≡ of y .number) × (out ≡ of y .out)
-said of e p = (p .0 ∙ ap (λ z. of z .number) e, p .1 ∙ ap (λ z. of z .out) e)
+use Rattle.said.proofs.Laws.{said}
+use Rattle.said.specs.Said.{ofRan}
 
 -- a run that answers as the rules say, and whose answer is said
 pub run-said : (t : List ℕ) (F : ℕ) (list state answers : List ℕ) {r : Ran} {number : ℕ} {out state′ answers′ : List ℕ} →

@@ -1,17 +1,16 @@
 // Every public call of the library for C and Rust, but for the two of the firmware. The header is include/siren.h.
 ghost use mathlib.Core.Path.{_≡_};
 ghost use lib.ListN.{length};
-ghost use Rattle.capi.specs.Said.{ofCheck, ofReading, ofWriting, ofHolds, ofGreatest, ofSharing, ofStanding, ofStepped, runSays, runState, runAnswers};
+ghost use Rattle.capi.specs.Run.{runSays, runState, runAnswers};
 ghost use Rattle.image.specs.Read.{read, readInto};
 ghost use Rattle.image.specs.Write.{write, writeInto};
 ghost use Rattle.questions.specs.Answers.{quorum, largest, blocks, shared, intact};
 ghost use Rattle.records.specs.Pack.{bytesOf};
+ghost use Rattle.said.specs.Said.{ofCheck, ofReading, ofWriting, ofHolds, ofGreatest, ofSharing, ofStanding, ofStepped};
 ghost use Rattle.table.specs.Table.{check};
 ghost use Rattle.voting.specs.Step.{soundCheck, stepCheck, stepInto, toStepped};
 ghost use Rattle.votes.specs.Call.{call};
 use records::Call;
-
-mod say;
 
 // The check of a table in memory.
 #[no_mangle]
@@ -19,7 +18,7 @@ pub extern "C" fn siren_table_check(table: &[u64], out: &mut [u64; 4]) -> u64
     ensures answer { λ r. ⌜ r ≡ ofCheck (check (now (table .entry))) .number ⌝ }
     ensures told { λ r. ⌜ now (out .exit) ≡ ofCheck (check (now (table .entry))) .out ⌝ }
 {
-    say::check(table::check(table), out)
+    said::check(table::check(table), out)
 }
 
 // An image read into the room: the first 63 n numbers.
@@ -29,7 +28,7 @@ pub extern "C" fn siren_image_read(image: &[u8], room: &mut [u64], out: &mut [u6
     ensures told { λ r. ⌜ now (out .exit) ≡ ofReading (read (now (image .entry)) (length (now (room .entry)))) .out ⌝ }
     ensures memory { λ r. ⌜ now (room .exit) ≡ readInto (read (now (image .entry)) (length (now (room .entry)))) (now (image .entry)) (now (room .entry)) ⌝ }
 {
-    say::reading(image::read(image, room), out)
+    said::reading(image::read(image, room), out)
 }
 
 // A table written into the room as an image: the first 512 n bytes.
@@ -39,7 +38,7 @@ pub extern "C" fn siren_image_write(table: &[u64], room: &mut [u8], out: &mut [u
     ensures told { λ r. ⌜ now (out .exit) ≡ ofWriting (write (now (table .entry)) (length (now (room .entry)))) .out ⌝ }
     ensures memory { λ r. ⌜ now (room .exit) ≡ writeInto (write (now (table .entry)) (length (now (room .entry)))) (now (table .entry)) (now (room .entry)) ⌝ }
 {
-    say::writing(image::write(table, room), out)
+    said::writing(image::write(table, room), out)
 }
 
 // Is the set a quorum?
@@ -48,7 +47,7 @@ pub extern "C" fn siren_quorum(table: &[u64], set: u64, out: &mut [u64; 4]) -> u
     ensures answer { λ r. ⌜ r ≡ ofHolds (quorum (now (table .entry)) set) .number ⌝ }
     ensures told { λ r. ⌜ now (out .exit) ≡ ofHolds (quorum (now (table .entry)) set) .out ⌝ }
 {
-    say::holds(questions::quorum(table, set), out)
+    said::holds(questions::quorum(table, set), out)
 }
 
 // The largest quorum inside the set, and its rounds.
@@ -57,7 +56,7 @@ pub extern "C" fn siren_largest(table: &[u64], set: u64, out: &mut [u64; 4]) -> 
     ensures answer { λ r. ⌜ r ≡ ofGreatest (largest (now (table .entry)) set) .number ⌝ }
     ensures told { λ r. ⌜ now (out .exit) ≡ ofGreatest (largest (now (table .entry)) set) .out ⌝ }
 {
-    say::greatest(questions::largest(table, set), out)
+    said::greatest(questions::largest(table, set), out)
 }
 
 // Does the set block the site?
@@ -66,7 +65,7 @@ pub extern "C" fn siren_blocks(table: &[u64], set: u64, site: u64, out: &mut [u6
     ensures answer { λ r. ⌜ r ≡ ofHolds (blocks (now (table .entry)) set site) .number ⌝ }
     ensures told { λ r. ⌜ now (out .exit) ≡ ofHolds (blocks (now (table .entry)) set site) .out ⌝ }
 {
-    say::holds(questions::blocks(table, set, site), out)
+    said::holds(questions::blocks(table, set, site), out)
 }
 
 // Do every two quorums have a common site?
@@ -75,7 +74,7 @@ pub extern "C" fn siren_shared(table: &[u64], out: &mut [u64; 4]) -> u64
     ensures answer { λ r. ⌜ r ≡ ofSharing (shared (now (table .entry))) .number ⌝ }
     ensures told { λ r. ⌜ now (out .exit) ≡ ofSharing (shared (now (table .entry))) .out ⌝ }
 {
-    say::sharing(questions::shared(table), out)
+    said::sharing(questions::shared(table), out)
 }
 
 // Which sites are intact when those of the set are faulty?
@@ -84,7 +83,7 @@ pub extern "C" fn siren_intact(table: &[u64], faulty: u64, out: &mut [u64; 4]) -
     ensures answer { λ r. ⌜ r ≡ ofStanding (intact (now (table .entry)) faulty) .number ⌝ }
     ensures told { λ r. ⌜ now (out .exit) ≡ ofStanding (intact (now (table .entry)) faulty) .out ⌝ }
 {
-    say::standing(questions::intact(table, faulty), out)
+    said::standing(questions::intact(table, faulty), out)
 }
 
 // Is the state sound?
@@ -93,7 +92,7 @@ pub extern "C" fn siren_sound(table: &[u64], faulty: u64, state: &[u64], out: &m
     ensures answer { λ r. ⌜ r ≡ ofCheck (soundCheck (now (table .entry)) faulty (now (state .entry))) .number ⌝ }
     ensures told { λ r. ⌜ now (out .exit) ≡ ofCheck (soundCheck (now (table .entry)) faulty (now (state .entry))) .out ⌝ }
 {
-    say::check(voting::sound(table, faulty, state), out)
+    said::check(voting::sound(table, faulty, state), out)
 }
 
 // One call on a state.
@@ -112,7 +111,7 @@ pub extern "C" fn siren_step(
     ensures told { λ r. ⌜ now (out .exit) ≡ ofStepped (toStepped (stepCheck (now (table .entry)) faulty (call kind from to side) (now (state .entry)))) .out ⌝ }
     ensures memory { λ r. ⌜ now (state .exit) ≡ stepInto (now (table .entry)) faulty (call kind from to side) (now (state .entry)) ⌝ }
 {
-    say::stepped(
+    said::stepped(
         voting::step(table, faulty, state, kind, from, to, side),
         out,
     )
@@ -133,7 +132,7 @@ pub extern "C" fn siren_run(
     ensures states { λ r. ⌜ now (state .exit) ≡ runState (now (table .entry)) faulty (now (calls .entry)) (now (state .entry)) (now (answers .entry)) ⌝ }
     ensures bytes { λ r. ⌜ now (answers .exit) ≡ runAnswers (now (table .entry)) faulty (now (calls .entry)) (now (state .entry)) (now (answers .entry)) ⌝ }
 {
-    say::ran(run::run(table, faulty, calls, state, answers), out)
+    said::ran(run::run(table, faulty, calls, state, answers), out)
 }
 
 // The same run of a list of call records.
@@ -151,7 +150,7 @@ pub extern "C" fn siren_run_records(
     ensures states { λ r. ⌜ now (state .exit) ≡ runState (now (table .entry)) faulty (bytesOf (now (calls .entry))) (now (state .entry)) (now (answers .entry)) ⌝ }
     ensures bytes { λ r. ⌜ now (answers .exit) ≡ runAnswers (now (table .entry)) faulty (bytesOf (now (calls .entry))) (now (state .entry)) (now (answers .entry)) ⌝ }
 {
-    say::ran(
+    said::ran(
         records::run_records(table, faulty, calls, state, answers),
         out,
     )

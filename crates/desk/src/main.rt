@@ -4,5 +4,5 @@ fn main() {
     if n == 0 {
         return;
     }
-    shell::command(1, n - 1);
+    commands::command(1, n - 1);
 }

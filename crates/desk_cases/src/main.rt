@@ -21,7 +21,7 @@ fn case(from: usize, to: usize) {
     }
     io::write_all(STDOUT_FILENO, b"\n");
     if from <= to {
-        shell::command(from, to - from);
+        commands::command(from, to - from);
     }
 }
 

@@ -8,19 +8,20 @@ use lib.ListN.{length, drop}
 use lib.Seq.{take-all}
 use Rattle.ground.proofs.Pieces.{length-part, cat-ext, cat-parts, part-le}
 use Rattle.ground.specs.Pieces.{part}
-use Rattle.image.specs.Image.{blockCheck, blocksCheck, load, loads, store, stores}
+use Rattle.image.specs.Image.{blocksCheck, loads, stores}
 use Rattle.image.specs.Read.{read, readInto}
 use Rattle.image.specs.RoundTrip.{Words, ReadThenWrite, WriteThenRead}
 use Rattle.image.specs.Write.{write, writeInto}
-use Rattle.image.proofs.Block.{block-sound}
 use Rattle.image.proofs.Load.{length-loads, loads-front, loads-site}
-use Rattle.image.proofs.OneSite.{load-store, store-check, store-load}
 use Rattle.image.proofs.ReadLaws.{blocks-shape, read-taken, loads-sound, read-all}
 use Rattle.image.proofs.Store.{stores-block, length-stores, stores-front}
 use Rattle.image.proofs.WriteLaws.{write-taken, write-all}
 use Rattle.le.proofs.Laws.{Bytes, bytes-part}
 use Rattle.refusals.proofs.First.{first-all, first-sound}
 use Rattle.refusals.specs.declared.Check.the-variants.{Sound}
+use Rattle.site_block.proofs.Block.{block-sound}
+use Rattle.site_block.proofs.OneSite.{load-store, store-check, store-load}
+use Rattle.site_block.specs.Block.{blockCheck, load, store}
 use Rattle.table.proofs.Exact.{checked-sites}
 use Rattle.table.proofs.Table.{shape}
 use Rattle.table.specs.Table.{siteOf, countOf, siteCheck, sitesCheck}

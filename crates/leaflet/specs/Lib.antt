@@ -1,1 +1,2 @@
 pub mod Leaflet
+pub mod Inner

@@ -2,9 +2,9 @@
 use borrow.Author.Needs.{needs}
 use mathlib.Core.Path.{ap, _∙_}
 use denote.Ref.{now}
-use Rattle.capi.specs.Said.{ofReading}
+use Rattle.said.specs.Said.{ofReading}
 use Rattle.image.specs.Read.{readInto}
-use Rattle.capi.proofs.Laws.{said}
+use Rattle.said.proofs.Laws.{said}
 use Rattle.capi.proofs.siren_image_read.Statement.{statement}
 use Rattle.capi.proofs.siren_image_read.Tie as tie
 

@@ -2,9 +2,9 @@
 use borrow.Author.Needs.{needs}
 use mathlib.Core.Path.{ap, _∙_}
 use denote.Ref.{now}
-use Rattle.capi.specs.Said.{ofWriting}
+use Rattle.said.specs.Said.{ofWriting}
 use Rattle.image.specs.Write.{writeInto}
-use Rattle.capi.proofs.Laws.{said}
+use Rattle.said.proofs.Laws.{said}
 use Rattle.capi.proofs.siren_image_write.Statement.{statement}
 use Rattle.capi.proofs.siren_image_write.Tie as tie
 

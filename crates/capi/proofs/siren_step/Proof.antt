@@ -2,8 +2,8 @@
 use borrow.Author.Needs.{needs}
 use mathlib.Core.Path.{ap, _∙_}
 use denote.Ref.{now}
-use Rattle.capi.specs.Said.{ofStepped}
-use Rattle.capi.proofs.Laws.{said}
+use Rattle.said.specs.Said.{ofStepped}
+use Rattle.said.proofs.Laws.{said}
 use Rattle.capi.proofs.siren_step.Statement.{statement}
 use Rattle.capi.proofs.siren_step.Tie as tie
 

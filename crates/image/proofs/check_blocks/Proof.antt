@@ -7,7 +7,8 @@ use borrow.Author.Needs.{needs}
 use denote.Ref.{now}
 use Rattle.ground.proofs.Pieces.{part-cut}
 use Rattle.ground.specs.Pieces.{part}
-use Rattle.image.specs.Image.{blockCheck, blocksCheck}
+use Rattle.image.specs.Image.{blocksCheck}
+use Rattle.site_block.specs.Block.{blockCheck}
 use Rattle.image.proofs.check_blocks.Statement.{statement}
 use Rattle.refusals.proofs.First.{first-more, first-stop}
 use Rattle.refusals.specs.First.{first}

@@ -8,7 +8,8 @@ use borrow.Author.Needs.{needs}
 use borrow.Rule.Slice.PartMut.{same-len-mid}
 use denote.Ref.{now}
 use Rattle.ground.proofs.Pieces.{part-cut}
-use Rattle.image.specs.Image.{load, loads}
+use Rattle.image.specs.Image.{loads}
+use Rattle.site_block.specs.Block.{load}
 use Rattle.image.proofs.Load.{loads-zero, loads-again}
 use Rattle.image.proofs.load_blocks.Statement.{statement}
 use Rattle.image.proofs.load_blocks.Tie as tie

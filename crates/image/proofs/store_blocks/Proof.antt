@@ -8,7 +8,7 @@ use borrow.Author.Needs.{needs}
 use borrow.Rule.Slice.PartMut.{same-len-mid}
 use denote.Ref.{now}
 use Rattle.ground.proofs.Pieces.{part-cut}
-use Rattle.image.specs.Image.{store}
+use Rattle.site_block.specs.Block.{store}
 use Rattle.image.proofs.Store.{storesTo, stores-holds, stores-again, stores-done}
 use Rattle.image.proofs.store_blocks.Statement.{statement}
 use Rattle.table.proofs.Exact.{checked-sites}
@@ -29,12 +29,9 @@ store-block-requires c κs =
     let t = now (s .args .table) in
     let l = c .before .before .before .loop in
     let p = s .pre in
-    let sound = checked-sites t (s .args .n) (p .0) (omega arith) (p .1) (p .3) in (
+    let sound = checked-sites t (s .args .n) (p .0) (omega arith) (p .1 .0) (p .1 .1 .1) in (
       search needs,
-      search needs,
-      rw (part-cut 63 (l .i) t) (sound .few-slices (l .i) (c .before .before .loop-test .taken)),
-      omega arith,
-      omega arith,
+      (search needs, (rw (part-cut 63 (l .i) t) (sound .few-slices (l .i) (c .before .before .loop-test .taken)), (omega arith, omega arith))),
     )
 
 loop-again : tie.Need-loop-again Inv-loop μ-loop

@@ -50,7 +50,7 @@ returns-5 c =
 
 store-blocks-requires : tie.Need-store-blocks-requires
 store-blocks-requires c κs =
-    (search needs, search needs, search needs, sym (c .before .before .before .check-sites .ensures) ∙ c .before .enum-told .given .1)
+    (search needs, (search needs, (search needs, sym (c .before .before .before .check-sites .ensures) ∙ c .before .enum-told .given .1)))
 
 returns-6 : tie.Need-returns-6
 unfolding writeInto

@@ -1,110 +1,36 @@
--- `put_meaning` meets its contract: the words of each arm are those of the leaflet.
-use Prim.Native.Nat.{ℕ}
-use mathlib.Core.List.{List}
-use mathlib.Core.Path.{_≡_, sym, subst}
+-- `put_meaning` meets its contract: what the leaflet has under the refusal's number, which is 1 to 18.
+use native.Mathlib.Omega.{arith}
 use borrow.Author.Needs.{needs}
-use Rattle.leaflet.specs.Leaflet.{meaning}
-use Rattle.refusals.specs.declared.Refusal.{Refusal}
-use Rattle.text.specs.Text.{ascii}
-use Rattle.text.specs.Written.{Writes}
+use borrow.Author.Tests.{eqb-false}
+use Rattle.leaflet.proofs.Under.{told}
 use Rattle.leaflet.proofs.put_meaning.Statement.{statement}
 use Rattle.leaflet.proofs.put_meaning.Tie as tie
+use Rattle.refusals.proofs.Settle.{some-number, small-number}
+use Rattle.refusals.specs.Refusal.{number}
 
-told : {r s : Refusal} {before after : List ℕ} {at end : ℕ} → r ≡ s
-    → Writes (ascii (meaning s)) before at end after → Writes (ascii (meaning r)) before at end after
-told {before = before} {after = after} {at = at} {end = end} e w = subst (λ (x : Refusal). Writes (ascii (meaning x)) before at end after) (sym e) w
+put-of-file-requires : tie.Need-put-of-file-requires
+put-of-file-requires c κs =
+    let r = c .before .before .before .before .args .r in
+    (omega arith, (omega (arith, eqb-false (number r) 0 (some-number r)), omega arith))
+
+put-of-vote-requires : tie.Need-put-of-vote-requires
+put-of-vote-requires c κs =
+    (omega arith, (omega arith, omega (arith, small-number (c .before .before .before .before .before .before .args .r))))
 
 pub put-meaning-spec : {M : Type 1} → statement M
 put-meaning-spec =
     tie.close
     (tie.spec
+    (λ c κs. search needs)
+    put-of-file-requires
     (λ c. search needs)
-    (λ c. search needs)
+    (λ c. told (c .before .before .before .before .before .before .before .args .r) (c .before .before .before .before .before .number .ensures) (c .before .before .put-of-file .ensures))
     (λ c κs. search needs)
     (λ c. search needs)
-    (λ c. search needs)
+    (λ c. told (c .before .before .before .before .before .before .before .before .args .r) (c .before .before .before .before .before .before .number .ensures) (c .before .before .put-of-groups .ensures))
     (λ c κs. search needs)
     (λ c. search needs)
+    (λ c. told (c .before .before .before .before .before .before .before .before .before .args .r) (c .before .before .before .before .before .before .before .number .ensures) (c .before .before .put-of-call .ensures))
+    put-of-vote-requires
     (λ c. search needs)
-    (λ c κs. search needs)
-    (λ c. search needs)
-    (λ c. search needs)
-    (λ c κs. search needs)
-    (λ c. search needs)
-    (λ c. search needs)
-    (λ c κs. search needs)
-    (λ c. search needs)
-    (λ c. search needs)
-    (λ c κs. search needs)
-    (λ c. search needs)
-    (λ c. search needs)
-    (λ c κs. search needs)
-    (λ c. search needs)
-    (λ c. search needs)
-    (λ c κs. search needs)
-    (λ c. search needs)
-    (λ c. search needs)
-    (λ c κs. search needs)
-    (λ c. search needs)
-    (λ c. search needs)
-    (λ c κs. search needs)
-    (λ c. search needs)
-    (λ c. search needs)
-    (λ c κs. search needs)
-    (λ c. search needs)
-    (λ c. search needs)
-    (λ c κs. search needs)
-    (λ c. search needs)
-    (λ c. search needs)
-    (λ c κs. search needs)
-    (λ c. search needs)
-    (λ c. search needs)
-    (λ c κs. search needs)
-    (λ c. search needs)
-    (λ c. search needs)
-    (λ c κs. search needs)
-    (λ c. search needs)
-    (λ c. search needs)
-    (λ c κs. search needs)
-    (λ c. search needs)
-    (λ c. search needs)
-    (λ c κs. search needs)
-    (λ c. search needs)
-    (λ c. search needs)
-    (λ c κs. search needs)
-    (λ c. search needs)
-    (λ c. told (c .before .before .before .before .before .enum-told .given .1) (c .before .before .put .ensures))
-    (λ c. search needs)
-    (λ c. told (c .before .before .before .before .before .enum-told2 .given .1) (c .before .before .put2 .ensures))
-    (λ c. search needs)
-    (λ c. told (c .before .before .before .before .before .enum-told3 .given .1) (c .before .before .put3 .ensures))
-    (λ c. search needs)
-    (λ c. told (c .before .before .before .before .before .enum-told4 .given .1) (c .before .before .put4 .ensures))
-    (λ c. search needs)
-    (λ c. told (c .before .before .before .before .before .enum-told5 .given .1) (c .before .before .put5 .ensures))
-    (λ c. search needs)
-    (λ c. told (c .before .before .before .before .before .enum-told6 .given .1) (c .before .before .put6 .ensures))
-    (λ c. search needs)
-    (λ c. told (c .before .before .before .before .before .enum-told7 .given .1) (c .before .before .put7 .ensures))
-    (λ c. search needs)
-    (λ c. told (c .before .before .before .before .before .enum-told8 .given .1) (c .before .before .put8 .ensures))
-    (λ c. search needs)
-    (λ c. told (c .before .before .before .before .before .enum-told9 .given .1) (c .before .before .put9 .ensures))
-    (λ c. search needs)
-    (λ c. told (c .before .before .before .before .before .enum-told10 .given .1) (c .before .before .put10 .ensures))
-    (λ c. search needs)
-    (λ c. told (c .before .before .before .before .before .enum-told11 .given .1) (c .before .before .put11 .ensures))
-    (λ c. search needs)
-    (λ c. told (c .before .before .before .before .before .enum-told12 .given .1) (c .before .before .put12 .ensures))
-    (λ c. search needs)
-    (λ c. told (c .before .before .before .before .before .enum-told13 .given .1) (c .before .before .put13 .ensures))
-    (λ c. search needs)
-    (λ c. told (c .before .before .before .before .before .enum-told14 .given .1) (c .before .before .put14 .ensures))
-    (λ c. search needs)
-    (λ c. told (c .before .before .before .before .before .enum-told15 .given .1) (c .before .before .put15 .ensures))
-    (λ c. search needs)
-    (λ c. told (c .before .before .before .before .before .enum-told16 .given .1) (c .before .before .put16 .ensures))
-    (λ c. search needs)
-    (λ c. told (c .before .before .before .before .before .enum-told17 .given .1) (c .before .before .put17 .ensures))
-    (λ c. search needs)
-    (λ c. told (c .before .before .before .before .before .enum-told18 .given .1) (c .before .before .put18 .ensures)))
+    (λ c. told (c .before .before .before .before .before .before .before .before .before .args .r) (c .before .before .before .before .before .before .before .number .ensures) (c .before .before .put-of-vote .ensures)))

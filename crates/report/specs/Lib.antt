@@ -1,3 +1,0 @@
-pub mod Table
-pub mod Verdict
-pub mod Run

@@ -1,0 +1,75 @@
+-- The ways out of the report of a run: one law for each.
+use Prim.Native.Nat.{ℕ, _+_, _-_, _*_, _/_, _≤_}
+use mathlib.Core.List.{List, _++_}
+use mathlib.Core.Path.{_≡_, refl, sym, ap, _∙_}
+use native.Mathlib.Omega.{arith}
+use lib.ListN.{length, drop, take, length-append, length-drop}
+use lib.Seq.{take-at}
+use Rattle.image.proofs.Load.{loads-front}
+use Rattle.image.specs.Image.{loads}
+use Rattle.image.specs.Read.{read, readInto}
+use Rattle.image.specs.declared.Reading.{Reading}
+use Rattle.lines.specs.Lines.{explained}
+use Rattle.refusals.specs.declared.Check.{Check}
+use Rattle.refusals.specs.declared.Check.the-variants.{Sound, Refused}
+use Rattle.refusals.specs.declared.Refusal.{Refusal}
+use Rattle.register.specs.Register.{endLines}
+use Rattle.check_text.proofs.Ways.{image-sound, image-refused}
+use Rattle.run_text.specs.Run.{ranText, runText}
+use Rattle.run.proofs.RunWays.{Fits, fits}
+use Rattle.run.specs.Run.{runCheck, runOf, toRan, ran, stateInto, answersInto}
+use Rattle.run.specs.declared.Ran.{Ran}
+use Rattle.table.specs.Table.{sites}
+use Rattle.rules.specs.State.{size}
+
+ran-taken : (s : Check) (q p : ℕ) → Ran.Passes p ≡ toRan s q → (s ≡ Sound) × (p ≡ q)
+ran-taken Sound q p h = (refl, cc)
+ran-taken (Refused r) q p h = let z : _≡_ {A = ℕ} 0 1 = cc in absurd (omega arith)
+
+ran-stopped : (s : Check) (q : ℕ) (r : Refusal) → Ran.Refused r ≡ toRan s q → s ≡ Refused r
+ran-stopped Sound q r h = let z : _≡_ {A = ℕ} 0 1 = cc in absurd (omega arith)
+ran-stopped (Refused x) q r h = cc
+
+-- a result in front of a room that keeps its length is as long as what it replaces
+in-front : (result room left : List ℕ) (k : ℕ) → k ≤ length room → left ≡ result ++ drop k room → length left ≡ length room → take k left ≡ result
+in-front result room left k h e l =
+    let n : length result ≡ k = omega (arith, length-append result (drop k room), length-drop k room, ap length e) in
+    ap (take k) e ∙ take-at result (drop k room) k n
+
+-- on a table that is read
+module _ (t : List ℕ) (F : ℕ) (list : List ℕ) where
+  pub ran-refused : (r : Refusal) → Ran.Refused r ≡ ran t F list 262 4096 → explained r ≡ ranText F t list
+  unfolding ranText ran
+  ran-refused r h = rw (ran-stopped (runCheck t F (length list) 262 4096) (runOf t F list .passes) r h) refl
+
+  module _ (p : ℕ) (h : Ran.Passes p ≡ ran t F list 262 4096) where
+    whole : (runCheck t F (length list) 262 4096 ≡ Sound) × (p ≡ runOf t F list .passes)
+    unfolding ran
+    whole = ran-taken (runCheck t F (length list) 262 4096) (runOf t F list .passes) p h
+
+    pub fitting : Fits t (length list) 262 4096
+    fitting = fits t F (length list) 262 4096 (whole .0)
+
+    pub ran-ended : (n : ℕ) (states answers s a : List ℕ) → n ≡ sites (length t) → length states ≡ 262 → length answers ≡ 4096
+        → length s ≡ 262 → length a ≡ 4096
+        → s ≡ stateInto (Ran.Passes p) t F list states → a ≡ answersInto (Ran.Passes p) t F list answers
+        → endLines F n p (take (4 * n + 6) s) (take (length list / 4) a) ≡ ranText F t list
+    unfolding ranText stateInto answersInto
+    ran-ended n states answers s a en ls la ks ka es ea =
+        let f = fitting in
+        let x = in-front (runOf t F list .state) states s (size (sites (length t))) (omega (arith, f .states)) es (ks ∙ sym ls) in
+        let y = in-front (runOf t F list .answers) answers a (length list / 4) (omega (arith, f .many)) ea (ka ∙ sym la) in
+        rw (en, whole .0, whole .1, x, y) refl
+
+-- on an image
+module _ (F : ℕ) (image list : List ℕ) where
+  pub run-refused : (r : Refusal) → read image 4032 ≡ Reading.Refused r → explained r ≡ runText F image list
+  unfolding runText
+  run-refused r h = rw (image-refused image r h) refl
+
+  pub run-taken : (n : ℕ) (t room : List ℕ) → read image 4032 ≡ Reading.Sites n → t ≡ take (63 * n) (readInto (Reading.Sites n) image room)
+      → ranText F t list ≡ runText F image list
+  unfolding runText readInto
+  run-taken n t room h e =
+      let s = image-sound image n h in
+      ap (λ (x : List ℕ). ranText F x list) (e ∙ loads-front n image (drop (63 * n) room) ∙ ap (λ (k : ℕ). loads k image) (sym (s .1))) ∙ rw (s .0) refl

@@ -1,0 +1,78 @@
+-- `run_read` meets its contract: the refusal, or the lines of the run that stands in front of the two rooms.
+use Prim.Native.Nat.{_+_, _*_, _/_}
+use mathlib.Core.Path.{_≡_, refl, sym, ap, _∙_}
+use native.Mathlib.Omega.{arith}
+use lib.ListN.{length}
+use lib.Seq.{length-take-le}
+use borrow.Author.Needs.{needs}
+use denote.Ref.{now}
+use Rattle.lines.proofs.Chain.{as-text}
+use Rattle.run_text.proofs.Ended.{ran-refused, fitting, ran-ended}
+use Rattle.run.specs.Run.{stateInto, answersInto}
+use Rattle.table.specs.Table.{sites}
+use Rattle.run_text.proofs.run_read.Statement.{statement}
+use Rattle.run_text.proofs.run_read.Tie as tie
+
+array-share-prefix-state : tie.Need-array-share-prefix-state
+array-share-prefix-state c = search needs
+
+slice-aggregate-put-run : tie.Need-slice-aggregate-put-run
+slice-aggregate-put-run c = sym (length-take-le _ _ (array-share-prefix-state (c .before)))
+
+array-share-prefix-answers : tie.Need-array-share-prefix-answers
+array-share-prefix-answers c =
+    let a = c .before .before .before .before .before .before .before .before .before .before .before .before .before .args in
+    omega (arith, fitting (now (a .table)) (a .faulty) (now (a .list)) _ (sym (c .before .before .before .ran2 .given .1) ∙ c .before .before .before .before .before .before .before .run .ensures .0) .many, c .before .before .before .before .before .before .before .run .kept .1 .1 .1 .1 .0)
+
+slice-aggregate-put-run-2 : tie.Need-slice-aggregate-put-run-2
+slice-aggregate-put-run-2 c = sym (length-take-le _ _ (array-share-prefix-answers (c .before)))
+
+put-run-requires : tie.Need-put-run-requires
+put-run-requires c κs =
+    let s = c .before .before .before .before .before .before .before .before .before .before .before .before .before .before in
+    let a = s .args in (
+      search needs,
+      length-take-le _ _ (array-share-prefix-state (c .before .before)),
+      s .pre .1 .1,
+      omega (arith, length-take-le (length (now (a .list)) / 4) (c .before .before .before .before .before .before .before .before .run .last .1 .1 .1 .1 .0) (array-share-prefix-answers (c .before)), fitting (now (a .table)) (a .faulty) (now (a .list)) _ (sym (c .before .before .before .before .ran2 .given .1) ∙ c .before .before .before .before .before .before .before .before .run .ensures .0) .few),
+    )
+
+returns : tie.Need-returns
+returns c =
+    let a = c .before .before .before .before .before .before .before .before .before .before .before .before .before .before .before .args in
+    as-text (ran-refused (now (a .table)) (a .faulty) (now (a .list)) _ (sym (c .before .before .before .before .before .ran .given .1) ∙ c .before .before .before .before .before .before .before .before .before .run .ensures .0))
+    (c .before .before .put-explained .ensures)
+
+returns-2 : tie.Need-returns-2
+returns-2 c =
+    let a = c .before .before .before .before .before .before .before .before .before .before .before .before .before .before .before .before .before .args in
+    let r = c .before .before .before .before .before .before .before .before .before .before .before .run in
+    let g = c .before .before .before .before .before .before .before .ran2 .given .1 in
+    let n : a .n ≡ sites (length (now (a .table))) = omega arith in
+    as-text
+    (ran-ended (now (a .table)) (a .faulty) (now (a .list)) _ (sym g ∙ r .ensures .0) (a .n) _ _ _ _ n refl refl (r .kept .1 .1 .1 .0) (r .kept .1 .1 .1 .1 .0)
+    (r .ensures .1 .0 ∙ ap (λ x. stateInto x (now (a .table)) (a .faulty) (now (a .list)) _) g)
+    (r .ensures .1 .1 ∙ ap (λ x. answersInto x (now (a .table)) (a .faulty) (now (a .list)) _) g))
+    (c .before .before .put-run .ensures)
+
+pub run-read-spec : {M : Type 1} → statement M
+run-read-spec =
+    tie.close
+    (tie.spec
+    (λ c. search needs)
+    (λ c. search needs)
+    (λ c κs. search needs)
+    (λ c. search needs)
+    (λ c κs. search needs)
+    (λ c. search needs)
+    (λ c. search needs)
+    (λ c. search needs)
+    array-share-prefix-state
+    slice-aggregate-put-run
+    array-share-prefix-answers
+    slice-aggregate-put-run-2
+    put-run-requires
+    (λ c. search needs)
+    returns
+    (λ c. search needs)
+    returns-2)

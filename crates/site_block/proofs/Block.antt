@@ -1,0 +1,96 @@
+-- Laws of one block's check: a way out each, and that a block is refused for its slices and filler as its 63 numbers are.
+use Prim.Native.Nat.{ℕ, _+_, _-_, _*_, _/_, _%_, _≤_, _<_}
+use mathlib.Core.Bool.{true, false, _||_, not, or-true}
+use mathlib.Core.List.{List}
+use mathlib.Core.Path.{_≡_, refl, sym, ap, _∙_}
+use native.Mathlib.Omega.{arith}
+use lib.Dec.{eqb}
+use lib.ListN.{getD}
+use borrow.Author.Tests.{eqb-true, eq-eqb, ne-eqb, not-false}
+use Rattle.block.specs.Block.{sealed}
+use Rattle.ground.proofs.Logic.{fail-alike, or-none}
+use Rattle.ground.proofs.Some.{none-each, each-none}
+use Rattle.site_block.specs.Block.{siteField, sitesField, countField, zeroField, sliceField, misheaded, unfilled, blockCheck, load}
+use Rattle.site_block.proofs.Load.{load-slice}
+use Rattle.le.proofs.Laws.{field-zeros, zeros-field}
+use Rattle.refusals.proofs.First.{missed, passed}
+use Rattle.refusals.specs.declared.Check.the-variants.{Sound, Refused}
+use Rattle.refusals.specs.declared.Refusal.the-variants.{Sums, Header}
+use Rattle.table.proofs.Row.{row-alike}
+use Rattle.table.proofs.Table.{zero-above, clean-above}
+use Rattle.table.specs.Row.{rowCheck}
+use Rattle.table.specs.Table.{slice, unclean, siteCheck}
+
+-- filler: the bytes behind the last slice are 0 exactly if the unused places are
+module _ (b : List ℕ) (l : countField b ≤ 62) where
+  filled-places : unfilled b ≡ false → (k : ℕ) → countField b ≤ k → k < 62 → sliceField b k ≡ 0
+  unfolding unfilled
+  filled-places h k g s =
+      let from = 8 + 8 * countField b in
+      field-zeros 8 b (8 + 8 * k)
+      (λ j lj.
+      let z = none-each (504 - from) (λ j. not (eqb (getD b (from + j) 0) 0)) (8 + 8 * k + j - from) h (omega arith) in
+      let e : from + (8 + 8 * k + j - from) ≡ 8 + 8 * k + j = omega arith in
+      rw e at (eqb-true (getD b (from + (8 + 8 * k + j - from)) 0) 0 (not-false _ z)))
+
+  places-filled : ((k : ℕ) → countField b ≤ k → k < 62 → sliceField b k ≡ 0) → unfilled b ≡ false
+  unfolding unfilled
+  places-filled f =
+      let from = 8 + 8 * countField b in
+      each-none (504 - from) (λ j. not (eqb (getD b (from + j) 0) 0))
+      (λ j lj.
+      let k = countField b + j / 8 in
+      let e : 8 + 8 * k + j % 8 ≡ from + j = omega arith in
+      ap not (eq-eqb _ 0 (rw e at (zeros-field 8 b (8 + 8 * k) (f k (omega arith) (omega arith)) (j % 8) (omega arith)))))
+
+  same-filler : unfilled b ≡ unclean (load b)
+  unfolding load
+  same-filler =
+      fail-alike (unfilled b) (unclean (load b))
+      (λ h. clean-above (load b) (λ k g s. load-slice b k s ∙ filled-places h k g s))
+      (λ h. places-filled (λ k g s. sym (load-slice b k s) ∙ zero-above (load b) h k g s))
+
+-- what a block holds is refused as its 63 numbers are
+pub row-site : (n i : ℕ) (b : List ℕ) → rowCheck n i (countField b) (sliceField b) (unfilled b) ≡ siteCheck n i (load b)
+unfolding siteCheck load
+row-site n i b =
+    row-alike n i (countField b) (sliceField b) (slice (load b)) (unfilled b) (unclean (load b))
+    (λ k l. sym (load-slice b k l)) (λ l. same-filler b l)
+
+-- the ways out
+module _ (n i : ℕ) (b : List ℕ) where
+  pub wrong-sums : sealed b ≡ false → blockCheck n i b ≡ Refused (Sums i)
+  unfolding blockCheck
+  wrong-sums e = rw e refl
+
+  module _ (s : sealed b ≡ true) where
+    pub wrong-site : (siteField b ≡ i → ⊥) → blockCheck n i b ≡ Refused (Header i)
+    unfolding blockCheck misheaded
+    wrong-site ne = rw (s, ne-eqb (siteField b) i ne) refl
+
+    pub wrong-n : (sitesField b ≡ n → ⊥) → blockCheck n i b ≡ Refused (Header i)
+    unfolding blockCheck misheaded
+    wrong-n ne = rw (s, ne-eqb (sitesField b) n ne, or-true) refl
+
+    pub wrong-zero : (zeroField b ≡ 0 → ⊥) → blockCheck n i b ≡ Refused (Header i)
+    unfolding blockCheck misheaded
+    wrong-zero ne = rw (s, ne-eqb (zeroField b) 0 ne, or-true, or-true) refl
+
+    pub right-head : siteField b ≡ i → sitesField b ≡ n → zeroField b ≡ 0 → blockCheck n i b ≡ siteCheck n i (load b)
+    unfolding blockCheck misheaded
+    right-head p q z = rw (s, eq-eqb (siteField b) i p, eq-eqb (sitesField b) n q, eq-eqb (zeroField b) 0 z) (row-site n i b)
+
+  -- what a block that passes has
+  pub block-sound : blockCheck n i b ≡ Sound → (sealed b ≡ true) × (siteField b ≡ i) × (sitesField b ≡ n) × (zeroField b ≡ 0) × (siteCheck n i (load b) ≡ Sound)
+  unfolding blockCheck misheaded
+  block-sound h =
+      let p = passed (sealed b) (Sums i) _ h in
+      let q = missed (misheaded n i b) (Header i) (rowCheck n i (countField b) (sliceField b) (unfilled b)) (p .1) in
+      let u = or-none (not (eqb (siteField b) i)) (not (eqb (sitesField b) n) || not (eqb (zeroField b) 0)) (q .0) in
+      let w = or-none (not (eqb (sitesField b) n)) (not (eqb (zeroField b) 0)) (u .1) in (
+        p .0,
+        eqb-true (siteField b) i (not-false _ (u .0)),
+        eqb-true (sitesField b) n (not-false _ (w .0)),
+        eqb-true (zeroField b) 0 (not-false _ (w .1)),
+        sym (row-site n i b) ∙ q .1,
+      )

@@ -1,0 +1,5 @@
+pub mod Load
+pub mod Block
+pub mod Store
+pub mod OneSite
+pub mod Coincide

@@ -1,0 +1,71 @@
+-- One block of the table on file: "Blocks of 512 bytes, one a site, in site order; numbers little-endian."
+use Prim.Native.Nat.{ℕ, _+_, _-_, _*_}
+use mathlib.Core.Bool.{Bool, _||_, not}
+use mathlib.Core.List.{List, [], _∷_, _++_}
+use lib.Dec.{eqb}
+use lib.ListN.{getD}
+use Rattle.block.specs.Block.{checkS, checkT, sealed}
+use Rattle.ground.specs.Pieces.{cat}
+use Rattle.ground.specs.Search.{some}
+use Rattle.le.specs.Le.{digits, field}
+use Rattle.refusals.specs.First.{orElse, refuse}
+use Rattle.refusals.specs.declared.Check.{Check}
+use Rattle.refusals.specs.declared.Refusal.the-variants.{Sums, Header}
+use Rattle.table.specs.Row.{rowCheck}
+use Rattle.table.specs.Table.{count, slice}
+
+-- "Bytes 0 to 1 site, 2 to 3 n, 4 to 5 slice count, 6 to 7 zero, then the slices of 8 bytes, zeros up to byte 503."
+abbrev pub siteField : List ℕ → ℕ
+siteField b = field 2 b 0
+
+abbrev pub sitesField : List ℕ → ℕ
+sitesField b = field 2 b 2
+
+abbrev pub countField : List ℕ → ℕ
+countField b = field 2 b 4
+
+abbrev pub zeroField : List ℕ → ℕ
+zeroField b = field 2 b 6
+
+abbrev pub sliceField : List ℕ → ℕ → ℕ
+sliceField b k = field 8 b (8 + 8 * k)
+
+-- 3: "site is not the block's place, n is not the number of blocks, or bytes 6 to 7 not zero"
+unfoldable pub misheaded : ℕ → ℕ → List ℕ → Bool
+misheaded n i b = not (eqb (siteField b) i) || (not (eqb (sitesField b) n) || not (eqb (zeroField b) 0))
+
+-- 8: "filler not zero": a byte behind the last slice, 8 + 8 * count to 503
+unfoldable pub unfilled : List ℕ → Bool
+unfolding some
+unfilled b = let from = 8 + 8 * countField b in some (504 - from) (λ j. not (eqb (getD b (from + j) 0) 0))
+
+-- "block by block 2, 3, 4, each slice 5 then 6, then 8": the block b at place i of an image of n blocks
+unfoldable pub blockCheck : ℕ → ℕ → List ℕ → Check
+unfolding misheaded unfilled rowCheck
+blockCheck n i b =
+    orElse (refuse (not (sealed b)) (Sums i))
+    (orElse (refuse (misheaded n i b) (Header i))
+    (rowCheck n i (countField b) (sliceField b) (unfilled b)))
+
+-- "Read into memory, a site takes 63 64-bit numbers: the count, then 62 places"
+unfoldable pub load : List ℕ → List ℕ
+load b = countField b ∷ cat (λ k. sliceField b k ∷ []) 62
+
+-- the same bytes as they are written: "Bytes 0 to 1 site, 2 to 3 n, 4 to 5 slice count, 6 to 7 zero"
+unfoldable pub head : ℕ → ℕ → ℕ → List ℕ
+head i n many = digits 2 i ++ (digits 2 n ++ (digits 2 many ++ digits 2 0))
+
+-- "then the slices of 8 bytes, zeros up to byte 503": the first k of a site's 62 places, of which the unused are zero
+unfoldable pub places : List ℕ → ℕ → List ℕ
+places m k = cat (λ j. digits 8 (slice m j)) k
+
+-- "Bytes 504 to 507 hold s, 508 to 511 hold t.": 504 bytes, with their check behind them
+unfoldable pub seal : List ℕ → List ℕ
+seal b = b ++ (digits 4 (checkS b) ++ digits 4 (checkT b))
+
+-- the block of site i, whose 63 numbers are m, in a table of n sites: its first 504 bytes, and the block with its check
+unfoldable pub body : ℕ → ℕ → List ℕ → List ℕ
+body n i m = head i n (count m) ++ places m 62
+
+unfoldable pub store : ℕ → ℕ → List ℕ → List ℕ
+store n i m = seal (body n i m)
