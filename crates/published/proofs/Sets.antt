@@ -2,15 +2,15 @@
 use Prim.Native.Nat.{ℕ, zero, suc, _≤_, _<_}
 use mathlib.Core.Bool.{Bool, true, false, not}
 use mathlib.Core.List.{List}
-use mathlib.Core.Logic.{_⊎_, inl, inr, ⊎-elim, _↔_}
+use mathlib.Core.Logic.{_⊎_, ⊎-elim}
 use mathlib.Core.Path.{_≡_, refl, sym, ap, _∙_, subst}
 use native.Mathlib.Omega.{arith}
 use borrow.Author.Tests.{lt-ltb, le-ltb}
 use lib.Dec.{ltb}
 use lib.Pow.{ones-lt}
 use Rattle.ground.proofs.Logic.{cases, is-false, clash}
-use Rattle.masks.proofs.Laws.Subsets.{mem, within-⊆, ⊆-within, ⊆-antisym, ⊆-trans, ⊆-zero, ∈-below}
-use Rattle.masks.specs.Mask.{within, allBelow, minus, _∈_, _⊆_}
+use Rattle.masks.proofs.Laws.Subsets.{within-⊆, ⊆-within, ⊆-antisym, ⊆-trans, ⊆-zero, ∈-below}
+use Rattle.masks.specs.Mask.{within, allBelow, _∈_, _⊆_}
 use Rattle.questions.specs.Answers.{sitesOf, quorum, largest, blocks, shared, intact, toHolds, toGreatest, toSharing, toStanding, verdictCheck, siteCheck}
 use Rattle.questions.specs.declared.Greatest.the-variants.{Set}
 use Rattle.questions.specs.declared.Holds.the-variants.{Yes, No}
@@ -23,7 +23,7 @@ use Rattle.refusals.specs.declared.Refusal as Refusal
 use Rattle.sets.proofs.Decides.{table-decides}
 use Rattle.sets.proofs.Lawful.{table-lawful}
 use Rattle.sets.proofs.Quorum.{round-⊆, round-slice, ∈-round, largest-after, rounds-drop, largest-still}
-use Rattle.sets.specs.Paper.{Fbqs, Quorum, Intersection, Intact, Befouled, Blocking}
+use Rattle.sets.specs.Paper.{Fbqs, Intact}
 use Rattle.sets.specs.Quorum as SetQuorum
 use Rattle.sets.specs.Slices.{fbqsOf, slicesOf}
 use Rattle.table.proofs.Exact.{exact}

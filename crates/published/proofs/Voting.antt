@@ -1,37 +1,23 @@
 -- Accepting and confirming are the paper's: the rules from the promises, and so every sound state, and every state that a run ends in.
-use Prim.Native.Nat.{ℕ, _<_}
+use Prim.Native.Nat.{ℕ}
 use mathlib.Core.Bool.{Bool, true, _||_}
 use mathlib.Core.List.{List}
 use mathlib.Core.Logic.{inl, inr, ⊎-elim, _↔_}
-use mathlib.Core.Path.{_≡_, refl, sym, ap, _∙_, subst}
-use native.Mathlib.Omega.{arith}
+use mathlib.Core.Path.{_≡_, refl, sym, ap, _∙_}
 use lib.Bits.{bitOr}
-use lib.ListN.{length}
 use Rattle.ground.proofs.Logic.{cases, or-i, or-e}
 use Rattle.masks.proofs.Laws.Apart.{apart-⊆}
 use Rattle.masks.proofs.Laws.Single.{∈-or}
 use Rattle.masks.proofs.Laws.Subsets.{mem, ⊆-refl, or-⊆-l, or-⊆-r}
 use Rattle.masks.specs.Mask.{_∈_}
-use Rattle.refusals.proofs.First.{orElse-sound}
-use Rattle.refusals.specs.declared.Check.{Check}
-use Rattle.refusals.specs.declared.Check.the-variants.{Sound, Refused}
-use Rattle.rules.proofs.Exact.{of-sound}
-use Rattle.rules.proofs.SoundLaws.{fresh-sound}
-use Rattle.rules.proofs.Steps.{step-sound}
 use Rattle.rules.proofs.WorkWays.{table-rests}
 use Rattle.rules.specs.Rules.{others, accepting, confirming}
 use Rattle.rules.specs.Sound.{Sound as SoundState}
-use Rattle.rules.specs.State.{votes, accepts, size, get}
+use Rattle.rules.specs.State.{votes, accepts, get}
 use Rattle.rules.specs.Theorems.{Rests}
-use Rattle.rules.specs.Vote.{voteOf}
 use Rattle.sets.specs.Paper.{Fbqs, Blocking}
-use Rattle.sets.specs.Promises.{Questions, Promises, questions}
-use Rattle.table.proofs.SetCheck.{set-table}
-use Rattle.table.specs.Table.{sites, setCheck}
-use Rattle.votes.specs.Call.{Call}
-use Rattle.votes.specs.Vote.{fresh, step}
+use Rattle.sets.specs.Promises.{Questions, Promises}
 use Rattle.voting.proofs.StepWays.{sound-table, sound-state}
-use Rattle.voting.specs.Step.{soundCheck, stepInto}
 use Rattle.published.specs.Voting.{Confirms, Published, AcceptsAsPublished, ConfirmsAsPublished, StateAsPublished}
 
 module _ {S : ℕ → Fbqs} {Q : Questions} (P : Promises S Q) (v : ℕ) where
@@ -58,7 +44,7 @@ accepts-as-published S Q n R v a b =
           (or-e (Q .inQuorum v (bitOr a o)) (Q .blocked v o) e),
       λ x. ⊎-elim
           (λ y. ap (λ (z : Bool). z || Q .blocked v o) (confirms P v (bitOr a o) .1
-              (y .0, y .1, y .2, record { each = λ u h. ⊎-elim (λ k. or-⊆-l a o .each u k) (λ k. or-⊆-r a o .each u k) (y .3 u h) })))
+          (y .0, y .1, y .2, record { each = λ u h. ⊎-elim (λ k. or-⊆-l a o .each u k) (λ k. or-⊆-r a o .each u k) (y .3 u h) })))
           (λ y. or-i (Q .inQuorum v (bitOr a o)) (Q .blocked v o) (blocks P v o .1 (λ q s z. y .1 q s (apart-⊆ (⊆-refl q) (y .2) z))))
           x,
     )

@@ -1,9 +1,10 @@
 -- A refusal is settled by its number and its place.
 use Prim.Native.Nat.{ℕ, _≤_}
-use mathlib.Core.Bool.{cond}
+use mathlib.Core.Bool.{false, cond}
 use mathlib.Core.Path.{_≡_, refl, sym, ap, _∙_}
 use native.Mathlib.Omega.{arith}
 use lib.Dec.{eqb}
+use borrow.Author.Tests.{ne-eqb}
 use Rattle.refusals.specs.Refusal.{number, place, Settled}
 use Rattle.refusals.specs.declared.Refusal.{Refusal}
 use Rattle.refusals.specs.declared.Refusal.the-variants.{Length, Sums, Header, Count, Slice, Order, NoQuorum, Filler, Room, Set, Range, Receiver, Proposal, Voted, Unsent, Large, List, Unsound}
@@ -53,6 +54,13 @@ back Unsound = refl
 
 pub settled : Settled
 settled r s p q = sym (back r) ∙ ap (λ (n : ℕ). refusalOf n (place r)) p ∙ ap (λ (i : ℕ). refusalOf (number s) i) q ∙ back s
+
+-- a refusal's number is not 0, which is the answer of a call that was taken
+pub some-number : (r : Refusal) → eqb (number r) 0 ≡ false
+unfolding refusalOf
+some-number r =
+    ne-eqb (number r) 0
+    (λ e. let u : refusalOf 0 (place r) ≡ r = rw e at (back r) in let v : 18 ≡ number r = ap number u in omega (arith, e, v))
 
 -- and it fits a byte
 pub small-number : (r : Refusal) → number r ≤ 18
