@@ -13,10 +13,10 @@ use Rattle.masks.proofs.Laws.AllBelow.{in-all}
 use Rattle.masks.proofs.Laws.Size.{size-⊆, size-⊂}
 use Rattle.masks.proofs.Laws.Subsets.{⊆-refl, ∈-minus}
 use Rattle.masks.specs.Mask.{minus, allBelow, size as count, _⊆_}
-use Rattle.passes.specs.Calls.{calls}
+use Rattle.pass.specs.Calls.{calls}
 use Rattle.run.specs.Theorems.{SharpBound}
 use Rattle.votes.proofs.Loops.{iter-more}
-use Rattle.passes.proofs.Lawful.{vote-lawful}
+use Rattle.pass.proofs.Lawful.{vote-lawful}
 use Rattle.votes.proofs.AnyVote.{spends, is-run}
 use Rattle.votes.proofs.Passes.{pass-up, pass-inv}
 use Rattle.run.proofs.Public.{fit, passes-are-run}

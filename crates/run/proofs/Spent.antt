@@ -10,7 +10,7 @@ use Rattle.ground.proofs.Numbers.{two}
 use Rattle.ground.specs.Alike.{alike}
 use Rattle.masks.proofs.Laws.Subsets.{⊆-refl, ⊆-trans}
 use Rattle.masks.specs.Mask.{_∈_, _⊆_}
-use Rattle.passes.proofs.Lawful.{vote-lawful}
+use Rattle.pass.proofs.Lawful.{vote-lawful}
 use Rattle.votes.proofs.AnyVote.{spends}
 use Rattle.votes.proofs.Passes.{pass-still, pass-up}
 use Rattle.sets.specs.Paper.{Fbqs}

@@ -5,7 +5,7 @@ use mathlib.Core.Path.{_≡_}
 use native.Mathlib.Omega.{arith}
 use lib.ListN.{length, getD}
 use Rattle.ground.specs.Alike.{alike}
-use Rattle.passes.specs.Inner.{answersFrom, Settled}
+use Rattle.pass.specs.Inner.{answersFrom, Settled}
 use Rattle.refusals.specs.Refusal.{code}
 use Rattle.votes.proofs.AnyVote.{spends}
 use Rattle.votes.proofs.Passes.{pass-up}

@@ -6,8 +6,8 @@ use native.Mathlib.Omega.{arith}
 use borrow.Author.Fill.{fill-none, fill-more}
 use borrow.Author.Needs.{needs}
 use lib.ListN.{length, replicate, drop, set, length-set, drop-of-length-le}
-use Rattle.run.proofs.clear.Statement.{statement}
-use Rattle.run.proofs.clear.Tie as tie
+use Rattle.passes.proofs.clear.Statement.{statement}
+use Rattle.passes.proofs.clear.Tie as tie
 
 abbrev Inv-loop : tie.InvT-loop
 Inv-loop state₀ i₀ state i = (i ≤ length state₀) × (length state ≡ length state₀) × (state ≡ replicate i 0 ++ drop i state₀)

@@ -1,9 +1,9 @@
 -- `work_at` meets its contract: the four bytes read are the call.
 use borrow.Author.Needs.{needs}
 use denote.Ref.{now}
-use Rattle.passes.proofs.Turns.{works-at}
-use Rattle.passes.proofs.work_at.Statement.{statement}
-use Rattle.passes.proofs.work_at.Tie as tie
+use Rattle.pass.proofs.Turns.{works-at}
+use Rattle.pass.proofs.work_at.Statement.{statement}
+use Rattle.pass.proofs.work_at.Tie as tie
 use Rattle.rules.specs.Vote.{voteOf}
 
 returns : tie.Need-returns

@@ -12,11 +12,11 @@ use Rattle.ground.proofs.Pieces.{fill-one}
 use Rattle.ground.specs.Alike.{alike}
 use Rattle.refusals.specs.Refusal.{code}
 use Rattle.refusals.specs.declared.Check.{Check}
-use Rattle.passes.proofs.Calls.{calls-at, calls-length}
+use Rattle.pass.proofs.Calls.{calls-at, calls-length}
 use Rattle.votes.proofs.Passes.{pass-more, answers-more, pass-up}
-use Rattle.passes.proofs.Waiting.{pass-settles}
-use Rattle.passes.specs.Calls.{calls, callAt}
-use Rattle.passes.specs.Inner.{answersFrom, After, Passed, Settled, Told}
+use Rattle.pass.proofs.Waiting.{pass-settles}
+use Rattle.pass.specs.Calls.{calls, callAt}
+use Rattle.pass.specs.Inner.{answersFrom, After, Passed, Settled, Told}
 use Rattle.votes.proofs.AnyVote.{spends}
 use Rattle.votes.specs.Call.{Call, call}
 use Rattle.votes.specs.Inner.{Lawful, Works, quiet}

@@ -5,12 +5,12 @@ use native.Mathlib.Omega.{arith}
 use borrow.Author.Tests.{not-true, not-false}
 use denote.Ref.{now}
 use lib.ListN.{length}
-use Rattle.passes.proofs.Lawful.{lawful}
+use Rattle.pass.proofs.Lawful.{lawful}
 use Rattle.rules.specs.Vote.{voteOf}
-use Rattle.run.proofs.Going.{begun-between, between-few, between-more, between-done}
-use Rattle.run.specs.Inner.{Between}
-use Rattle.run.proofs.run_on.Statement.{statement}
-use Rattle.run.proofs.run_on.Tie as tie
+use Rattle.passes.proofs.Going.{begun-between, between-few, between-more, between-done}
+use Rattle.passes.specs.Inner.{Between}
+use Rattle.passes.proofs.run_on.Statement.{statement}
+use Rattle.passes.proofs.run_on.Tie as tie
 
 abbrev Inv-loop : tie.InvT-loop
 Inv-loop table n faulty list state₀ answers₀ waiting₀ count₀ passes₀ state answers waiting count passes =
@@ -30,8 +30,8 @@ loop-holds c =
     let G = g .gather in
     (begun-between (lawful (s .pre .0) (s .args .faulty)) (now (s .args .list)) (s .pre .1) (G .ensures .0) (G .ensures .1) (G .kept .1 .0), refl, refl, refl)
 
-pass-again-requires : tie.Need-pass-again-requires Inv-loop μ-loop
-pass-again-requires c κs = let l = c .before .before .before in (l .before .before .before .before .before .before .before .before .before .before .before .pre .0, l .loop .inv .0 .waiting)
+over-waiting-requires : tie.Need-over-waiting-requires Inv-loop μ-loop
+over-waiting-requires c κs = let l = c .before .before .before in (l .before .before .before .before .before .before .before .before .before .before .before .pre .0, l .loop .inv .0 .waiting)
 
 add-passes : tie.Need-add-passes Inv-loop μ-loop
 add-passes c =
@@ -41,23 +41,23 @@ add-passes c =
     omega (arith, between-few (lawful (s .pre .0) (s .args .faulty)) (now (s .args .list)) (l .loop .passes) (I .0), I .0 .waiting .short)
 
 same-length : tie.Need-same-length Inv-loop μ-loop
-same-length c = let r = c .before .before .before .before .before .before .before .before in r .pass-again .kept .1 .1 .1 .1 .0 ∙ r .before .before .before .before .loop .inv .1
+same-length c = let r = c .before .before .before .before .before .before .before .before in r .over-waiting .kept .1 .1 .1 .1 .0 ∙ r .before .before .before .before .loop .inv .1
 
 same-length-2 : tie.Need-same-length-2 Inv-loop μ-loop
-same-length-2 c = let r = c .before .before .before .before .before .before .before .before in r .pass-again .kept .1 .1 .1 .1 .1 .0 ∙ r .before .before .before .before .loop .inv .2
+same-length-2 c = let r = c .before .before .before .before .before .before .before .before in r .over-waiting .kept .1 .1 .1 .1 .1 .0 ∙ r .before .before .before .before .loop .inv .2
 
 same-length-3 : tie.Need-same-length-3 Inv-loop μ-loop
 same-length-3 c =
     let r = c .before .before .before .before .before .before .before .before in
     let l = r .before .before .before .before in
-    r .pass-again .kept .1 .1 .1 .1 .1 .1 .0 ∙ l .loop .inv .3 ∙ l .before .before .before .gather .kept .1 .0
+    r .over-waiting .kept .1 .1 .1 .1 .1 .1 .0 ∙ l .loop .inv .3 ∙ l .before .before .before .gather .kept .1 .0
 
 returns : tie.Need-returns Inv-loop μ-loop
 returns c =
     let r = c .before .before .before .before .before .before .before .before in
     let l = r .before .before .before .before in
     let s = l .before .before .before .before .before .before .before .before .before .before .before in
-    between-done (lawful (s .pre .0) (s .args .faulty)) (now (s .args .list)) (l .loop .passes) (l .loop .inv .0) (r .pass-again .ensures)
+    between-done (lawful (s .pre .0) (s .args .faulty)) (now (s .args .list)) (l .loop .passes) (l .loop .inv .0) (r .over-waiting .ensures)
     (not-true _ (c .if1 .taken))
 
 loop-less : tie.Need-loop-less Inv-loop μ-loop
@@ -72,8 +72,8 @@ loop-again c =
     let l = r .before .before .before .before in
     let s = l .before .before .before .before .before .before .before .before .before .before .before in
     let I = l .loop .inv in
-    let K = r .pass-again .kept .1 .1 .1 .1 in (
-      between-more (lawful (s .pre .0) (s .args .faulty)) (now (s .args .list)) (l .loop .passes) (I .0) (r .pass-again .ensures) (K .1 .0) (K .1 .1 .0)
+    let K = r .over-waiting .kept .1 .1 .1 .1 in (
+      between-more (lawful (s .pre .0) (s .args .faulty)) (now (s .args .list)) (l .loop .passes) (I .0) (r .over-waiting .ensures) (K .1 .0) (K .1 .1 .0)
           (not-false _ (c .if1 .left)),
       K .0 ∙ I .1,
       K .1 .0 ∙ I .2,
@@ -88,7 +88,7 @@ run-on-spec =
     μ-loop
     gather-requires
     loop-holds
-    pass-again-requires
+    over-waiting-requires
     add-passes
     same-length
     same-length-2

@@ -11,12 +11,12 @@ use lib.ListN.{length, replicate}
 use borrow.Author.Tests.{not-true, not-false}
 use Rattle.ground.proofs.Logic.{clash}
 use Rattle.ground.specs.Alike.{alike}
-use Rattle.passes.proofs.Calls.{calls-length}
-use Rattle.passes.proofs.Turns.{passed-told}
-use Rattle.passes.specs.Calls.{calls}
-use Rattle.passes.specs.Inner.{answersFrom, Listed, Passed, PassedAgain}
+use Rattle.pass.proofs.Calls.{calls-length}
+use Rattle.pass.proofs.Turns.{passed-told}
+use Rattle.pass.specs.Calls.{calls}
+use Rattle.pass.specs.Inner.{answersFrom, Listed, Passed, PassedAgain}
 use Rattle.refusals.specs.Refusal.{code}
-use Rattle.run.specs.Inner.{Going, Begun, Between, Whole}
+use Rattle.passes.specs.Inner.{Going, Begun, Between, Whole}
 use Rattle.votes.proofs.AnyVote.{spends}
 use Rattle.votes.proofs.Loops.{quiet-still, still-quiet, iter-more, changed-few, run-unique}
 use Rattle.votes.proofs.Passes.{pass-inv}

@@ -4,7 +4,7 @@ use mathlib.Core.List.{List, [], _∷_}
 use mathlib.Core.Path.{_≡_, refl, sym, ap, _∙_}
 use native.Mathlib.Omega.{arith}
 use lib.ListN.{length, getD}
-use Rattle.passes.specs.Calls.{calls, callAt}
+use Rattle.pass.specs.Calls.{calls, callAt}
 use Rattle.votes.specs.Call.{Call}
 
 later : (j i : ℕ) → j ≡ suc (suc (suc (suc i))) → (a b c d : ℕ) (l : List ℕ) → getD (a ∷ b ∷ c ∷ d ∷ l) j 0 ≡ getD l i 0

@@ -6,15 +6,15 @@ use borrow.Author.Needs.{needs}
 use borrow.Author.Tests.{not-true, not-false}
 use denote.Ref.{now}
 use lib.ListN.{length, replicate, length-replicate}
-use Rattle.passes.proofs.Lawful.{lawful}
-use Rattle.passes.proofs.Turns.{passed-long, passed-told}
-use Rattle.passes.specs.Calls.{calls}
-use Rattle.run.proofs.Going.{going-none, going-more, going-done}
-use Rattle.run.proofs.run_fresh.Statement.{statement}
-use Rattle.run.proofs.run_fresh.Tie as tie
+use Rattle.pass.proofs.Lawful.{lawful}
+use Rattle.pass.proofs.Turns.{passed-long, passed-told}
+use Rattle.pass.specs.Calls.{calls}
+use Rattle.passes.proofs.Going.{going-none, going-more, going-done}
+use Rattle.passes.proofs.run_fresh.Statement.{statement}
+use Rattle.passes.proofs.run_fresh.Tie as tie
 
-pass-over-requires : tie.Need-pass-over-requires
-pass-over-requires c κs =
+over-all-requires : tie.Need-over-all-requires
+over-all-requires c κs =
     let d = c .before .before .before .before in
     let s = d .before .before .before .before .before .before in
     let p = s .pre in
@@ -26,7 +26,7 @@ returns c =
     let s = d .before .before .before .before .before .before in
     let law = lawful (s .pre .0) (s .args .faulty) in
     let l = calls (now (s .args .list)) in
-    going-done law l 0 (going-none law l (now (s .args .state)) (s .pre .1 .0) (d .clear .ensures)) (c .before .before .before .before .before .pass-over .ensures) (not-true _ (c .if1 .taken))
+    going-done law l 0 (going-none law l (now (s .args .state)) (s .pre .1 .0) (d .clear .ensures)) (c .before .before .before .before .before .over-all .ensures) (not-true _ (c .if1 .taken))
 
 run-on-requires : tie.Need-run-on-requires
 run-on-requires c κs =
@@ -36,7 +36,7 @@ run-on-requires c κs =
     let list = now (s .args .list) in
     let law = lawful (p .0) (s .args .faulty) in
     let G = going-none law (calls list) (now (s .args .state)) (p .1 .0) (d .clear .ensures) in
-    let Z = c .before .before .before .before .before .before .before .before .pass-over .ensures in
+    let Z = c .before .before .before .before .before .before .before .before .over-all .ensures in
     let k = length (now (s .args .answers)) in
     let e = passed-long law list k (p .1 .1 .0) Z in
     let many : length {A = ℕ} (replicate 4096 0) ≡ 4096 = length-replicate {A = ℕ} 4096 0 in (
@@ -55,7 +55,7 @@ run-fresh-spec =
     tie.close
     (tie.spec
     (λ c κs. search needs)
-    pass-over-requires
+    over-all-requires
     (λ c. search needs)
     (λ c. search needs)
     returns
