@@ -4,3 +4,4 @@ pub mod Lawful
 pub mod Waiting
 pub mod Turns
 pub mod Rounds
+pub mod Coincide

@@ -34,7 +34,7 @@ module _ {out : List ℕ} {p q : ℕ} {w : List ℕ} {a b : ℕ} (L : Listed out
   }
 
   -- the next place waits, and is written behind the others
-  pub listed-more : a ≤ b → b < length w → p ≤ q → getD out q 0 ≡ 15 → Listed out p (q + 1) (set w b q) a (b + 1)
+  listed-more : a ≤ b → b < length w → p ≤ q → getD out q 0 ≡ 15 → Listed out p (q + 1) (set w b q) a (b + 1)
   listed-more ab bw pq e = record {
     from = λ k h l. last k l (λ x. p ≤ x) pq (λ m. L .from k h m);
     below = λ k h l. last k l (λ x. x < q + 1) (omega arith) (λ m. omega (arith, L .below k h m));
@@ -69,7 +69,7 @@ module _ {out : List ℕ} {p q : ℕ} {w : List ℕ} {a b : ℕ} (L : Listed out
   }
 
   -- a number written before them
-  pub listed-before : (k x : ℕ) → k < a → Listed out p q (set w k x) a b
+  listed-before : (k x : ℕ) → k < a → Listed out p q (set w k x) a b
   listed-before k x h = record {
     from = λ j l m. rw (old j l) (L .from j l m);
     below = λ j l m. rw (old j l) (L .below j l m);

@@ -18,7 +18,7 @@ module _ {X : Vote} (L : Lawful X) where
   settled-later : {c : Call} {a : ℕ} {s t : List ℕ} → X .Below s t → Settled X c a s → Settled X c a t
   settled-later {s = s} {t} b Z = record { answers-so = λ {t = u} h T. Z .answers-so (L .below-trans s t u b h) T; still = λ {t = u} h T. Z .still (L .below-trans s t u b h) T }
 
-  pub settles : (c : Call) (s : List ℕ) → X .Sound s → (code (X .answer c s) ≡ 15 → ⊥) → Settled X c (code (X .answer c s)) (step X c s)
+  settles : (c : Call) (s : List ℕ) → X .Sound s → (code (X .answer c s) ≡ 15 → ⊥) → Settled X c (code (X .answer c s)) (step X c s)
   settles c s S w = record { answers-so = λ {t} b T. L .settles c s t S w b T .0; still = λ {t} b T. L .settles c s t S w b T .1 }
 
   -- after a pass each call that does not wait is settled

@@ -44,7 +44,7 @@ module _ {Σ : ℕ → Fbqs} {Q : Questions} {n : ℕ} (R : Rests Σ Q n) (F : �
   iter-at zero = refl
   iter-at (suc k) = iter-more (step (vote Q n F)) l k (fresh (size n)) ∙ ap (pass (step (vote Q n F)) l) (iter-at k)
 
-  pub at-sound : (k : ℕ) → Sound Q n F (at k)
+  at-sound : (k : ℕ) → Sound Q n F (at k)
   at-sound zero = fresh-sound Σ Q n F R
   at-sound (suc k) = pass-inv (step (vote Q n F)) alike (spends (vote Q n F) (vote-lawful R F)) l (at k) (at-sound k)
 

@@ -31,13 +31,22 @@ loop-less : tie.Need-loop-less Inv-loop μ-loop
 loop-less c = omega arith
 
 loop-again : tie.Need-loop-again Inv-loop μ-loop
-loop-again c = let L = c .before .loop in let h : L .i < length (c .before .before .args .state .now) = omega arith in (omega arith, length-set (L .state) (L .i) 0 ∙ L .inv .1, ap (λ (x : List ℕ). set x (L .i) 0) (L .inv .2) ∙ fill-more (L .i) 0 (c .before .before .args .state .now) h)
+loop-again c =
+    let L = c .before .loop in
+    let s = c .before .before .args .state .now in
+    let h : L .i < length s = omega arith in
+    (omega arith, length-set (L .state) (L .i) 0 ∙ L .inv .1, ap (λ (x : List ℕ). set x (L .i) 0) (L .inv .2) ∙ fill-more (L .i) 0 s h)
 
 same-length : tie.Need-same-length Inv-loop μ-loop
 same-length c = c .before .loop .inv .1
 
 returns : tie.Need-returns Inv-loop μ-loop
-returns c = let L = c .before .loop in let s = c .before .before .args .state .now in let l : length s ≤ L .i = omega arith in let e : L .i ≡ length s = omega (arith, L .inv .0) in L .inv .2 ∙ ap (λ (x : List ℕ). replicate (L .i) 0 ++ x) (drop-of-length-le s l) ∙ append-nil (replicate (L .i) 0) ∙ ap (λ (k : ℕ). replicate k 0) e
+returns c =
+    let L = c .before .loop in
+    let s = c .before .before .args .state .now in
+    let l : length s ≤ L .i = omega arith in
+    let e : L .i ≡ length s = omega (arith, L .inv .0) in
+    L .inv .2 ∙ ap (λ (x : List ℕ). replicate (L .i) 0 ++ x) (drop-of-length-le s l) ∙ append-nil (replicate (L .i) 0) ∙ ap (λ (k : ℕ). replicate k 0) e
 
 pub clear-spec : {M : Type 1} → statement M
 clear-spec =
