@@ -13,10 +13,10 @@ use Rattle.masks.proofs.Laws.AllBelow.{in-all}
 use Rattle.masks.proofs.Laws.Size.{size-⊆, size-⊂}
 use Rattle.masks.proofs.Laws.Subsets.{⊆-refl, ∈-minus}
 use Rattle.masks.specs.Mask.{minus, allBelow, size as count, _⊆_}
-use Rattle.passes.specs.Calls.{calls}
+use Rattle.pass.specs.Calls.{calls}
 use Rattle.run.specs.Theorems.{SharpBound}
 use Rattle.votes.proofs.Loops.{iter-more}
-use Rattle.passes.proofs.Lawful.{vote-lawful}
+use Rattle.pass.proofs.Lawful.{vote-lawful}
 use Rattle.votes.proofs.AnyVote.{spends, is-run}
 use Rattle.votes.proofs.Passes.{pass-up, pass-inv}
 use Rattle.run.proofs.Public.{fit, passes-are-run}
@@ -44,7 +44,7 @@ module _ {Σ : ℕ → Fbqs} {Q : Questions} {n : ℕ} (R : Rests Σ Q n) (F : �
   iter-at zero = refl
   iter-at (suc k) = iter-more (step (vote Q n F)) l k (fresh (size n)) ∙ ap (pass (step (vote Q n F)) l) (iter-at k)
 
-  pub at-sound : (k : ℕ) → Sound Q n F (at k)
+  at-sound : (k : ℕ) → Sound Q n F (at k)
   at-sound zero = fresh-sound Σ Q n F R
   at-sound (suc k) = pass-inv (step (vote Q n F)) alike (spends (vote Q n F) (vote-lawful R F)) l (at k) (at-sound k)
 

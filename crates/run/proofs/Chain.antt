@@ -75,7 +75,7 @@ row-unused v (suc i) p l = ap (λ (k : ℕ). getD (row v) k 0) (there i) ∙ get
     there i = omega arith
 
 module _ (n : ℕ) where
-  pub chain-length : length (chain n) ≡ 63 * n
+  chain-length : length (chain n) ≡ 63 * n
   unfolding chain
   chain-length = length-cat row 63 n (λ i l. row-length i)
 

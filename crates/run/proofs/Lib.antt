@@ -1,5 +1,4 @@
 pub mod RunWays
-pub mod Going
 pub mod Public
 pub mod Spent
 pub mod Bound

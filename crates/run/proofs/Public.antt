@@ -5,10 +5,10 @@ use mathlib.Core.Path.{_≡_, refl, sym, ap, subst, _∙_}
 use native.Mathlib.Omega.{arith}
 use lib.ListN.{length, getD, drop}
 use lib.Seq.{take-at}
-use Rattle.passes.proofs.Calls.{calls-at, calls-length}
-use Rattle.passes.proofs.Lawful.{lawful}
-use Rattle.passes.proofs.Turns.{length-answers}
-use Rattle.passes.specs.Calls.{calls, callAt}
+use Rattle.pass.proofs.Calls.{calls-at, calls-length}
+use Rattle.pass.proofs.Lawful.{lawful}
+use Rattle.pass.proofs.Turns.{length-answers}
+use Rattle.pass.specs.Calls.{calls, callAt}
 use Rattle.refusals.specs.declared.Check.{Check}
 use Rattle.refusals.specs.declared.Check.the-variants.{Sound, Refused}
 use Rattle.rules.specs.State.{size}

@@ -18,7 +18,7 @@ use Rattle.masks.specs.Mask.{single, minus, allBelow, _∈_, _⊆_}
 use Rattle.run.specs.Theorems.{Reached}
 use Rattle.run.proofs.Bound.{at, iter-at, few}
 use Rattle.run.proofs.Chain.{chain, chain-table, chain-rests, Chained, chained}
-use Rattle.passes.proofs.Lawful.{vote-lawful}
+use Rattle.pass.proofs.Lawful.{vote-lawful}
 use Rattle.votes.proofs.AnyVote.{spends, is-run}
 use Rattle.votes.proofs.Passes.{pass-up}
 use Rattle.run.proofs.Stages.{link, links, back, longest, links-length, Stage, voted-0, takes-accept, heard-it, stage-pass}

@@ -13,8 +13,8 @@ use Rattle.refusals.specs.First.{orElse, refuse}
 use Rattle.refusals.specs.declared.Check.the-variants.{Sound, Refused}
 use Rattle.refusals.specs.declared.Refusal as Refusal
 use Rattle.refusals.specs.declared.Refusal.the-variants.{Room}
-use Rattle.passes.specs.Calls.{calls}
-use Rattle.run.specs.Inner.{Whole}
+use Rattle.pass.specs.Calls.{calls}
+use Rattle.passes.specs.Inner.{Whole}
 use Rattle.run.specs.Run.{misshapen, roomless, runCheck, ran, stateInto, answersInto}
 use Rattle.run.specs.declared.Ran.{Ran}
 use Rattle.run.specs.declared.Ran.the-variants.{Passes}

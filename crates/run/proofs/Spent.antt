@@ -10,7 +10,7 @@ use Rattle.ground.proofs.Numbers.{two}
 use Rattle.ground.specs.Alike.{alike}
 use Rattle.masks.proofs.Laws.Subsets.{⊆-refl, ⊆-trans}
 use Rattle.masks.specs.Mask.{_∈_, _⊆_}
-use Rattle.passes.proofs.Lawful.{vote-lawful}
+use Rattle.pass.proofs.Lawful.{vote-lawful}
 use Rattle.votes.proofs.AnyVote.{spends}
 use Rattle.votes.proofs.Passes.{pass-still, pass-up}
 use Rattle.sets.specs.Paper.{Fbqs}
@@ -88,7 +88,7 @@ module _ {Σ : ℕ → Fbqs} {Q : Questions} {n : ℕ} (R : Rests Σ Q n) (F : �
   Spent P s = (c : Call) → List·Memᴰ c l → P c → Takes n F c s → heard n c s ≡ true
 
   -- a spent call changes nothing
-  pub spent-still : {P : Call → Type 0} {s : List ℕ} → Sound Q n F s → Spent P s → (c : Call) → List·Memᴰ c l → P c →
+  spent-still : {P : Call → Type 0} {s : List ℕ} → Sound Q n F s → Spent P s → (c : Call) → List·Memᴰ c l → P c →
       step (vote Q n F) c s ≡ s
   spent-still {s = s} S z c m p = ⊎-elim (λ e. e) (λ x. heard-still S c (z c m p (x .0))) (step-cases n F c s Q)
 
@@ -104,7 +104,7 @@ module _ {Σ : ℕ → Fbqs} {Q : Questions} {n : ℕ} (R : Rests Σ Q n) (F : �
       (List·Memᴰ·cases-cons h)
 
   -- a pass spends each call that it could take from its start and could take again at its end
-  pub spent-after : {P : Call → Type 0} {s : List ℕ} → Sound Q n F s →
+  spent-after : {P : Call → Type 0} {s : List ℕ} → Sound Q n F s →
       ((c : Call) → P c → Takes n F c (pass (step (vote Q n F)) l s) → Takes n F c s) → Spent P (pass (step (vote Q n F)) l s)
   spent-after {s = s} S back c h p K =
       let x = through l s S c h in
@@ -125,7 +125,7 @@ module _ {Σ : ℕ → Fbqs} {Q : Questions} {n : ℕ} (R : Rests Σ Q n) (F : �
           (step-cases n F c s Q);
     }
 
-    pub step-spent : {s : List ℕ} → Sound Q n F s → Spent P s → (c : Call) → List·Memᴰ c l → Spent P (step (vote Q n F) c s)
+    step-spent : {s : List ℕ} → Sound Q n F s → Spent P s → (c : Call) → List·Memᴰ c l → Spent P (step (vote Q n F) c s)
     step-spent {s} S z c m d h p K =
         let up = step-adds Q n F c s in
         heard-grows n d s up (z d h p (A .before p up (step-kept S z c m) K))

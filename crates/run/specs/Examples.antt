@@ -44,8 +44,8 @@ all [] = true
 all (b ∷ l) = b && all l
 
 unfoldable pub examples : List Bool
-unfolding some every least those has within minus gather quorum round left dropping largest rounds slicesOf questionsOf beside apart firstApart meets dispensable isIntact intact mark
-    accepting confirming nowAccepts nowConfirms hears taken outOfRange crooked against unsent answer fresh add passes run runOf
+unfolding some every least those has within minus gather quorum round left dropping largest rounds slicesOf questionsOf beside apart firstApart meets
+    dispensable isIntact intact mark accepting confirming nowAccepts nowConfirms hears taken outOfRange crooked against unsent answer fresh add passes run runOf
 examples =
     let A = slicesOf tableA in
     let B = slicesOf tableB in

@@ -1,4 +1,3 @@
 pub mod Run
 pub mod Theorems
 pub mod Examples
-pub mod Inner

@@ -12,7 +12,7 @@ use Rattle.refusals.specs.declared.Refusal as Refusal
 use Rattle.run.specs.declared.Ran.{Ran}
 use Rattle.run.specs.declared.Ran.the-variants.{Passes}
 use Rattle.table.specs.Table.{sites, setCheck}
-use Rattle.passes.specs.Calls.{calls}
+use Rattle.pass.specs.Calls.{calls}
 use Rattle.rules.specs.State.{size}
 use Rattle.rules.specs.Vote.{voteOf}
 use Rattle.votes.specs.Passes.{Run}

@@ -4,7 +4,7 @@ use mathlib.Core.List.{List}
 use mathlib.Core.Path.{_≡_}
 use lib.ListN.{length, getD, take}
 use Rattle.masks.specs.Mask.{minus, allBelow, size as count}
-use Rattle.passes.specs.Calls.{calls, callAt}
+use Rattle.pass.specs.Calls.{calls, callAt}
 use Rattle.rules.specs.State.{size, Below}
 use Rattle.rules.specs.Vote.{voteOf}
 use Rattle.run.specs.Run.{ran, stateInto, answersInto}

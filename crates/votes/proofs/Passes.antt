@@ -12,11 +12,11 @@ use Rattle.votes.specs.Passes.{Run, again, pass, iter, answersOf, last, 
 
 -- Laws of a pass. One call more at the end is what a loop over the calls carries from turn to turn.
 module _ {S C : Type 0} (step : C → S → S) where
-  pub pass-append : (l m : List C) (s : S) → pass step (l ++ m) s ≡ pass step m (pass step l s)
+  pass-append : (l m : List C) (s : S) → pass step (l ++ m) s ≡ pass step m (pass step l s)
   pass-append [] m s = refl
   pass-append (c ∷ l) m s = pass-append l m (step c s)
 
-  pub answers-append : (ans : C → S → ℕ) (l m : List C) (s : S) → answersOf step ans (l ++ m) s ≡ answersOf step ans l s ++ answersOf step ans m (pass step l s)
+  answers-append : (ans : C → S → ℕ) (l m : List C) (s : S) → answersOf step ans (l ++ m) s ≡ answersOf step ans l s ++ answersOf step ans m (pass step l s)
   answers-append ans [] m s = refl
   answers-append ans (c ∷ l) m s = ap {B = List ℕ} (λ r. ans c s ∷ r) (answers-append ans l m (step c s))
 
@@ -113,7 +113,7 @@ module _ {S C : Type 0} (step : C → S → S) (same : S → S → Bool) (W : Sp
       go true e d = inl (W .done-still c s i e)
       go false e d = inr (ap not e, d)
 
-  pub pass-spends : (l : List C) (s : S) → W .Inv s → (pass step l s ≡ s) ⊎ Spent l s
+  pass-spends : (l : List C) (s : S) → W .Inv s → (pass step l s ≡ s) ⊎ Spent l s
   pass-spends [] s i = inl refl
   pass-spends (c ∷ l) s i = ⊎-elim (λ e. still e (pass-spends l s i)) moved (change c s i)
     where
@@ -161,7 +161,8 @@ module _ {S C : Type 0} (step : C → S → S) (same : S → S → Bool) (W : Sp
         go false e = absurd (⊎-elim (λ p. clash (subst (λ (u : S). same s u ≡ true) (sym p) (W .same-refl s)) e) (λ x. omega (arith, left-lt l s (pass step l s) (pass-up l s i) (x .0) (x .1) (x .2) (x .3))) (pass-spends l s i))
     passes-end (suc f) l s h i = go (λ k. passes-end f l (pass step l s) k (pass-inv l s i)) (same s (pass step l s)) refl
       where
-        go : (left l (pass step l s) ≤ f → Ends ans l (pass step l s) (passes step ans same (suc f) l (pass step l s))) → (b : Bool) → same s (pass step l s) ≡ b → Ends ans l s (cond b (last step ans l s) (again (passes step ans same (suc f) l (pass step l s))))
+        go : (left l (pass step l s) ≤ f → Ends ans l (pass step l s) (passes step ans same (suc f) l (pass step l s))) → (b : Bool) → same s (pass step l s) ≡ b →
+            Ends ans l s (cond b (last step ans l s) (again (passes step ans same (suc f) l (pass step l s))))
         go ih true e = ends-now l s i (sym (W .same-eq s (pass step l s) e))
         go ih false e = ⊎-elim (λ p. absurd (changed p)) spent (pass-spends l s i)
           where
@@ -195,13 +196,13 @@ getD-mapped f (x ∷ l) (suc i) d h = getD-mapped f l i d (omega arith)
 module _ {S C : Type 0} (step : C → S → S) (same : S → S → Bool) (W : Spends step same)
     (anti : (s t : S) → W .Inv s → W .Inv t → W .Le s t → W .Le t s → s ≡ t) (fresh : S) (least : (s : S) → W .Inv s → W .Le fresh s) (inv : W .Inv fresh) where
   -- a state that a pass leaves alone, each of its calls leaves alone
-  pub fixed-each : (l : List C) (s : S) → W .Inv s → pass step l s ≡ s → (c : C) → List·Memᴰ c l → step c s ≡ s
+  fixed-each : (l : List C) (s : S) → W .Inv s → pass step l s ≡ s → (c : C) → List·Memᴰ c l → step c s ≡ s
   fixed-each [] s i e c m = absurd (List·Memᴰ·not-nil m)
   fixed-each (x ∷ l) s i e c m =
       let first : step x s ≡ s = anti (step x s) s (W .inv-step x s i) i (subst (λ (u : S). W .Le (step x s) u) e (pass-up step same W l (step x s) (W .inv-step x s i))) (W .up x s i) in
       ⊎-elim (λ p. ap (λ (y : C). step y s) p ∙ first) (λ m′. fixed-each l s i (ap (pass step l) (sym first) ∙ e) c m′) (List·Memᴰ·cases-cons m)
 
-  pub fixed-answers : (ans : C → S → ℕ) (l : List C) (s : S) → ((c : C) → List·Memᴰ c l → step c s ≡ s) → answersOf step ans l s ≡ map (λ (c : C). ans c s) l
+  fixed-answers : (ans : C → S → ℕ) (l : List C) (s : S) → ((c : C) → List·Memᴰ c l → step c s ≡ s) → answersOf step ans l s ≡ map (λ (c : C). ans c s) l
   fixed-answers ans [] s h = refl
   fixed-answers ans (x ∷ l) s h = ap {B = List ℕ} (λ r. ans x s ∷ r) (ap (answersOf step ans l) (h x (List·Memᴰ·head refl)) ∙ fixed-answers ans l s (λ c m. h c (List·Memᴰ·tail m)))
 
@@ -214,7 +215,7 @@ module _ {S C : Type 0} (step : C → S → S) (same : S → S → Bool) (W : Sp
   iter-keeps P l h (suc k) s p = iter-keeps P l h k (pass step l s) (pass-keeps P l h s p)
 
   -- what every step of the list keeps, the end of its run has
-  pub run-keeps : (ans : C → S → ℕ) (l : List C) (P : S → Type 0) → ((c : C) → List·Memᴰ c l → (s : S) → P s → P (step c s)) → P fresh → P ((run step ans same fresh l) .state)
+  run-keeps : (ans : C → S → ℕ) (l : List C) (P : S → Type 0) → ((c : C) → List·Memᴰ c l → (s : S) → P s → P (step c s)) → P fresh → P ((run step ans same fresh l) .state)
   run-keeps ans l P h p = let E = run-ends step same W ans fresh inv l in subst P (sym (E .state-is)) (iter-keeps P l h (E .changing) fresh p)
 
   -- Fewer calls, in whichever order and with whichever repeats, end lower.
@@ -244,7 +245,7 @@ module _ {S C : Type 0} (step : C → S → S) (same : S → S → Bool) (W : Sp
   run-same-state ans l l′ R w w′ = anti _ _ (run-ends step same W ans fresh inv l .inv) (run-ends step same W ans fresh inv l′ .inv) (run-below ans l′ l (rises-within l l′ R w′) w) (run-below ans l l′ R w′)
 
   -- An answer of the last pass is the answer of the call in the end state.
-  pub run-answer : (ans : C → S → ℕ) (l : List C) (i : ℕ) (d : C) → i < length l → getD ((run step ans same fresh l) .answers) i 0 ≡ ans (getD l i d) ((run step ans same fresh l) .state)
+  run-answer : (ans : C → S → ℕ) (l : List C) (i : ℕ) (d : C) → i < length l → getD ((run step ans same fresh l) .answers) i 0 ≡ ans (getD l i d) ((run step ans same fresh l) .state)
   run-answer ans l i d h =
       let E = run-ends step same W ans fresh inv l in
       ap (λ (r : List ℕ). getD r i 0) (E .last-answers ∙ fixed-answers ans l _ (fixed-each l _ (E .inv) (E .fixed))) ∙ getD-mapped (λ (c : C). ans c ((run step ans same fresh l) .state)) l i d h

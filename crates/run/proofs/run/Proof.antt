@@ -13,73 +13,100 @@ use Rattle.run.proofs.run.Tie as tie
 
 returns : tie.Need-returns
 returns c =
-    let a = c .before .before .before .before .before .before .before .before .args in
-    let x = ran-refused (now (a .table)) (a .faulty) (now (a .list)) (now (a .state)) (now (a .answers)) _ (sym (c .before .before .before .check .ensures) ∙ c .before .q .given .1) in
+    let q = c .before .before .before in
+    let a = q .before .before .before .before .before .args in
+    let x = ran-refused (now (a .table)) (a .faulty) (now (a .list)) (now (a .state)) (now (a .answers)) _ (sym (q .check .ensures) ∙ c .before .q .given .1) in
     (x .0, (x .1, x .2))
 
 mul-size : tie.Need-mul-size
 mul-size c =
-    let a = c .before .before .before .before .before .before .before .args in
-    let f = fits (now (a .table)) (a .faulty) (length (now (a .list))) (length (now (a .state))) (length (now (a .answers))) (sym (c .before .before .check .ensures) ∙ c .enum-told .given .1) in
+    let d = c in
+    let q = d .before .before in
+    let a = q .before .before .before .before .before .args in
+    let f = fits (now (a .table)) (a .faulty) (length (now (a .list))) (length (now (a .state))) (length (now (a .answers)))
+    (sym (q .check .ensures) ∙ d .enum-told .given .1) in
     omega (arith, f .table .few-sites)
 
 add-size : tie.Need-add-size
 add-size c =
-    let a = c .before .before .before .before .before .before .before .args in
-    let f = fits (now (a .table)) (a .faulty) (length (now (a .list))) (length (now (a .state))) (length (now (a .answers))) (sym (c .before .before .check .ensures) ∙ c .enum-told .given .1) in
+    let d = c in
+    let q = d .before .before in
+    let a = q .before .before .before .before .before .args in
+    let f = fits (now (a .table)) (a .faulty) (length (now (a .list))) (length (now (a .state))) (length (now (a .answers)))
+    (sym (q .check .ensures) ∙ d .enum-told .given .1) in
     omega (arith, f .table .few-sites)
 
 slice-relend-prefix-run-fresh : tie.Need-slice-relend-prefix-run-fresh
 slice-relend-prefix-run-fresh c =
-    let a = c .before .before .before .before .before .before .before .args in
-    let f = fits (now (a .table)) (a .faulty) (length (now (a .list))) (length (now (a .state))) (length (now (a .answers))) (sym (c .before .before .check .ensures) ∙ c .enum-told .given .1) in
+    let d = c in
+    let q = d .before .before in
+    let a = q .before .before .before .before .before .args in
+    let f = fits (now (a .table)) (a .faulty) (length (now (a .list))) (length (now (a .state))) (length (now (a .answers)))
+    (sym (q .check .ensures) ∙ d .enum-told .given .1) in
     omega (arith, f .states)
 
 slice-aggregate-run-fresh : tie.Need-slice-aggregate-run-fresh
 slice-aggregate-run-fresh c =
-    let a = c .before .before .before .before .before .before .before .before .args in
-    let f = fits (now (a .table)) (a .faulty) (length (now (a .list))) (length (now (a .state))) (length (now (a .answers))) (sym (c .before .before .before .check .ensures) ∙ c .before .enum-told .given .1) in
+    let d = c .before in
+    let q = d .before .before in
+    let a = q .before .before .before .before .before .args in
+    let f = fits (now (a .table)) (a .faulty) (length (now (a .list))) (length (now (a .state))) (length (now (a .answers)))
+    (sym (q .check .ensures) ∙ d .enum-told .given .1) in
     sym (length-take-le (4 * sites (length (now (a .table))) + 6) (now (a .state)) (f .states))
 
 slice-relend-prefix-run-fresh-2 : tie.Need-slice-relend-prefix-run-fresh-2
 slice-relend-prefix-run-fresh-2 c =
-    let a = c .before .before .before .before .before .before .before .before .args in
-    let f = fits (now (a .table)) (a .faulty) (length (now (a .list))) (length (now (a .state))) (length (now (a .answers))) (sym (c .before .before .before .check .ensures) ∙ c .before .enum-told .given .1) in
+    let d = c .before in
+    let q = d .before .before in
+    let a = q .before .before .before .before .before .args in
+    let f = fits (now (a .table)) (a .faulty) (length (now (a .list))) (length (now (a .state))) (length (now (a .answers)))
+    (sym (q .check .ensures) ∙ d .enum-told .given .1) in
     omega (arith, f .many)
 
 slice-aggregate-run-fresh-2 : tie.Need-slice-aggregate-run-fresh-2
 slice-aggregate-run-fresh-2 c =
-    let a = c .before .before .before .before .before .before .before .before .before .args in
-    let f = fits (now (a .table)) (a .faulty) (length (now (a .list))) (length (now (a .state))) (length (now (a .answers))) (sym (c .before .before .before .before .check .ensures) ∙ c .before .before .enum-told .given .1) in
+    let d = c .before .before in
+    let q = d .before .before in
+    let a = q .before .before .before .before .before .args in
+    let f = fits (now (a .table)) (a .faulty) (length (now (a .list))) (length (now (a .state))) (length (now (a .answers)))
+    (sym (q .check .ensures) ∙ d .enum-told .given .1) in
     sym (length-take-le (length (now (a .list)) / 4) (now (a .answers)) (f .many))
 
 run-fresh-requires : tie.Need-run-fresh-requires
 run-fresh-requires c κs =
-    let a = c .before .before .before .before .before .before .before .before .before .args in
-    let f = fits (now (a .table)) (a .faulty) (length (now (a .list))) (length (now (a .state))) (length (now (a .answers))) (sym (c .before .before .before .before .check .ensures) ∙ c .before .before .enum-told .given .1) in
-    let q = length-take-le (length (now (a .list)) / 4) (now (a .answers)) (f .many) in (
+    let d = c .before .before in
+    let q = d .before .before in
+    let a = q .before .before .before .before .before .args in
+    let f = fits (now (a .table)) (a .faulty) (length (now (a .list))) (length (now (a .state))) (length (now (a .answers)))
+    (sym (q .check .ensures) ∙ d .enum-told .given .1) in
+    let e = length-take-le (length (now (a .list)) / 4) (now (a .answers)) (f .many) in (
       f .table,
       (
         length-take-le (4 * sites (length (now (a .table))) + 6) (now (a .state)) (f .states),
-        (f .four ∙ ap (λ (k : ℕ). 4 * k) (sym q), subst (λ (k : ℕ). k ≤ 4096) (sym q) (f .few)),
+        (f .four ∙ ap (λ (k : ℕ). 4 * k) (sym e), subst (λ (k : ℕ). k ≤ 4096) (sym e) (f .few)),
       ),
     )
 
 same-length : tie.Need-same-length
 same-length c =
-    let a = c .before .before .before .before .before .before .before .before .before .before .before .before .before .before .args in
-    length-front (now (a .state)) (c .before .before .before .before .run-fresh .last .1 .1 .1 .1 .0) (4 * sites (length (now (a .table))) + 6) (c .before .before .before .before .run-fresh .kept .1 .1 .1 .1 .0)
+    let r = c .before .before .before .before in
+    let a = r .before .before .before .before .before .before .before .before .before .before .args in
+    length-front (now (a .state)) (r .run-fresh .last .1 .1 .1 .1 .0) (4 * sites (length (now (a .table))) + 6) (r .run-fresh .kept .1 .1 .1 .1 .0)
 
 same-length-2 : tie.Need-same-length-2
 same-length-2 c =
-    let a = c .before .before .before .before .before .before .before .before .before .before .before .before .before .before .args in
-    length-front (now (a .answers)) (c .before .before .before .before .run-fresh .last .1 .1 .1 .1 .1 .0) (length (now (a .list)) / 4) (c .before .before .before .before .run-fresh .kept .1 .1 .1 .1 .1 .0)
+    let r = c .before .before .before .before in
+    let a = r .before .before .before .before .before .before .before .before .before .before .args in
+    length-front (now (a .answers)) (r .run-fresh .last .1 .1 .1 .1 .1 .0) (length (now (a .list)) / 4) (r .run-fresh .kept .1 .1 .1 .1 .1 .0)
 
 returns-2 : tie.Need-returns-2
 returns-2 c =
-    let a = c .before .before .before .before .before .before .before .before .before .before .before .before .before .before .args in
-    let x = ran-passes (now (a .table)) (a .faulty) (now (a .list)) (now (a .state)) (now (a .answers)) (sym (c .before .before .before .before .before .before .before .before .before .check .ensures) ∙ c .before .before .before .before .before .before .before .enum-told .given .1)
-    (c .before .before .before .before .run-fresh .ensures) in
+    let r = c .before .before .before .before in
+    let d = r .before .before .before in
+    let q = d .before .before in
+    let a = q .before .before .before .before .before .args in
+    let x = ran-passes (now (a .table)) (a .faulty) (now (a .list)) (now (a .state)) (now (a .answers)) (sym (q .check .ensures) ∙ d .enum-told .given .1)
+    (r .run-fresh .ensures) in
     (x .0, (x .1, x .2))
 
 pub run-spec : {M : Type 1} → statement M
