@@ -13,7 +13,7 @@ use Rattle.lines.specs.Lines.{explained}
 use Rattle.refusals.specs.declared.Check.{Check}
 use Rattle.refusals.specs.declared.Check.the-variants.{Sound, Refused}
 use Rattle.refusals.specs.declared.Refusal.{Refusal}
-use Rattle.register.specs.Register.{endLines}
+use Rattle.outcome.specs.Outcome.{endLines}
 use Rattle.check_text.proofs.Ways.{image-sound, image-refused}
 use Rattle.run_text.specs.Run.{ranText, runText}
 use Rattle.run.proofs.RunWays.{Fits, fits}

@@ -3,7 +3,7 @@ use Prim.Native.Nat.{ℕ}
 use mathlib.Core.List.{List}
 use lib.ListN.{length}
 use Rattle.lines.specs.Lines.{explained}
-use Rattle.register.specs.Register.{endLines}
+use Rattle.outcome.specs.Outcome.{endLines}
 use Rattle.check_text.specs.Table.{tableOn, imageCheck, unless}
 use Rattle.run.specs.Run.{runCheck, runOf}
 use Rattle.table.specs.Table.{sites}
