@@ -28,13 +28,17 @@ fn check_blocks(image: &[u8], n: usize) -> Check
     requires { ⌜ n ≤ 64 ⌝ }
     ensures { λ r. ⌜ r ≡ blocksCheck n (now (image .entry)) ⌝ }
 {
-    let mut i: usize = 0;
-    while i < n {
-        let q = site_block::check_block(&image[512 * i..512 * i + 512], n as u64, i as u64);
+    let mut place: usize = 0;
+    while place < n {
+        let q = site_block::check_block(
+            &image[512 * place..512 * place + 512],
+            n as u64,
+            place as u64,
+        );
         let Check::Sound = q else {
             return q;
         };
-        i += 1;
+        place += 1;
     }
     Check::Sound
 }

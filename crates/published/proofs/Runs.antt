@@ -4,8 +4,8 @@ use mathlib.Core.List.{List}
 use mathlib.Core.Path.{_≡_, refl, sym, ap, subst}
 use native.Mathlib.Omega.{arith}
 use lib.ListN.{length}
-use Rattle.passes.proofs.Lawful.{lawful}
-use Rattle.passes.specs.Calls.{calls}
+use Rattle.pass.proofs.Lawful.{lawful}
+use Rattle.pass.specs.Calls.{calls}
 use Rattle.refusals.proofs.First.{orElse-sound}
 use Rattle.refusals.specs.declared.Check.{Check}
 use Rattle.refusals.specs.declared.Check.the-variants.{Sound, Refused}

@@ -3,9 +3,9 @@ use Prim.Native.Nat.{ℕ}
 use mathlib.Core.List.{List}
 use denote.Ref.{now}
 use Rattle.ground.specs.Coincide.{All}
-use Rattle.register.proofs.put_run.Kinds as put-run-kinds
-use Rattle.register.proofs.put_run.Reads as put-run-reads
+use Rattle.register.proofs.put_state.Kinds as put-state-kinds
+use Rattle.register.proofs.put_state.Reads as put-state-reads
 use Rattle.text.proofs.Written.{once}
 
-pub put-run-coincide : All put-run-kinds.ps put-run-kinds.r (List ℕ) (λ κs s. now (s .0)) put-run-reads.Post
-put-run-coincide κs a x y s t p q = once p q
+pub put-state-coincide : All put-state-kinds.ps put-state-kinds.r (List ℕ) (λ κs s. now (s .0)) put-state-reads.Post
+put-state-coincide κs a x y s t p q = once p q

@@ -1,4 +1,4 @@
--- Rows of text, one behind the other, and how long the rows of a run are at most.
+-- Rows of text, one behind the other, and how long the rows of a state are at most.
 use Prim.Native.Nat.{ℕ, zero, suc, _+_, _*_, _≤_}
 use mathlib.Core.Bool.{Bool, true, false, cond}
 use mathlib.Core.List.{List, _++_, append-assoc}
@@ -12,7 +12,7 @@ use Rattle.lines.proofs.Chain.{as-text}
 use Rattle.lines.proofs.Lengths.{length-line, length-sides}
 use Rattle.lines.specs.Lines.{newline, line, sides}
 use Rattle.mark.specs.Mark.{mark as markOf}
-use Rattle.register.specs.Register.{siteLine, callLine, stateLines}
+use Rattle.register.specs.Register.{siteLine, stateLines}
 use Rattle.text.proofs.Width.{length-decimal}
 use Rattle.text.proofs.Written.{then, written-nothing}
 use Rattle.text.specs.Text.{ascii, decimal}
@@ -54,12 +54,6 @@ unfolding siteLine
 length-site drill live v =
     let b = eqb (markOf v drill live) 1 in
     rw (length-line (ascii "site ") (decimal v ++ cond b (ascii " drill") (ascii " live"))) (omega (arith, said b (decimal v) (length-decimal v)))
-
-pub length-call : (i a : ℕ) → length (callLine i a) ≤ 47
-unfolding callLine
-length-call i a =
-    rw (length-line (ascii "call ") (decimal i ++ (ascii " " ++ decimal a)))
-    (omega (arith, length-append (decimal i) (ascii " " ++ decimal a), length-decimal i, length-decimal a))
 
 pub length-state : (n : ℕ) (s : List ℕ) → length (stateLines n s) ≤ 130 + 32 * n
 unfolding stateLines

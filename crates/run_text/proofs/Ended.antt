@@ -13,11 +13,11 @@ use Rattle.lines.specs.Lines.{explained}
 use Rattle.refusals.specs.declared.Check.{Check}
 use Rattle.refusals.specs.declared.Check.the-variants.{Sound, Refused}
 use Rattle.refusals.specs.declared.Refusal.{Refusal}
-use Rattle.register.specs.Register.{endLines}
+use Rattle.outcome.specs.Outcome.{endLines}
 use Rattle.check_text.proofs.Ways.{image-sound, image-refused}
 use Rattle.run_text.specs.Run.{ranText, runText}
 use Rattle.run.proofs.RunWays.{Fits, fits}
-use Rattle.run.specs.Run.{runCheck, runOf, toRan, ran, stateInto, answersInto}
+use Rattle.run.specs.Run.{runCheck, theRun, toRan, ran, stateInto, answersInto}
 use Rattle.run.specs.declared.Ran.{Ran}
 use Rattle.table.specs.Table.{sites}
 use Rattle.rules.specs.State.{size}
@@ -40,12 +40,12 @@ in-front result room left k h e l =
 module _ (t : List ℕ) (F : ℕ) (list : List ℕ) where
   pub ran-refused : (r : Refusal) → Ran.Refused r ≡ ran t F list 262 4096 → explained r ≡ ranText F t list
   unfolding ranText ran
-  ran-refused r h = rw (ran-stopped (runCheck t F (length list) 262 4096) (runOf t F list .passes) r h) refl
+  ran-refused r h = rw (ran-stopped (runCheck t F (length list) 262 4096) (theRun t F list .passes) r h) refl
 
   module _ (p : ℕ) (h : Ran.Passes p ≡ ran t F list 262 4096) where
-    whole : (runCheck t F (length list) 262 4096 ≡ Sound) × (p ≡ runOf t F list .passes)
+    whole : (runCheck t F (length list) 262 4096 ≡ Sound) × (p ≡ theRun t F list .passes)
     unfolding ran
-    whole = ran-taken (runCheck t F (length list) 262 4096) (runOf t F list .passes) p h
+    whole = ran-taken (runCheck t F (length list) 262 4096) (theRun t F list .passes) p h
 
     pub fitting : Fits t (length list) 262 4096
     fitting = fits t F (length list) 262 4096 (whole .0)
@@ -57,8 +57,8 @@ module _ (t : List ℕ) (F : ℕ) (list : List ℕ) where
     unfolding ranText stateInto answersInto
     ran-ended n states answers s a en ls la ks ka es ea =
         let f = fitting in
-        let x = in-front (runOf t F list .state) states s (size (sites (length t))) (omega (arith, f .states)) es (ks ∙ sym ls) in
-        let y = in-front (runOf t F list .answers) answers a (length list / 4) (omega (arith, f .many)) ea (ka ∙ sym la) in
+        let x = in-front (theRun t F list .state) states s (size (sites (length t))) (omega (arith, f .states)) es (ks ∙ sym ls) in
+        let y = in-front (theRun t F list .answers) answers a (length list / 4) (omega (arith, f .many)) ea (ka ∙ sym la) in
         rw (en, whole .0, whole .1, x, y) refl
 
 -- on an image

@@ -3,9 +3,9 @@ use Prim.Native.Nat.{ℕ}
 use mathlib.Core.List.{List}
 use lib.ListN.{length}
 use Rattle.lines.specs.Lines.{explained}
-use Rattle.register.specs.Register.{endLines}
+use Rattle.outcome.specs.Outcome.{endLines}
 use Rattle.check_text.specs.Table.{tableOn, imageCheck, unless}
-use Rattle.run.specs.Run.{runCheck, runOf}
+use Rattle.run.specs.Run.{runCheck, theRun}
 use Rattle.table.specs.Table.{sites}
 use Rattle.rules.specs.State.{size}
 
@@ -13,7 +13,7 @@ use Rattle.rules.specs.State.{size}
 unfoldable pub ranText : ℕ → List ℕ → List ℕ → List ℕ
 unfolding runCheck explained endLines
 ranText F t list =
-    let r = runOf t F list in
+    let r = theRun t F list in
     unless (runCheck t F (length list) (size 64) 4096) explained (endLines F (sites (length t)) (r .passes) (r .state) (r .answers))
 
 -- "the table as in reading, 10, 17": the lines of the run, or the refusal and what it means

@@ -21,7 +21,7 @@ fn run_read(table: &[u64], n: usize, faulty: u64, list: &[u8], room: &mut [u8]) 
     let ran = run::run(table, faulty, list, &mut state, &mut answers);
     match ran {
         Ran::Refused(r) => lines::put_explained(room, 0, r),
-        Ran::Passes(passes) => register::put_run(
+        Ran::Passes(passes) => outcome::put_run(
             room,
             faulty,
             n,

@@ -63,10 +63,10 @@ fn put_places(b: &mut [u8], m: &[u64])
     requires { ⌜ length (now m) ≡ 63 ⌝ }
     ensures { λ r. ⌜ now (b .exit) ≡ (take 8 (now (b .entry)) ++ places (now (m .entry)) 62) ++ drop 504 (now (b .entry)) ⌝ }
 {
-    let mut k: usize = 0;
-    while k < 62 {
-        le::put64(b, 8 + 8 * k, m[1 + k]);
-        k += 1;
+    let mut j: usize = 0;
+    while j < 62 {
+        le::put64(b, 8 + 8 * j, m[1 + j]);
+        j += 1;
     }
 }
 

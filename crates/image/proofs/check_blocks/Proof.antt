@@ -1,4 +1,4 @@
--- `check_blocks` meets its contract: the blocks before i are sound, and a refusal is the first.
+-- `check_blocks` meets its contract: the blocks before the place are sound, and a refusal is the first.
 use Prim.Native.Nat.{ℕ, _-_, _≤_}
 use mathlib.Core.Path.{_≡_, refl, sym, ap, _∙_}
 use native.Mathlib.Omega.{arith}
@@ -16,10 +16,10 @@ use mathlib.Core.List.{List}
 use Rattle.image.proofs.check_blocks.Tie as tie
 
 abbrev Inv-loop : tie.InvT-loop
-Inv-loop image n i₀ i = (i ≤ n) × (first (λ j. blockCheck n j (part 512 j image)) i ≡ Sound)
+Inv-loop image n place₀ place = (place ≤ n) × (first (λ j. blockCheck n j (part 512 j image)) place ≡ Sound)
 
 abbrev μ-loop : tie.MeasureT-loop
-μ-loop image n i₀ i = n - i
+μ-loop image n place₀ place = n - place
 
 loop-holds : tie.Need-loop-holds Inv-loop μ-loop
 unfolding first
@@ -33,8 +33,8 @@ returns c =
     let l = c .before .before .before .before .before .loop in
     let e = c .enum-told2 .given .1 in
     e
-    ∙ sym (first-stop (λ j. blockCheck (a .n) j (part 512 j b)) (a .n) (l .i) _ (omega arith) (l .inv .1)
-    (ap (λ (x : List ℕ). blockCheck (a .n) (l .i) x) (sym (part-cut 512 (l .i) b)) ∙ sym (c .before .before .check-block .ensures) ∙ e))
+    ∙ sym (first-stop (λ j. blockCheck (a .n) j (part 512 j b)) (a .n) (l .place) _ (omega arith) (l .inv .1)
+    (ap (λ (x : List ℕ). blockCheck (a .n) (l .place) x) (sym (part-cut 512 (l .place) b)) ∙ sym (c .before .before .check-block .ensures) ∙ e))
 
 loop-again : tie.Need-loop-again Inv-loop μ-loop
 loop-again c =
@@ -42,14 +42,14 @@ loop-again c =
     let l = c .before .before .before .before .before .loop in (
       omega arith,
       first-more _ _ (l .inv .1)
-          (ap (λ (x : List ℕ). blockCheck (a .n) (l .i) x) (sym (part-cut 512 (l .i) (now (a .image)))) ∙ sym (c .before .before .check-block .ensures) ∙ c .enum-told .given .1),
+          (ap (λ (x : List ℕ). blockCheck (a .n) (l .place) x) (sym (part-cut 512 (l .place) (now (a .image)))) ∙ sym (c .before .before .check-block .ensures) ∙ c .enum-told .given .1),
     )
 
 returns-2 : tie.Need-returns-2 Inv-loop μ-loop
 unfolding blocksCheck
 returns-2 c =
     let l = c .before .loop in
-    let e : l .i ≡ c .before .before .before .args .n = omega arith in
+    let e : l .place ≡ c .before .before .before .args .n = omega arith in
     sym (rw e at (l .inv .1))
 
 pub check-blocks-spec : {M : Type 1} → statement M

@@ -13,7 +13,9 @@ use Rattle.register.proofs.put_state.Statement.{statement}
 use Rattle.register.proofs.put_state.Tie as tie
 
 line-sides-requires-2 : tie.Need-line-sides-requires-2
-line-sides-requires-2 c κs = let a = c .before .before .before .before .before .before .before .before .before .before .before .before .before .before .before .args in omega (arith, length-sides (ascii "voted ") (getD (now (a .state)) (4 * a .n) 0) (getD (now (a .state)) (4 * a .n + 1) 0))
+line-sides-requires-2 c κs =
+    let a = c .before .before .before .before .before .before .before .before .before .before .before .before .before .before .before .args in
+    omega (arith, length-sides (ascii "voted ") (getD (now (a .state)) (4 * a .n) 0) (getD (now (a .state)) (4 * a .n + 1) 0))
 
 line-sides-requires-3 : tie.Need-line-sides-requires-3
 line-sides-requires-3 c κs =
@@ -38,7 +40,8 @@ returns : tie.Need-returns
 returns c =
     let a = c .before .before .before .before .before .before .before .before .before .before .before .before .before .before .before .before .before .before .before .before .before .before .before .before .before .before .before .args in
     as-text (state-lines (a .n) (now (a .state)))
-    (three (c .before .before .before .before .before .before .before .before .before .before .before .before .before .before .before .before .before .before .line-sides .ensures) (c .before .before .before .before .before .before .before .before .before .before .before .line-sides2 .ensures)
+    (three (c .before .before .before .before .before .before .before .before .before .before .before .before .before .before .before .before .before .before .line-sides .ensures)
+    (c .before .before .before .before .before .before .before .before .before .before .before .line-sides2 .ensures)
     (then (c .before .before .before .before .before .before .line-sides3 .ensures) (c .before .before .put-sites .ensures)
     (omega (
       arith,

@@ -1,8 +1,8 @@
 -- `run_read` meets its contract: the refusal, or the lines of the run that stands in front of the two rooms.
-use Prim.Native.Nat.{_+_, _*_, _/_}
+use Prim.Native.Nat.{_+_, _*_, _/_, _≤_}
 use mathlib.Core.Path.{_≡_, refl, sym, ap, _∙_}
 use native.Mathlib.Omega.{arith}
-use lib.ListN.{length}
+use lib.ListN.{length, take}
 use lib.Seq.{length-take-le}
 use borrow.Author.Needs.{needs}
 use denote.Ref.{now}
@@ -22,7 +22,8 @@ slice-aggregate-put-run c = sym (length-take-le _ _ (array-share-prefix-state (c
 array-share-prefix-answers : tie.Need-array-share-prefix-answers
 array-share-prefix-answers c =
     let a = c .before .before .before .before .before .before .before .before .before .before .before .before .before .args in
-    omega (arith, fitting (now (a .table)) (a .faulty) (now (a .list)) _ (sym (c .before .before .before .ran2 .given .1) ∙ c .before .before .before .before .before .before .before .run .ensures .0) .many, c .before .before .before .before .before .before .before .run .kept .1 .1 .1 .1 .0)
+    let r = c .before .before .before .before .before .before .before .run in
+    omega (arith, fitting (now (a .table)) (a .faulty) (now (a .list)) _ (sym (c .before .before .before .ran2 .given .1) ∙ r .ensures .0) .many, r .kept .1 .1 .1 .1 .0)
 
 slice-aggregate-put-run-2 : tie.Need-slice-aggregate-put-run-2
 slice-aggregate-put-run-2 c = sym (length-take-le _ _ (array-share-prefix-answers (c .before)))
@@ -30,11 +31,14 @@ slice-aggregate-put-run-2 c = sym (length-take-le _ _ (array-share-prefix-answer
 put-run-requires : tie.Need-put-run-requires
 put-run-requires c κs =
     let s = c .before .before .before .before .before .before .before .before .before .before .before .before .before .before in
-    let a = s .args in (
+    let a = s .args in
+    let g = c .before .before .before .before in
+    let r = g .before .before .before .before .run in
+    let f = fitting (now (a .table)) (a .faulty) (now (a .list)) _ (sym (g .ran2 .given .1) ∙ r .ensures .0) in
+    let few : length (take (length (now (a .list)) / 4) (r .last .1 .1 .1 .1 .0)) ≤ 4096 =
+    omega (arith, length-take-le (length (now (a .list)) / 4) (r .last .1 .1 .1 .1 .0) (array-share-prefix-answers (c .before)), f .few) in (
       search needs,
-      length-take-le _ _ (array-share-prefix-state (c .before .before)),
-      s .pre .1 .1,
-      omega (arith, length-take-le (length (now (a .list)) / 4) (c .before .before .before .before .before .before .before .before .run .last .1 .1 .1 .1 .0) (array-share-prefix-answers (c .before)), fitting (now (a .table)) (a .faulty) (now (a .list)) _ (sym (c .before .before .before .before .ran2 .given .1) ∙ c .before .before .before .before .before .before .before .before .run .ensures .0) .few),
+      (length-take-le _ _ (array-share-prefix-state (c .before .before)), (s .pre .1 .1, few)),
     )
 
 returns : tie.Need-returns

@@ -27,7 +27,7 @@ loop-again c =
       omega arith,
       c .before .before .put64 .kept .0 ∙ l .inv .1,
       c .before .before .put64 .ensures
-          ∙ places-again (l .b) (now (s .args .b)) (now (s .args .m)) (l .k) (s .pre .0) (c .before .before .before .before .before .loop-test .taken) (l .inv .2),
+          ∙ places-again (l .b) (now (s .args .b)) (now (s .args .m)) (l .j) (s .pre .0) (c .before .before .before .before .before .loop-test .taken) (l .inv .2),
     )
 
 same-length : tie.Need-same-length Inv-loop μ-loop
@@ -36,7 +36,7 @@ same-length c = c .before .loop .inv .1 ∙ sym (c .before .before .before .befo
 returns : tie.Need-returns Inv-loop μ-loop
 returns c =
     let l = c .before .loop in
-    let e : l .k ≡ 62 = omega arith in
+    let e : l .j ≡ 62 = omega arith in
     rw e at (l .inv .2)
 
 pub put-places-spec : {M : Type 1} → statement M

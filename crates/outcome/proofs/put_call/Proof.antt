@@ -3,10 +3,10 @@ use native.Mathlib.Omega.{arith}
 use borrow.Author.Needs.{needs}
 use Rattle.lines.proofs.Chain.{five}
 use Rattle.lines.specs.Lines.{line}
-use Rattle.register.specs.Register.{callLine}
+use Rattle.outcome.specs.Outcome.{callLine}
 use Rattle.text.proofs.Width.{length-decimal}
-use Rattle.register.proofs.put_call.Statement.{statement}
-use Rattle.register.proofs.put_call.Tie as tie
+use Rattle.outcome.proofs.put_call.Statement.{statement}
+use Rattle.outcome.proofs.put_call.Tie as tie
 
 put-requires-2 : tie.Need-put-requires-2
 put-requires-2 c κs = omega (arith, length-decimal (c .before .before .before .before .before .before .before .before .before .before .before .before .args .i))
@@ -15,13 +15,19 @@ put-decimal-requires-2 : tie.Need-put-decimal-requires-2
 put-decimal-requires-2 c κs = omega (arith, length-decimal (c .before .before .before .before .before .before .before .before .before .before .before .before .before .before .before .before .args .i))
 
 put-requires-3 : tie.Need-put-requires-3
-put-requires-3 c κs = let a = c .before .before .before .before .before .before .before .before .before .before .before .before .before .before .before .before .before .before .before .before .before .args in omega (arith, length-decimal (a .i), length-decimal (a .answer))
+put-requires-3 c κs =
+    let a = c .before .before .before .before .before .before .before .before .before .before .before .before .before .before .before .before .before .before .before .before .before .args in
+    omega (arith, length-decimal (a .i), length-decimal (a .answer))
 
 returns : tie.Need-returns
 unfolding callLine line
 returns c =
-    five (c .before .before .before .before .before .before .before .before .before .before .before .before .before .before .before .before .before .before .before .before .put .ensures) (c .before .before .before .before .before .before .before .before .before .before .before .before .before .before .before .before .put-decimal .ensures) (c .before .before .before .before .before .before .before .before .before .before .before .put2 .ensures) (c .before .before .before .before .before .before .before .put-decimal2 .ensures)
-    (c .before .before .put3 .ensures) (omega arith)
+    let c5 = c .before .before in
+    let c4 = c5 .before .before .before .before .before in
+    let c3 = c4 .before .before .before .before in
+    let c2 = c3 .before .before .before .before .before in
+    let c1 = c2 .before .before .before .before in
+    five (c1 .put .ensures) (c2 .put-decimal .ensures) (c3 .put2 .ensures) (c4 .put-decimal2 .ensures) (c5 .put3 .ensures) (omega arith)
 
 pub put-call-spec : {M : Type 1} → statement M
 put-call-spec =

@@ -4,36 +4,44 @@ use borrow.Author.Needs.{needs}
 use denote.Ref.{now}
 use Rattle.lines.proofs.Chain.{three}
 use Rattle.lines.proofs.Lengths.{decimal-line, mask-line}
 use Rattle.register.proofs.Rows.{length-state}
-use Rattle.register.specs.Register.{endLines}
+use Rattle.outcome.specs.Outcome.{endLines}
 use Rattle.text.specs.Text.{ascii}
-use Rattle.register.proofs.put_run.Statement.{statement}
-use Rattle.register.proofs.put_run.Tie as tie
+use Rattle.outcome.proofs.put_run.Statement.{statement}
+use Rattle.outcome.proofs.put_run.Tie as tie
 
 line-mask-requires : tie.Need-line-mask-requires
 line-mask-requires c κs = let a = c .before .before .before .before .before .before .before .before .before .before .args in omega (arith, decimal-line (ascii "sites ") (a .n))
 
 line-decimal-requires-2 : tie.Need-line-decimal-requires-2
-line-decimal-requires-2 c κs = let a = c .before .before .before .before .before .before .before .before .before .before .before .before .before .before .before .args in omega (arith, decimal-line (ascii "sites ") (a .n), mask-line (ascii "faulty ") (a .faulty))
+line-decimal-requires-2 c κs =
+    let a = c .before .before .before .before .before .before .before .before .before .before .before .before .before .before .before .args in
+    omega (arith, decimal-line (ascii "sites ") (a .n), mask-line (ascii "faulty ") (a .faulty))
 
 put-state-requires : tie.Need-put-state-requires
 put-state-requires c κs =
     let s = c .before .before .before .before .before .before .before .before .before .before .before .before .before .before .before .before .before .before .before in
     let a = s .args in
-    (omega (arith, decimal-line (ascii "sites ") (a .n), mask-line (ascii "faulty ") (a .faulty), decimal-line (ascii "passes ") (a .passes)), s .pre .1, s .pre .2)
+    (omega (arith, decimal-line (ascii "sites ") (a .n), mask-line (ascii "faulty ") (a .faulty), decimal-line (ascii "passes ") (a .passes)), (s .pre .1 .0, s .pre .1 .1 .0))
 
 put-calls-requires : tie.Need-put-calls-requires
 put-calls-requires c κs =
     let s = c .before .before .before .before .before .before .before .before .before .before .before .before .before .before .before .before .before .before .before .before .before .before .before in
     let a = s .args in
-    omega (arith, decimal-line (ascii "sites ") (a .n), mask-line (ascii "faulty ") (a .faulty), decimal-line (ascii "passes ") (a .passes), length-state (a .n) (now (a .state)), s .pre .2, s .pre .3)
+    omega (arith, decimal-line (ascii "sites ") (a .n), mask-line (ascii "faulty ") (a .faulty), decimal-line (ascii "passes ") (a .passes), length-state (a .n) (now (a .state)), s .pre .1 .1 .0, s .pre .1 .1 .1)
 
 returns : tie.Need-returns
 unfolding endLines
 returns c =
     let a = c .before .before .before .before .before .before .before .before .before .before .before .before .before .before .before .before .before .before .before .before .before .before .before .before .before .before .args in
-    three (c .before .before .before .before .before .before .before .before .before .before .before .before .before .before .before .before .before .before .before .before .line-decimal .ensures) (c .before .before .before .before .before .before .before .before .before .before .before .before .before .before .before .line-mask .ensures)
-    (three (c .before .before .before .before .before .before .before .before .before .before .line-decimal2 .ensures) (c .before .before .before .before .before .before .put-state .ensures) (c .before .before .put-calls .ensures) (omega (arith, decimal-line (ascii "sites ") (a .n), mask-line (ascii "faulty ") (a .faulty))))
+    let c5 = c .before .before in
+    let c4 = c5 .before .before .before .before in
+    let c3 = c4 .before .before .before .before in
+    let c2 = c3 .before .before .before .before .before in
+    let c1 = c2 .before .before .before .before .before in
+    three (c1 .line-decimal .ensures) (c2 .line-mask .ensures)
+    (three (c3 .line-decimal2 .ensures) (c4 .put-state .ensures) (c5 .put-calls .ensures)
+    (omega (arith, decimal-line (ascii "sites ") (a .n), mask-line (ascii "faulty ") (a .faulty))))
     (omega arith)
 
 pub put-run-spec : {M : Type 1} → statement M

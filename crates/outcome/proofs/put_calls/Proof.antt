@@ -7,11 +7,12 @@ use lib.ListN.{length, getD}
 use borrow.Author.Needs.{needs}
 use denote.Ref.{now}
 use Rattle.ground.specs.Pieces.{cat}
-use Rattle.register.proofs.Rows.{no-row, row-more, length-rows, length-call}
-use Rattle.register.specs.Register.{callLine, callLines}
+use Rattle.outcome.proofs.Lengths.{length-call}
+use Rattle.register.proofs.Rows.{no-row, row-more, length-rows}
+use Rattle.outcome.specs.Outcome.{callLine, callLines}
 use Rattle.text.specs.Written.{Writes}
-use Rattle.register.proofs.put_calls.Statement.{statement}
-use Rattle.register.proofs.put_calls.Tie as tie
+use Rattle.outcome.proofs.put_calls.Statement.{statement}
+use Rattle.outcome.proofs.put_calls.Tie as tie
 
 -- the line of call i
 abbrev row : List ℕ → ℕ → List ℕ
@@ -36,7 +37,8 @@ loop-again : tie.Need-loop-again Inv-loop μ-loop
 loop-again c =
     let l = c .before .before .before .before .before .before .loop in
     let p = c .before .before .put-call in
-    (omega arith, p .kept .0 ∙ l .inv .1, row-more (row (now (c .before .before .before .before .before .before .before .before .before .args .answers))) (l .i) (l .inv .2) (p .ensures) (omega (arith, c .before .before .before .before .before .before .before .before .before .pre)))
+    let s = c .before .before .before .before .before .before .before .before .before in
+    (omega arith, p .kept .0 ∙ l .inv .1, row-more (row (now (s .args .answers))) (l .i) (l .inv .2) (p .ensures) (omega (arith, s .pre)))
 
 same-length : tie.Need-same-length Inv-loop μ-loop
 same-length c = c .before .loop .inv .1

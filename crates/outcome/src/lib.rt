@@ -1,0 +1,55 @@
+// The lines of a run: its passes, the state it ends in, and each call's answer.
+ghost use mathlib.Core.Path.{_≡_};
+ghost use Prim.Native.Nat.{_+_, _*_, _≤_};
+ghost use lib.ListN.{length};
+ghost use Rattle.outcome.specs.Outcome.{callLine, callLines, endLines};
+ghost use Rattle.rules.specs.State.{size};
+ghost use Rattle.text.specs.Written.{Writes};
+
+// The line of one call.
+fn put_call(room: &mut [u8], at: usize, i: usize, answer: u8) -> usize
+    requires { ⌜ at + 47 ≤ length (now room) ⌝ }
+    ensures { λ r. ⌜ Writes (callLine i answer) (now (room .entry)) at r (now (room .exit)) ⌝ }
+{
+    let at = text::put(room, at, b"call ");
+    let at = text::put_decimal(room, at, i as u64);
+    let at = text::put(room, at, b" ");
+    let at = text::put_decimal(room, at, answer as u64);
+    text::put(room, at, b"\n")
+}
+
+// The line of each call.
+fn put_calls(room: &mut [u8], at: usize, answers: &[u8]) -> usize
+    requires { ⌜ at + 47 * length (now answers) ≤ length (now room) ⌝ }
+    ensures { λ r. ⌜ Writes (callLines (now (answers .entry))) (now (room .entry)) at r (now (room .exit)) ⌝ }
+{
+    let mut end = at;
+    let mut i: usize = 0;
+    while i < answers.len() {
+        end = put_call(room, end, i, answers[i]);
+        i += 1;
+    }
+    end
+}
+
+// The lines of a run.
+pub fn put_run(
+    room: &mut [u8],
+    faulty: u64,
+    n: usize,
+    passes: u64,
+    state: &[u64],
+    answers: &[u8],
+) -> usize
+    requires { ⌜ 196608 ≤ length (now room) ⌝ }
+    requires { ⌜ length (now state) ≡ size n ⌝ }
+    requires { ⌜ n ≤ 64 ⌝ }
+    requires { ⌜ length (now answers) ≤ 4096 ⌝ }
+    ensures { λ r. ⌜ Writes (endLines faulty n passes (now (state .entry)) (now (answers .entry))) (now (room .entry)) 0 r (now (room .exit)) ⌝ }
+{
+    let at = lines::line_decimal(room, 0, b"sites ", n as u64);
+    let at = lines::line_mask(room, at, b"faulty ", faulty);
+    let at = lines::line_decimal(room, at, b"passes ", passes);
+    let at = register::put_state(room, at, n, state);
+    put_calls(room, at, answers)
+}
