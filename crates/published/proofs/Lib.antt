@@ -1,3 +1,5 @@
 pub mod Sets
 pub mod Voting
 pub mod Runs
+pub mod Files
+pub mod Never

@@ -174,6 +174,12 @@ module _ {t : List ℕ} {n : ℕ} (T : Table t n) (w : ℕ) (sub : w ⊆ allBelo
     pub same-rounds : SetQuorum.rounds s n w ≡ k
     same-rounds = same-of (SetQuorum.rounds s n w) k no-more no-fewer
 
+pub largest-inside : {t : List ℕ} {n : ℕ} → Table t n → (w : ℕ) → w ⊆ allBelow n →
+    LargestInside (fbqsOf t n) w (SetQuorum.largest (slicesOf t .inside) n w) (SetQuorum.rounds (slicesOf t .inside) n w)
+largest-inside {t} {n} T w sub =
+    let G = table-decides t n T .largest-decides w in
+    record { none-or-quorum = G .none-or-quorum; inside = G .inside; contains = G .contains; rounds = rounds-are T w sub }
+
 greatest-inv : (c : Check) (s k q j : ℕ) → toGreatest c s k ≡ Set q j → (c ≡ Sound) × (s ≡ q) × (k ≡ j)
 greatest-inv Sound s k q j e = (refl, cc, cc)
 greatest-inv (Refused r) s k q j e = let z : _≡_ {A = ℕ} 0 1 = cc in absurd (omega arith)
@@ -186,10 +192,7 @@ largest-as-published t set q k =
     let m = SetQuorum.rounds (slicesOf t .inside) n set in (
       λ e. let x = greatest-inv (setCheck t set) l m q k e in
           let p = proper-of t set (x .0) in
-          let G = table-decides t n (p .0) .largest-decides set in
-          let found : LargestInside (named t) set l m =
-          record { none-or-quorum = G .none-or-quorum; inside = G .inside; contains = G .contains; rounds = rounds-are (p .0) set (p .1) } in
-          (p, subst (λ (z : ℕ). LargestInside (named t) set q z) (x .2) (subst (λ (z : ℕ). LargestInside (named t) set z m) (x .1) found)),
+          (p, subst (λ (z : ℕ). LargestInside (named t) set q z) (x .2) (subst (λ (z : ℕ). LargestInside (named t) set z m) (x .1) (largest-inside (p .0) set (p .1)))),
       λ x. let p = x .0 in
           let L = x .1 in
           let G = table-decides t n (p .0) .largest-decides set in

@@ -1,0 +1,168 @@
+-- What is read is what is filed; the lines of a verdict and of the register are the paper's.
+use Prim.Native.Nat.{ℕ, _≤_, _<_}
+use mathlib.Core.Bool.{Bool, true, not, _&&_, cond}
+use mathlib.Core.List.{List, _++_}
+use mathlib.Core.Logic.{⊎-elim, _↔_}
+use mathlib.Core.Path.{_≡_, refl, sym, ap, _∙_, subst}
+use native.Mathlib.Omega.{arith}
+use borrow.Author.Tests.{eqb-true, le-ltb}
+use lib.Dec.{eqb}
+use lib.ListN.{length, length-append}
+use Rattle.check_text.specs.Table.{sitesOn, tableOn, imageCheck}
+use Rattle.ground.proofs.Logic.{cases, and-l, and-r, and-i, clash, is-false, not-t}
+use Rattle.ground.specs.Pieces.{part}
+use Rattle.image.proofs.Load.{loads-site}
+use Rattle.image.proofs.ReadLaws.{read-taken, blocks-shape, loads-table}
+use Rattle.image.specs.Image.{loads}
+use Rattle.image.specs.Read.{read}
+use Rattle.image.specs.declared.Reading as Reading
+use Rattle.lines.proofs.Lengths.{length-line}
+use Rattle.lines.specs.Lines.{line}
+use Rattle.mark.specs.Mark.{mark}
+use Rattle.masks.proofs.Laws.Subsets.{mem, ⊆-within, minus-⊆}
+use Rattle.masks.specs.Mask.{has, allBelow, minus, _∈_, _⊆_}
+use Rattle.outcome.specs.Outcome.{endLines}
+use Rattle.pass.proofs.Lawful.{lawful}
+use Rattle.pass.specs.Calls.{calls}
+use Rattle.refusals.specs.declared.Check.the-variants.{Sound}
+use Rattle.register.specs.Register.{siteLine}
+use Rattle.rules.proofs.WorkWays.{table-rests}
+use Rattle.rules.specs.State.{accepts, confirmed, get}
+use Rattle.rules.specs.Vote.{voteOf}
+use Rattle.run.specs.Run.{theRun}
+use Rattle.run_text.specs.Run.{runText, ranText}
+use Rattle.sets.specs.Quorum.{largest, rounds}
+use Rattle.sets.specs.Slices.{fbqsOf, slicesOf}
+use Rattle.site_block.proofs.Load.{load-count, load-slice}
+use Rattle.site_block.specs.Block.{countField, sliceField}
+use Rattle.table.proofs.Exact.{exact}
+use Rattle.table.proofs.SetCheck.{set-sound}
+use Rattle.table.proofs.Table.{sites-of}
+use Rattle.table.specs.Table.{count, slice, countOf, sliceOf, sites, Table}
+use Rattle.text.specs.Text.{ascii, decimal}
+use Rattle.verdict_text.specs.Verdict.{judgedText, verdictText}
+use Rattle.verdicts.proofs.Decides.{table-verdicts}
+use Rattle.verdicts.specs.Verdicts.{meets, intact}
+use Rattle.votes.proofs.AnyVote.{is-run}
+use Rattle.published.proofs.Sets.{largest-inside}
+use Rattle.published.proofs.Voting.{of-state}
+use Rattle.published.specs.Files.{VerdictOf, ReadAsFiled, VerdictAsPublished, RegisterAsPublished}
+use Rattle.published.specs.Voting.{Confirms}
+
+reads : (image : List ℕ) → imageCheck image ≡ Sound → read image 4032 ≡ Reading.Reading.Sites (sitesOn image)
+unfolding read imageCheck
+reads image e = rw e refl
+
+image-table : (image : List ℕ) → imageCheck image ≡ Sound → Table (tableOn image) (sitesOn image)
+image-table image e =
+    let x = read-taken image 4032 (sitesOn image) (reads image e) in
+    let s = blocks-shape (length image) (x .0) in
+    loads-table (sitesOn image) image (s .1) (s .2) (x .2)
+
+module _ (n : ℕ) (image : List ℕ) (v : ℕ) (l : v < n) where
+  count-on : countOf (loads n image) v ≡ countField (part 512 v image)
+  count-on = ap count (loads-site n image v l) ∙ load-count (part 512 v image)
+
+  slice-on : (i : ℕ) → i < 62 → sliceOf (loads n image) v i ≡ sliceField (part 512 v image) i
+  slice-on i h = ap (λ (m : List ℕ). slice m i) (loads-site n image v l) ∙ load-slice (part 512 v image) i h
+
+pub read-as-filed : ReadAsFiled
+read-as-filed image e =
+    let T = image-table image e in
+    let n = sitesOn image in (
+      T,
+      λ v q l.
+          let c = count-on n image v l in
+          let few = T .few-slices v l in (
+            λ x. (x .0, subst (λ (k : ℕ). x .0 < k) (sym c) (x .1), x .2 ∙ sym (slice-on n image v l (x .0) (omega (arith, x .1, c, few)))),
+            λ x. (x .0, subst (λ (k : ℕ). x .0 < k) c (x .1), x .2 ∙ slice-on n image v l (x .0) (omega (arith, x .1, few))),
+          ),
+    )
+
+-- the line of a site
+is-drill : (drill live v : ℕ) → v ≤ 63 → (mark v drill live ≡ 1) ↔ ((v ∈ drill) × (v ∈ live → ⊥))
+unfolding mark
+is-drill drill live v h = (
+  λ e. both (rw (le-ltb 63 v h) at e),
+  λ x. rw (le-ltb 63 v h, and-i (x .0 .holds) (ap not (is-false (has live v) (λ z. x .1 (mem z))))) refl,
+)
+  where
+    one : (b : Bool) → _≡_ {A = ℕ} (cond b 1 0) 1 → b ≡ true
+    one true e = refl
+    one false e = absurd (omega (arith, e))
+
+    both : _≡_ {A = ℕ} (cond (has drill v && not (has live v)) 1 0) 1 → (v ∈ drill) × (v ∈ live → ⊥)
+    both e =
+        let z = one (has drill v && not (has live v)) e in
+        (mem (and-l (has drill v) (not (has live v)) z), λ y. clash (y .holds) (not-t (has live v) (and-r (has drill v) (not (has live v)) z)))
+
+drill-line : (drill live v : ℕ) → (siteLine drill live v ≡ line (ascii "site ") (decimal v ++ ascii " drill")) ↔ (mark v drill live ≡ 1)
+unfolding siteLine
+drill-line drill live v = (
+  λ e. ⊎-elim (λ h. eqb-true (mark v drill live) 1 h) (λ h. absurd (other (rw h at e))) (cases (eqb (mark v drill live) 1)),
+  λ h. rw h refl,
+)
+  where
+    other : line (ascii "site ") (decimal v ++ ascii " live") ≡ line (ascii "site ") (decimal v ++ ascii " drill") → ⊥
+    other e =
+        omega (arith, ap length e, length-line (ascii "site ") (decimal v ++ ascii " live"), length-line (ascii "site ") (decimal v ++ ascii " drill"),
+        length-append (decimal v) (ascii " live"), length-append (decimal v) (ascii " drill"))
+
+-- of a table that was read, of as many sites as its length says
+module _ (t : List ℕ) (F : ℕ) (T : Table t (sites (length t))) where
+  abbrev n : ℕ
+  n = sites (length t)
+
+  drills : (list : List ℕ) (v : ℕ) → v < n → (v ∈ F → ⊥) →
+      let s = theRun t F list .state in
+      (siteLine (get s (confirmed n 0)) (get s (confirmed n 1)) v ≡ line (ascii "site ") (decimal v ++ ascii " drill"))
+      ↔ (Confirms (fbqsOf t n) v (get s (accepts 0 v)) × (Confirms (fbqsOf t n) v (get s (accepts 1 v)) → ⊥))
+  drills list v l f =
+      let s = theRun t F list .state in
+      let P = of-state (table-rests T) (is-run (voteOf t n F) (lawful T F) (calls list) .1) in
+      let a = P v 0 l (omega arith) f .1 in
+      let b = P v 1 l (omega arith) f .1 in
+      let d = is-drill (get s (confirmed n 0)) (get s (confirmed n 1)) v (omega (arith, T .few-sites)) in
+      let k = drill-line (get s (confirmed n 0)) (get s (confirmed n 1)) v in (
+        λ x. let y = d .0 (k .0 x) in (a .0 (y .0), λ z. y .1 (b .1 z)),
+        λ x. k .1 (d .1 (a .1 (x .0), λ z. x .1 (b .0 z))),
+      )
+
+  judged : F ⊆ allBelow n → n ≤ 12 → VerdictOf (fbqsOf t n) n F (judgedText F t)
+  unfolding judgedText
+  judged sub l =
+      let D = table-verdicts t n T in
+      let w = minus (allBelow n) F in
+      let s = slicesOf t .inside in
+      record {
+        meet = meets s n;
+        whole = intact (slicesOf t) n F;
+        quorum = largest s n w;
+        rounds = rounds s n w;
+        lines = rw (set-sound t F (exact t .1 T) (⊆-within sub), le-ltb 12 n l) refl;
+        meets = D .meets-decides;
+        intact = record { intact-in = D .intact-set F; befouled-rest = D .befouled-set F };
+        outside = largest-inside T w (minus-⊆ (allBelow n) F);
+      }
+
+pub register-as-published : RegisterAsPublished
+unfolding runText ranText
+register-as-published F image list e c =
+    let t = tableOn image in
+    let T = image-table image e in
+    let same : sites (length t) ≡ sitesOn image = sites-of T in
+    let r = theRun t F list in (
+      rw (e, c) (ap (λ (m : ℕ). endLines F m (r .passes) (r .state) (r .answers)) same),
+      subst (λ (m : ℕ). (v : ℕ) → v < m → (v ∈ F → ⊥) →
+      (siteLine (get (r .state) (confirmed m 0)) (get (r .state) (confirmed m 1)) v ≡ line (ascii "site ") (decimal v ++ ascii " drill"))
+      ↔ (Confirms (fbqsOf t m) v (get (r .state) (accepts 0 v)) × (Confirms (fbqsOf t m) v (get (r .state) (accepts 1 v)) → ⊥))) same
+      (drills t F (subst (Table t) (sym same) T) list),
+    )
+
+pub verdict-as-published : VerdictAsPublished
+unfolding verdictText
+verdict-as-published F image e =
+    let t = tableOn image in
+    let T = image-table image e in
+    let same : sites (length t) ≡ sitesOn image = sites-of T in
+    rw e (subst (λ (m : ℕ). F ⊆ allBelow m → m ≤ 12 → VerdictOf (fbqsOf t m) m F (judgedText F t)) same (judged t F (subst (Table t) (sym same) T)))
