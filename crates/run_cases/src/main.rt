@@ -1,24 +1,86 @@
-// The run of a list on the examples of the rules and on their edges: one line a case.
-use refusals::Refusal;
+// The run of a list on the examples of the rules and on their edges, as standard input has them, a command to a line: a letter, and behind it a text or
+// numbers.
+//   # ..                     a remark
+//   = TEXT                   writes the text
+//   (an empty line)          ends the line that is written
+//   t AT X                   number AT of the table becomes X
+//   c AT KIND FROM TO SIDE   call AT of the list
+//   o X                      every number of the state and every answer becomes X
+//   r NUMBERS BYTES FAULTY STATE ANSWERS
+//                            the run of so many bytes of the list, on so many numbers of the table, with these sites faulty, in rooms for so many numbers
+//                            of the state and so many answers: its passes or its refusal
+//   m FROM TO                writes the state from one place to another
+//   a FROM TO                writes the answers from one place to another
+ghost use Prim.Native.Nat.{_≤_};
+ghost use lib.ListN.{length};
 use run::Ran;
 
-fn say(text: &[u8]) {
-    io::write_all(1, text);
+// The number x with the digit b behind it, which wraps past 64 bits; a byte that is no digit changes nothing.
+fn digit(x: u64, b: u8) -> u64 {
+    if b < 48 {
+        return x;
+    }
+    if 57 < b {
+        return x;
+    }
+    std::num::wrapping_add_u64(10 * (x % 1844674407370955162), (b - 48) as u64)
 }
 
+// The number in word k of a line, the letter being word 0.
+fn word(line: &[u8], k: usize) -> u64 {
+    let mut x = 0;
+    let mut left = k;
+    for i in 0..line.len() {
+        if line[i] == b' ' {
+            if left == 0 {
+                return x;
+            }
+            left -= 1;
+        }
+        if left == 0 {
+            x = digit(x, line[i]);
+        }
+    }
+    x
+}
+
+// Where the line that begins at a place of the text ends.
+fn line_end(text: &[u8], at: usize) -> usize
+    requires { ⌜ at ≤ length (now text) ⌝ }
+    ensures { λ r. ⌜ (at ≤ r) × (r ≤ length (now (text .entry))) ⌝ }
+{
+    let mut end = at;
+    while end < text.len() {
+        if text[end] == b'\n' {
+            return end;
+        }
+        end += 1;
+    }
+    end
+}
+
+// Writes a number.
 fn number(x: u64) {
-    say(b" ");
+    io::write_all(1, b" ");
     io::print_decimal(1, x);
 }
 
-fn refused(r: Refusal) {
-    say(b" refused");
-    number(refusals::number(r));
-    number(refusals::place(r));
-    say(b"\n");
+// Writes the answer of a run: its passes or its refusal.
+fn answer(ran: Ran) {
+    match ran {
+        Ran::Passes(n) => {
+            io::write_all(1, b" passes");
+            number(n);
+        }
+        Ran::Refused(r) => {
+            io::write_all(1, b" refused");
+            number(refusals::number(r));
+            number(refusals::place(r));
+        }
+    }
 }
 
-// The numbers of a room, from one place to another.
+// Writes the numbers of a room, from one place to another.
 fn numbers(room: &[u64], from: usize, to: usize) {
     for i in from..to {
         if i < room.len() {
@@ -27,207 +89,133 @@ fn numbers(room: &[u64], from: usize, to: usize) {
     }
 }
 
-// A byte as a number.
-fn wide(x: u8) -> u64 {
-    x as u64
-}
-
-// The bytes of a room.
-fn bytes(room: &[u8]) {
-    for i in 0..room.len() {
-        number(wide(room[i]));
-    }
-}
-
-// The run of a list: its passes or its refusal.
-fn passes(
-    name: &[u8],
-    table: &[u64],
-    faulty: u64,
-    list: &[u8],
-    state: &mut [u64],
-    answers: &mut [u8],
-) {
-    say(name);
-    let answer = run::run(table, faulty, list, state, answers);
-    match answer {
-        Ran::Passes(n) => {
-            say(b" passes");
-            number(n);
-            say(b"\n");
+// Writes the bytes of a room, from one place to another.
+fn bytes(room: &[u8], from: usize, to: usize) {
+    for i in from..to {
+        if i < room.len() {
+            number(room[i] as u64);
         }
-        Ran::Refused(r) => refused(r),
     }
 }
 
-// The same in rooms for four sites and sixteen calls, each with something behind, and what they hold then.
-fn four(name: &[u8], table: &[u64], faulty: u64, list: &[u8]) {
-    let mut state = [9u64; 23];
-    let mut answers = [9u8; 17];
-    passes(name, table, faulty, list, &mut state, &mut answers);
-    say(b"masks");
-    numbers(&state, 16, 23);
-    say(b"\nanswers");
-    bytes(&answers);
-    say(b"\n");
+// The run of a line in rooms of the size that it says.
+fn run(line: &[u8], table: &[u64], list: &[u8], state: &mut [u64], answers: &mut [u8]) {
+    let s = word(line, 4) as usize;
+    let a = word(line, 5) as usize;
+    if state.len() < s {
+        return;
+    }
+    if answers.len() < a {
+        return;
+    }
+    answer(run::run(
+        table,
+        word(line, 3),
+        list,
+        &mut state[0..s],
+        &mut answers[0..a],
+    ));
 }
 
-// Number i becomes x, if there is one.
-fn put(room: &mut [u64], i: usize, x: u64) {
-    if i < room.len() {
-        room[i] = x;
+// The run of a line, on so many numbers of the table and so many bytes of the list.
+fn run_line(line: &[u8], table: &[u64], list: &[u8], state: &mut [u64], answers: &mut [u8]) {
+    let n = word(line, 1) as usize;
+    let end = word(line, 2) as usize;
+    if table.len() < n {
+        return;
+    }
+    if list.len() < end {
+        return;
+    }
+    run(line, &table[0..n], &list[0..end], state, answers);
+}
+
+// Every number of the state and every answer becomes x.
+fn fill(x: u64, state: &mut [u64; 23], answers: &mut [u8; 4097]) {
+    *state = [x; 23];
+    *answers = [(x % 256) as u8; 4097];
+}
+
+// Changes a number of the table.
+fn put(line: &[u8], table: &mut [u64]) {
+    let at = word(line, 1) as usize;
+    if at < table.len() {
+        table[at] = word(line, 2);
     }
 }
 
-// Site v has the three slices a, b and c.
-fn three(table: &mut [u64], v: u32, a: u64, b: u64, c: u64) {
-    let at = 63 * (v as usize);
-    put(table, at, 3);
-    put(table, at + 1, a);
-    put(table, at + 2, b);
-    put(table, at + 3, c);
+// Byte AT of the list becomes x.
+fn put_byte(list: &mut [u8], at: usize, x: u64) {
+    if at < list.len() {
+        list[at] = (x % 256) as u8;
+    }
 }
 
-// Table B of the rules: all three-site sets with the owner.
-fn make_b(table: &mut [u64]) {
-    three(table, 0, 7, 11, 13);
-    three(table, 1, 7, 11, 14);
-    three(table, 2, 7, 13, 14);
-    three(table, 3, 11, 13, 14);
+// Changes a call of the list.
+fn call(line: &[u8], list: &mut [u8]) {
+    let i = word(line, 1);
+    if i < 4097 {
+        let at = 4 * (i as usize);
+        put_byte(list, at, word(line, 2));
+        put_byte(list, at + 1, word(line, 3));
+        put_byte(list, at + 2, word(line, 4));
+        put_byte(list, at + 3, word(line, 5));
+    }
 }
 
-// Lists of the rules, and one whose order does not matter.
-fn on_b(table: &[u64]) {
-    four(b"empty", table, 0, b"");
-    four(
-        b"vote before proposal",
-        table,
-        0,
-        b"\x01\x00\x01\x00\x00\x00\x00\x00",
-    );
-    four(
-        b"drill first",
-        table,
-        0,
-        b"\x00\x00\x00\x00\x00\x00\x00\x01",
-    );
-    four(b"live first", table, 0, b"\x00\x00\x00\x01\x00\x00\x00\x00");
-    four(
-        b"bad calls",
-        table,
-        8,
-        b"\x03\x00\x00\x00\x00\x00\x01\x00\x00\x03\x03\x00\x01\x00\x01\x01\x01\x04\x00\x00",
-    );
+// Writes a text, or ends its line.
+fn say(line: &[u8]) {
+    if line.len() < 2 {
+        io::write_all(1, b"\n");
+        return;
+    }
+    io::write_all(1, &line[2..line.len()]);
 }
 
-fn orders_on_b(table: &[u64]) {
-    four(
-        b"forward",
-        table,
-        8,
-        b"\x00\x00\x00\x00\x00\x01\x01\x00\x00\x02\x02\x00\x01\x01\x00\x00\x01\x02\x00\x00\x02\x00\x01\x00\x02\x03\x01\x00",
-    );
-    four(
-        b"backward",
-        table,
-        8,
-        b"\x02\x03\x01\x00\x02\x00\x01\x00\x01\x02\x00\x00\x01\x01\x00\x00\x00\x02\x02\x00\x00\x01\x01\x00\x00\x00\x00\x00",
-    );
-    four(
-        b"shuffled with repeats",
-        table,
-        8,
-        b"\x01\x02\x00\x00\x00\x01\x01\x00\x02\x00\x01\x00\x00\x00\x00\x00\x02\x03\x01\x00\x00\x02\x02\x00\x01\x01\x00\x00\x01\x02\x00\x00\x00\x00\x00\x00",
-    );
+// Does what a line says.
+fn command(
+    line: &[u8],
+    letter: u8,
+    table: &mut [u64; 252],
+    list: &mut [u8; 16388],
+    state: &mut [u64; 23],
+    answers: &mut [u8; 4097],
+) {
+    match letter {
+        b'#' => {}
+        b't' => put(line, table),
+        b'c' => call(line, list),
+        b'o' => fill(word(line, 1), state, answers),
+        b'r' => run_line(line, table, list, state, answers),
+        b'm' => numbers(state, word(line, 1) as usize, word(line, 2) as usize),
+        b'a' => bytes(answers, word(line, 1) as usize, word(line, 2) as usize),
+        _ => say(line),
+    }
 }
 
-// Refusals: table, 10, 17, 9, in that order.
-fn refusals_on_b(table: &[u64]) {
-    let mut state = [9u64; 22];
-    let mut short_state = [9u64; 21];
-    let mut answers = [9u8; 1];
-    passes(
-        b"set and list",
-        table,
-        16,
-        b"\x00",
-        &mut short_state,
-        &mut answers,
-    );
-    passes(
-        b"list and room",
-        table,
-        8,
-        b"\x00",
-        &mut short_state,
-        &mut answers,
-    );
-    passes(
-        b"short state",
-        table,
-        8,
-        b"\x00\x00\x00\x00",
-        &mut short_state,
-        &mut answers,
-    );
-    passes(
-        b"short answers",
-        table,
-        8,
-        b"\x00\x00\x00\x00\x00\x00\x00\x00",
-        &mut state,
-        &mut answers,
-    );
-    say(b"kept");
-    numbers(&state, 0, 3);
-    bytes(&answers);
-    say(b"\n");
+// Does what each line of the text says.
+fn lines(
+    text: &[u8],
+    table: &mut [u64; 252],
+    list: &mut [u8; 16388],
+    state: &mut [u64; 23],
+    answers: &mut [u8; 4097],
+) {
+    let mut at = 0;
+    while at < text.len() {
+        let end = line_end(text, at);
+        command(&text[at..end], text[at], table, list, state, answers);
+        at = end + 1;
+    }
 }
 
-// 4,096 calls run, 4,097 are refused.
-fn longest(table: &[u64]) {
-    let list = [0u8; 16384];
-    let mut state = [9u64; 22];
-    let mut answers = [9u8; 4097];
-    passes(b"4096 calls", table, 8, &list, &mut state, &mut answers);
-}
-
-fn too_long(table: &[u64]) {
-    let list = [0u8; 16388];
-    let mut state = [9u64; 22];
-    let mut answers = [9u8; 4097];
-    passes(b"4097 calls", table, 8, &list, &mut state, &mut answers);
-}
-
-// The list that needs five passes with two sites, slices 3; 3.
-fn on_two() {
-    let mut table = [0u64; 126];
-    put(&mut table, 0, 1);
-    put(&mut table, 1, 3);
-    put(&mut table, 63, 1);
-    put(&mut table, 64, 3);
-    let mut state = [9u64; 14];
-    let mut answers = [9u8; 5];
-    passes(
-        b"two sites",
-        &table,
-        0,
-        b"\x02\x01\x00\x00\x02\x00\x01\x00\x01\x01\x00\x00\x00\x00\x00\x00\x00\x01\x01\x00",
-        &mut state,
-        &mut answers,
-    );
-    say(b"masks");
-    numbers(&state, 8, 14);
-    say(b"\n");
-}
-
+// Runs the lines of standard input.
 fn main() {
+    let mut text = [0u8; 4096];
+    let n = io::read_full(0, &mut text);
     let mut table = [0u64; 252];
-    make_b(&mut table);
-    on_b(&table);
-    orders_on_b(&table);
-    refusals_on_b(&table);
-    longest(&table);
-    too_long(&table);
-    on_two();
+    let mut list = [0u8; 16388];
+    let mut state = [9u64; 23];
+    let mut answers = [9u8; 4097];
+    lines(&text[..n], &mut table, &mut list, &mut state, &mut answers);
 }

@@ -1,16 +1,15 @@
 -- `bytes` ends: what is left to do falls at each turn.
 use Prim.Native.Nat.{_-_}
-use mathlib.Core.Path.{_≡_}
-use lib.ListN.{length}
+use native.Mathlib.Omega.{arith}
 use borrow.Author.Needs.{needs}
 use Rattle.run_cases.proofs.bytes.Statement.{statement}
 use Rattle.run_cases.proofs.bytes.Tie as tie
 
 abbrev Inv-loop : tie.InvT-loop
-Inv-loop room i₀ i-end i = i-end ≡ length room
+Inv-loop room from to i₀ i = Unit {0}
 
 abbrev μ-loop : tie.MeasureT-loop
-μ-loop room i₀ i-end i = i-end - i
+μ-loop room from to i₀ i = to - i
 
 pub bytes-spec : {M : Type 1} → statement M
 bytes-spec =
@@ -18,11 +17,11 @@ bytes-spec =
     (tie.spec
     Inv-loop
     μ-loop
+    (λ c. tt)
     (λ c. search needs)
-    (λ c. search needs)
+    (λ c. omega (arith, c .shared-slice-known2 .given (c .before .before .before .loop .i)))
     (λ c κs. search needs)
-    (λ c κs. search needs)
     (λ c. search needs)
     (λ c. search needs)
-    (λ c. search needs)
+    (λ c. tt)
     (λ c. search needs))

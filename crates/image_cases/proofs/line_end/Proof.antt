@@ -1,0 +1,26 @@
+-- `line_end` meets its contract: it never goes back, nor past the end of the text.
+use Prim.Native.Nat.{_≤_, _-_}
+use lib.ListN.{length}
+use borrow.Author.Needs.{needs}
+use Rattle.image_cases.proofs.line_end.Statement.{statement}
+use Rattle.image_cases.proofs.line_end.Tie as tie
+
+abbrev Inv-loop : tie.InvT-loop
+Inv-loop text at end₀ end = (at ≤ end) × (end ≤ length text)
+
+abbrev μ-loop : tie.MeasureT-loop
+μ-loop text at end₀ end = length text - end
+
+pub line-end-spec : {M : Type 1} → statement M
+line-end-spec =
+    tie.close
+    (tie.spec
+    Inv-loop
+    μ-loop
+    (λ c. search needs)
+    (λ c. search needs)
+    (λ c. search needs)
+    (λ c. search needs)
+    (λ c. search needs)
+    (λ c. search needs)
+    (λ c. search needs))
