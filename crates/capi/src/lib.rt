@@ -146,9 +146,12 @@ pub extern "C" fn siren_run_records(
     out: &mut [u64; 4],
 ) -> u64
     ensures answer { λ r. ⌜ r ≡ runSays (now (table .entry)) faulty (bytesOf (now (calls .entry))) (now (state .entry)) (now (answers .entry)) .number ⌝ }
-    ensures told { λ r. ⌜ now (out .exit) ≡ runSays (now (table .entry)) faulty (bytesOf (now (calls .entry))) (now (state .entry)) (now (answers .entry)) .out ⌝ }
-    ensures states { λ r. ⌜ now (state .exit) ≡ runState (now (table .entry)) faulty (bytesOf (now (calls .entry))) (now (state .entry)) (now (answers .entry)) ⌝ }
-    ensures bytes { λ r. ⌜ now (answers .exit) ≡ runAnswers (now (table .entry)) faulty (bytesOf (now (calls .entry))) (now (state .entry)) (now (answers .entry)) ⌝ }
+    ensures told { λ r.
+        ⌜ now (out .exit) ≡ runSays (now (table .entry)) faulty (bytesOf (now (calls .entry))) (now (state .entry)) (now (answers .entry)) .out ⌝ }
+    ensures states { λ r.
+        ⌜ now (state .exit) ≡ runState (now (table .entry)) faulty (bytesOf (now (calls .entry))) (now (state .entry)) (now (answers .entry)) ⌝ }
+    ensures bytes { λ r.
+        ⌜ now (answers .exit) ≡ runAnswers (now (table .entry)) faulty (bytesOf (now (calls .entry))) (now (state .entry)) (now (answers .entry)) ⌝ }
 {
     said::ran(
         records::run_records(table, faulty, calls, state, answers),

@@ -11,7 +11,7 @@ use Rattle.refusals.specs.declared.Refusal.the-variants.{Length, Sums, Header, 
 use Rattle.text.specs.Text.{ascii}
 use Rattle.text.specs.Written.{Writes}
 
-pub under-number : (r : Refusal) → under (number r) ≡ meaning r
+under-number : (r : Refusal) → under (number r) ≡ meaning r
 unfolding under refusalOf
 under-number Length = refl
 under-number (Sums i) = refl

@@ -1,12 +1,17 @@
 -- What each refusal means, in the words of the owners' leaflet.
-use Prim.Native.String.{String}
+use Prim.Native.String.{String, _++_}
 use Rattle.refusals.specs.declared.Refusal.{Refusal}
-use Rattle.refusals.specs.declared.Refusal.the-variants.{Length, Sums, Header, Count, Slice, Order, NoQuorum, Filler, Room, Set, Range, Receiver, Proposal, Voted, Unsent, Large, List, Unsound}
+use Rattle.refusals.specs.declared.Refusal.the-variants.{Length, Sums, Header, Count, Slice, Order, NoQuorum, Filler, Room}
+use Rattle.refusals.specs.declared.Refusal.the-variants.{Set, Range, Receiver, Proposal, Voted, Unsent, Large, List, Unsound}
 
 abbrev pub meaning : Refusal → String
-meaning Length = "The table does not have a right length. A file must be 1 to 64 blocks of 512 bytes; a table in memory 63 numbers for each of 1 to 64 sites; a single block 512 bytes."
+meaning Length =
+    "The table does not have a right length. A file must be 1 to 64 blocks of 512 bytes; a table in memory 63 numbers for each of 1 to 64 sites; "
+    ++ "a single block 512 bytes."
 meaning (Sums block) = "The block's check does not fit its bytes: the block was damaged, or changed without working out the check anew."
-meaning (Header block) = "The head of the block is wrong: its site number is not its place in the file, its number of sites is not the number of blocks, or bytes 6 and 7 are not zero."
+meaning (Header block) =
+    "The head of the block is wrong: its site number is not its place in the file, its number of sites is not the number of blocks, "
+    ++ "or bytes 6 and 7 are not zero."
 meaning (Count site) = "The site has no group at all, or more than 62."
 meaning (Slice site) = "A group of this site does not contain the site itself, or names a site that does not exist."
 meaning (Order site) = "A group does not stand after the one before it: the groups must ascend as numbers, and no group may stand twice."
@@ -21,4 +26,6 @@ meaning Voted = "The site has already voted for the other side in this window. T
 meaning Unsent = "A vote or an accept is reported from a correct site that has not cast it."
 meaning Large = "The verdict on shared or intact sites is given for at most 12 sites, and this table has more."
 meaning List = "The list of calls is not whole (four bytes a call), or has more than 4,096 calls."
-meaning Unsound = "The state handed over is not one that the rules explain: it has the wrong length, or something in it does not follow from what the sites heard."
+meaning Unsound =
+    "The state handed over is not one that the rules explain: it has the wrong length, "
+    ++ "or something in it does not follow from what the sites heard."

@@ -19,7 +19,8 @@ fn put_of_file(room: &mut [u8], at: usize, k: u64) -> usize
         1 => text::put(
             room,
             at,
-            b"The table does not have a right length. A file must be 1 to 64 blocks of 512 bytes; a table in memory 63 numbers for each of 1 to 64 sites; a single block 512 bytes.",
+            b"The table does not have a right length. A file must be 1 to 64 blocks of 512 bytes; \
+              a table in memory 63 numbers for each of 1 to 64 sites; a single block 512 bytes.",
         ),
         2 => text::put(
             room,
@@ -29,7 +30,8 @@ fn put_of_file(room: &mut [u8], at: usize, k: u64) -> usize
         _ => text::put(
             room,
             at,
-            b"The head of the block is wrong: its site number is not its place in the file, its number of sites is not the number of blocks, or bytes 6 and 7 are not zero.",
+            b"The head of the block is wrong: its site number is not its place in the file, its number of sites is not the number of blocks, \
+              or bytes 6 and 7 are not zero.",
         ),
     }
 }

@@ -1,13 +1,16 @@
 -- A room that `pack` put a list of at most 4,096 calls in begins with the list's bytes.
 use Prim.Native.Nat.{ℕ, zero, suc, _+_, _*_, _≤_, _<_}
+use mathlib.Core.Bool.{Bool, true, false, cond}
 use mathlib.Core.List.{List, [], _∷_, _++_, append-assoc}
 use mathlib.Core.Path.{_≡_, refl, sym, ap, _∙_}
 use native.Mathlib.Numerals.{add-one}
 use native.Mathlib.Omega.{arith}
+use lib.Dec.{ltb}
 use lib.ListN.{length, getD, set, take, length-set}
 use lib.Seq.{take-suc-set, take-suc, take-length}
-use borrow.Author.Tests.{lt-ltb}
-use Rattle.records.specs.Pack.{bytesOf, none, stored, putAt, packTo}
+use borrow.Author.Tests.{lt-ltb, le-ltb}
+use Rattle.records.specs.Inner.{none, stored, putAt, packTo, packable}
+use Rattle.records.specs.Pack.{bytesOf}
 use Rattle.records.specs.declared.Call.{Call}
 
 pub packTo-zero : (b : List ℕ) (cs : List Call) → packTo b cs 0 ≡ b
@@ -90,3 +93,20 @@ module _ (b : List ℕ) (room : length b ≡ 16384) (cs : List Call) where
 
   pub packed : length cs ≤ 4096 → take (4 * length cs) (bs (length cs)) ≡ bytesOf cs
   packed h = packed-take (length cs) h (omega arith) ∙ ap bytesOf (take-length cs)
+
+-- a list that is too long is not put at all; another is put whole
+pub packable-le : (n : ℕ) → packable n ≤ n
+unfolding packable
+packable-le n = of (ltb 4096 n)
+  where
+    of : (long : Bool) → cond long 0 n ≤ n
+    of true = omega arith
+    of false = omega arith
+
+pub packable-none : (n : ℕ) → 4096 < n → packable n ≡ 0
+unfolding packable
+packable-none n h = rw (lt-ltb 4096 n h) refl
+
+pub packable-all : (n : ℕ) → n ≤ 4096 → packable n ≡ n
+unfolding packable
+packable-all n h = rw (le-ltb 4096 n h) refl

@@ -1,1 +1,2 @@
 pub mod Pack
+pub mod Inner

@@ -1,43 +1,9 @@
 -- A list of calls as bytes: "the same run also takes its calls as a list of records of four byte values, with equal answers."
-use Prim.Native.Nat.{ℕ, zero, suc, _+_, _*_, _≤_}
-use mathlib.Core.Bool.{Bool, true, false}
+use Prim.Native.Nat.{ℕ}
 use mathlib.Core.List.{List, [], _∷_}
-use mathlib.Core.Path.{_≡_}
-use lib.Dec.{ltb}
-use lib.ListN.{length, getD, set, take}
 use Rattle.records.specs.declared.Call.{Call}
-use Rattle.run.specs.Run.{ran, stateInto, answersInto}
-use Rattle.run.specs.declared.Ran.{Ran}
 
 -- four bytes a call, in order: kind, from, to, side
 unfoldable pub bytesOf : List Call → List ℕ
 bytesOf [] = []
 bytesOf (c ∷ cs) = c .kind ∷ c .from ∷ c .to ∷ c .side ∷ bytesOf cs
-
--- what a call past the end reads as
-abbrev pub none : Call
-none = record { kind = 0; from = 0; to = 0; side = 0 }
-
--- four bytes stored at 4 * i
-abbrev pub stored : List ℕ → ℕ → Call → List ℕ
-stored b i c = set (set (set (set b (4 * i) (c .kind)) (4 * i + 1) (c .from)) (4 * i + 2) (c .to)) (4 * i + 3) (c .side)
-
-abbrev pub pick : Bool → List ℕ → List ℕ → List ℕ
-pick true a b = a
-pick false a b = b
-
--- the room with call i put in its place; past the end nothing changes
-unfoldable pub putAt : List ℕ → ℕ → Call → List ℕ
-putAt b i c = pick (ltb i 4096) (stored b i c) b
-
--- the room with the first n calls of the list put one after the other
-unfoldable pub packTo : List ℕ → List Call → ℕ → List ℕ
-packTo b cs zero = b
-packTo b cs (suc n) = putAt (packTo b cs n) n (getD cs n none)
-
--- how a run of n calls that stand in a room of bytes ends: as the run of any list of 4n bytes that the room begins with, and if there are more calls
--- than the room holds, as the run of any list of 4n bytes at all
-pub record Ended (t : List ℕ) (F : ℕ) (bytes : List ℕ) (n : ℕ) (state answers : List ℕ) (r : Ran) (state′ answers′ : List ℕ) : Type 0 where
-  pub answer : (list : List ℕ) → length list ≡ 4 * n → (n ≤ 4096 → take (4 * n) bytes ≡ list) → r ≡ ran t F list (length state) (length answers)
-  pub states : (list : List ℕ) → length list ≡ 4 * n → (n ≤ 4096 → take (4 * n) bytes ≡ list) → state′ ≡ stateInto r t F list state
-  pub answered : (list : List ℕ) → length list ≡ 4 * n → (n ≤ 4096 → take (4 * n) bytes ≡ list) → answers′ ≡ answersInto r t F list answers

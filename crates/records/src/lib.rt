@@ -2,7 +2,8 @@
 ghost use mathlib.Core.Path.{_≡_};
 ghost use lib.ListN.{length};
 ghost use Rattle.run.specs.Run.{ran, stateInto, answersInto};
-ghost use Rattle.records.specs.Pack.{bytesOf, putAt, packTo, Ended};
+ghost use Rattle.records.specs.Inner.{putAt, packTo, packable, Ended};
+ghost use Rattle.records.specs.Pack.{bytesOf};
 use refusals::Check;
 use refusals::Refusal;
 use run::Ran;
@@ -29,12 +30,23 @@ fn put_call(room: &mut [u8; 16384], i: usize, c: Call)
     }
 }
 
-// The calls as bytes, as far as the room goes.
-fn pack(calls: &[Call], room: &mut [u8; 16384])
-    ensures { λ r. ⌜ now (room .exit) ≡ packTo (now (room .entry)) (now (calls .entry)) (length (now (calls .entry))) ⌝ }
+// How many calls of a list of n are packed: a list of more than 4,096 is refused by its length, and none of it is walked.
+fn packable(many: usize) -> usize
+    ensures { λ r. ⌜ r ≡ packable many ⌝ }
 {
+    if 4096 < many {
+        return 0;
+    }
+    many
+}
+
+// The calls as bytes, in a room for 4,096 of them.
+fn pack(calls: &[Call], room: &mut [u8; 16384])
+    ensures { λ r. ⌜ now (room .exit) ≡ packTo (now (room .entry)) (now (calls .entry)) (packable (length (now (calls .entry)))) ⌝ }
+{
+    let n = packable(calls.len());
     let mut i = 0;
-    while i < calls.len() {
+    while i < n {
         put_call(room, i, calls[i]);
         i += 1;
     }
@@ -49,7 +61,8 @@ fn run_packed(
     state: &mut [u64],
     answers: &mut [u8],
 ) -> Ran
-    ensures { λ r. ⌜ Ended (now (table .entry)) faulty (now (room .entry)) n (now (state .entry)) (now (answers .entry)) r (now (state .exit)) (now (answers .exit)) ⌝ }
+    ensures { λ r.
+        ⌜ Ended (now (table .entry)) faulty (now (room .entry)) n (now (state .entry)) (now (answers .entry)) r (now (state .exit)) (now (answers .exit)) ⌝ }
 {
     if 4096 < n {
         let q = run::check(table, faulty, 16388, state.len(), answers.len());

@@ -24,7 +24,7 @@ head-puts d i n many h =
 
 -- the loop that writes the places
 
-pub length-places : (m : List ℕ) (k : ℕ) → length (places m k) ≡ 8 * k
+length-places : (m : List ℕ) (k : ℕ) → length (places m k) ≡ 8 * k
 unfolding places
 length-places m k = length-cat (λ j. digits 8 (slice m j)) 8 k (λ j h. refl)
 

@@ -27,7 +27,7 @@ unfolding value
 value-more l i = rw (add-one i) refl
 
 -- k digits are below 16 ^ k
-pub value-below : (l : List ℕ) (k : ℕ) → every k (digit l) ≡ true → value l k < 16 ^ k
+value-below : (l : List ℕ) (k : ℕ) → every k (digit l) ≡ true → value l k < 16 ^ k
 value-below l zero e = rw (value-none l) (omega arith)
 value-below l (suc k) e =
     let d = ltb-true (worth (getD l k 0)) 16 (every-at (suc k) (digit l) e k (le-refl (suc k))) in

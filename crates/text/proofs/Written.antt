@@ -2,11 +2,11 @@
 use Prim.Native.Nat.{ℕ, _+_, _≤_, _<_}
 use mathlib.Core.List.{List, [], _++_, append-assoc}
 use mathlib.Core.Path.{_≡_, sym, ap, _∙_}
-use native.Mathlib.Nat.{add-assoc, le-refl}
+use native.Mathlib.Nat.{add-assoc}
 use native.Mathlib.Numerals.{add-one}
 use native.Mathlib.Omega.{arith}
 use lib.ListN.{length, take, drop, set, getD, length-append}
-use lib.Seq.{paste, paste-zero, paste-suc, length-paste, take-length, take-at, drop-at, drop-drop, length-take-le}
+use lib.Seq.{paste, paste-zero, paste-suc, take-length, take-at, drop-at, drop-drop, length-take-le}
 use Rattle.io.specs.Counts.{Counts}
 use Rattle.text.specs.Written.{written, Writes}
 
@@ -19,9 +19,6 @@ written-paste room at text = ap (λ (x : List ℕ). take at room ++ x ++ drop (a
 pub written-nothing : (room : List ℕ) (at : ℕ) → written room at [] ≡ room
 unfolding written
 written-nothing room at = sym (paste-zero room at [])
-
-pub length-written : (room : List ℕ) (at : ℕ) (text : List ℕ) → at + length text ≤ length room → length (written room at text) ≡ length room
-length-written room at text h = ap length (sym (written-paste room at text)) ∙ length-paste room at text (length text) h (le-refl (length text))
 
 -- a turn of the loop that writes
 pub turn : (room₀ room words : List ℕ) (at i : ℕ) → room ≡ paste room₀ at words i → at + length words ≤ length room₀ → i < length words

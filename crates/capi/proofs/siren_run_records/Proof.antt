@@ -80,7 +80,8 @@ module _ {M : Type 1} (𝓤 : URA M) (H : Heap 𝓤) (A : Atoms 𝓤) (mem : Mem
   abbrev Say : Contract 𝓤
   Say = tripleOf 𝓤 H A say-ran.signature (say-ran.spec 𝓤 H A mem run)
 
-module _ {M : Type 1} (𝓤 : URA M) (H : Heap 𝓤) (A : Atoms 𝓤) (W : Given 𝓤 H A) (mem : Memory → SProp 𝓤) (run : Routine → Fun 𝓤) (κ₀ κ₁ κ₂ κ₃ κ₄ : Lft) (q₀ q₁ q₂ q₃ q₄ : Share) (t : RefT (List ℕ)) (F : ℕ) (c : RefT (List Call)) (s a o : RefT (List ℕ))
+module _ {M : Type 1} (𝓤 : URA M) (H : Heap 𝓤) (A : Atoms 𝓤) (W : Given 𝓤 H A) (mem : Memory → SProp 𝓤) (run : Routine → Fun 𝓤)
+    (κ₀ κ₁ κ₂ κ₃ κ₄ : Lft) (q₀ q₁ q₂ q₃ q₄ : Share) (t : RefT (List ℕ)) (F : ℕ) (c : RefT (List Call)) (s a o : RefT (List ℕ))
     (gt : Room u64 (length (t .now))) (gF : F < 2 ^ 64) (gc : Room T.the-row (length (c .now))) (gs : Room u64 (length (s .now))) (ga : Room u8 (length (a .now))) where
   -- the machine values
   abbrev vt : Val
@@ -173,13 +174,15 @@ module _ {M : Type 1} (𝓤 : URA M) (H : Heap 𝓤) (A : Atoms 𝓤) (W : Given
   abbrev Left : ℕ → Val → List ℕ → List ℕ → List ℕ → List (Item 𝓤)
   Left k u s′ a′ o′ = ‵ (u64 .own k (u ∷ [])) ∷ Last ∷ ‵ (fres (o .name) (Array u64 4 .coded .code o′)) ∷ ‵ ftrue ∷ Toks-run ∷ ‵ (finally u8 (a .name) a′) ∷ ‵ ftrue ∷ ‵ (finally u64 (s .name) s′) ∷ []
 
-  exits : (r : Ran) (k : ℕ) (u : Val) (s′ a′ o′ : List ℕ) → r ≡ ran (now t) F (bytesOf (now c)) (length (now s)) (length (now a)) → s′ ≡ stateInto r (now t) F (bytesOf (now c)) (now s) → a′ ≡ answersInto r (now t) F (bytesOf (now c)) (now a)
+  exits : (r : Ran) (k : ℕ) (u : Val) (s′ a′ o′ : List ℕ) → r ≡ ran (now t) F (bytesOf (now c)) (length (now s)) (length (now a))
+      → s′ ≡ stateInto r (now t) F (bytesOf (now c)) (now s) → a′ ≡ answersInto r (now t) F (bytesOf (now c)) (now a)
       → k ≡ ofRan r .number → o′ ≡ ofRan r .out → length s′ ≡ length (now s) → length a′ ≡ length (now a)
       → ent 𝓤 (⋆ 𝓤 H A (Left k u s′ a′ o′)) (Post u)
   exits r k u s′ a′ o′ er es ea ek eo ls la =
       let e = run-said (now t) F (bytesOf (now c)) (now s) (now a) er (ek, eo) es ea in
       qed W (Left k u s′ a′ o′) ∵
-      suffices ! _ (ends-at 𝓤 H A siren-run-records.ended stayed (siren-run-records.clauses 𝓤 H A mem run) W (((κ₀, (κ₁, (κ₂, (κ₃, (κ₄, tt))))), (q₀, (q₁, (q₂, (q₃, (q₄, tt))))), tt, x, at), tt) u k (tt, (tt, (tt, (s′, (a′, (o′, tt)))))) (tt, (tt, (tt, (ls, (la, (tt, tt))))))) $
+      suffices ! _ (ends-at 𝓤 H A siren-run-records.ended stayed (siren-run-records.clauses 𝓤 H A mem run) W
+      (((κ₀, (κ₁, (κ₂, (κ₃, (κ₄, tt))))), (q₀, (q₁, (q₂, (q₃, (q₄, tt))))), tt, x, at), tt) u k (tt, (tt, (tt, (s′, (a′, (o′, tt)))))) (tt, (tt, (tt, (ls, (la, (tt, tt))))))) $
       suffices ! _ (beside 𝓤 (and-shown 𝓤 (e .0) (and-shown 𝓤 (e .1 .0) (and-shown 𝓤 (e .1 .1 .0) (shown 𝓤 (e .1 .1 .1)))))) $
       move ! (4 ∷ []) $ split ! $ move ! (1 ∷ []) $ split ! $ move ! (1 ∷ []) $ split ! $ move ! (1 ∷ []) $ split ! $
       -- [the tokens of answers; true; of state; calls; table; the result; of out; the last out; true; the last answers; true; the last state]
@@ -192,21 +195,29 @@ module _ {M : Type 1} (𝓤 : URA M) (H : Heap 𝓤) (A : Atoms 𝓤) (W : Given
     walk =
         qed W (Toks ∷ ‵ Owned ∷ []) ∵
         enter ! C Λ code.function (vt ∷ vF ∷ vc ∷ vs ∷ va ∷ vo ∷ []) _ $
-        alloc1 ! (λ l₀. alloc1 ! (λ l₁. alloc1 ! (λ l₂. alloc1 ! (λ l₃. alloc1 ! (λ l₄. alloc1 ! (λ l₅. alloc1 ! (λ l₆. alloc1 ! (λ l₇. alloc1 ! (λ l₈. alloc1 ! (λ l₉. alloc1 ! (λ l₁₀. alloc1 ! (λ l₁₁. alloc1 ! (λ l₁₂. alloc0 ! $ params1 ! $
+        alloc1 ! (λ l₀. alloc1 ! (λ l₁. alloc1 ! (λ l₂. alloc1 ! (λ l₃. alloc1 ! (λ l₄. alloc1 ! (λ l₅. alloc1 ! (λ l₆. alloc1 ! (λ l₇. alloc1 ! (λ l₈. alloc1 ! (λ l₉. alloc1 ! (λ l₁₀. alloc1 ! (λ l₁₁. alloc1 ! (λ l₁₂. alloc0 ! $
+        params1 ! $
         pass1 ! (init ! 22 refl (tt, (tt, (record { fits = gt .0 }, tt)))) $ pass1 ! (init ! 20 refl (tt, record { fits = gF })) $ pass1 ! (init ! 18 refl (tt, (tt, (record { fits = gc .0 }, tt)))) $
         pass1 ! (init ! 16 refl (tt, (tt, (record { fits = gs .0 }, tt)))) $ pass1 ! (init ! 14 refl (tt, (tt, (record { fits = ga .0 }, tt)))) $ pass1 ! (init ! 12 refl (tt, tt)) $ pass0 ! $
         -- [_12; …; _0 at 24; …; the tokens; what is owned]
         assigns ! (addr ! (from ! (fld ! refl (hop ! (look-in ! 16 (sub ! 0 refl (whole !))) (stop !))))) (from ! (stop !)) (init ! 8 refl (tt, tt)) $
-        assigns ! (agg ! (and-then ! (load ! (from ! (stop !)) (look ! 8 refl)) (and-then ! (load ! (from ! (fld ! refl (stop !))) (look-in ! 16 (sub ! 1 refl (whole !)))) (no-more !)))) (from ! (stop !)) (init ! 6 refl (tt, (tt, (record { fits = gs .0 }, tt)))) $
+        assigns ! (agg ! (and-then ! (load ! (from ! (stop !)) (look ! 8 refl)) (and-then ! (load ! (from ! (fld ! refl (stop !))) (look-in ! 16 (sub ! 1 refl (whole !)))) (no-more !))))
+        (from ! (stop !)) (init ! 6 refl (tt, (tt, (record { fits = gs .0 }, tt)))) $
         assigns ! (addr ! (from ! (fld ! refl (hop ! (look-in ! 14 (sub ! 0 refl (whole !))) (stop !))))) (from ! (stop !)) (init ! 4 refl (tt, tt)) $
-        assigns ! (agg ! (and-then ! (load ! (from ! (stop !)) (look ! 4 refl)) (and-then ! (load ! (from ! (fld ! refl (stop !))) (look-in ! 14 (sub ! 1 refl (whole !)))) (no-more !)))) (from ! (stop !)) (init ! 2 refl (tt, (tt, (record { fits = ga .0 }, tt)))) $
+        assigns ! (agg ! (and-then ! (load ! (from ! (stop !)) (look ! 4 refl)) (and-then ! (load ! (from ! (fld ! refl (stop !))) (look-in ! 14 (sub ! 1 refl (whole !)))) (no-more !))))
+        (from ! (stop !)) (init ! 2 refl (tt, (tt, (record { fits = ga .0 }, tt)))) $
         -- the call of `run_records`
         move ! (26 ∷ 27 ∷ []) $ use2 W Asked-run goes-run $ split ! $
         -- [what is asked; what out owns, with its token; _12 at 2; …]
-        calls-at ! fm (Run 𝓤 H A mem run) known-run to-run (and-then ! (load ! (from ! (stop !)) (look ! 24 refl)) (and-then ! (load ! (from ! (stop !)) (look ! 22 refl)) (and-then ! (load ! (from ! (stop !)) (look ! 20 refl)) (and-then ! (load ! (from ! (stop !)) (look ! 8 refl)) (and-then ! (load ! (from ! (stop !)) (look ! 4 refl)) (no-more !)))))) (λ w.
-        use1 W (later (some (λ (r : Ran). (Toks-run ⊛ ‵ (R.the-row .own r (w ∷ []))) ⊛ raw (ensured 𝓤 H A run-records.ended (run-records.clauses 𝓤 H A mem run) (κ₀, (κ₁, (κ₂, (κ₃, tt)))) given-run tt r)))) (id⊢ 𝓤 _) $ await ! tt $ pick ! (λ r.
+        calls-at ! fm (Run 𝓤 H A mem run) known-run to-run
+        (and-then ! (load ! (from ! (stop !)) (look ! 24 refl))
+        (and-then ! (load ! (from ! (stop !)) (look ! 22 refl))
+        (and-then ! (load ! (from ! (stop !)) (look ! 20 refl)) (and-then ! (load ! (from ! (stop !)) (look ! 8 refl)) (and-then ! (load ! (from ! (stop !)) (look ! 4 refl)) (no-more !)))))) (λ w.
+        use1 W (later (some (λ (r : Ran). (Toks-run ⊛ ‵ (R.the-row .own r (w ∷ []))) ⊛ raw (ensured 𝓤 H A run-records.ended (run-records.clauses 𝓤 H A mem run) (κ₀, (κ₁, (κ₂, (κ₃, tt)))) given-run tt r)))) (id⊢ 𝓤 _) $
+        await ! tt $ pick ! (λ r.
         split ! $ move ! (1 ∷ []) $ use1 W (some (λ (zs : Lasts-run). ‵ (lasts run-records.ended (κ₀, (κ₁, (κ₂, (κ₃, tt)))) given-run zs) ⊛
-        (raw (fact 𝓤 (r ≡ ran (now t) F (bytesOf (now c)) (length (now s)) (length (now a)))) ⊛ (raw (fact 𝓤 (zs .1 .1 .1 .0 ≡ stateInto r (now t) F (bytesOf (now c)) (now s))) ⊛ raw (fact 𝓤 (zs .1 .1 .1 .1 .0 ≡ answersInto r (now t) F (bytesOf (now c)) (now a))))))) (id⊢ 𝓤 _) $ pick ! (λ zs.
+        (raw (fact 𝓤 (r ≡ ran (now t) F (bytesOf (now c)) (length (now s)) (length (now a)))) ⊛
+        (raw (fact 𝓤 (zs .1 .1 .1 .0 ≡ stateInto r (now t) F (bytesOf (now c)) (now s))) ⊛ raw (fact 𝓤 (zs .1 .1 .1 .1 .0 ≡ answersInto r (now t) F (bytesOf (now c)) (now a))))))) (id⊢ 𝓤 _) $ pick ! (λ zs.
         split ! $ move ! (1 ∷ []) $ split ! $ heard ! (r ≡ ran (now t) F (bytesOf (now c)) (length (now s)) (length (now a))) (λ er.
         split ! $ heard ! (zs .1 .1 .1 .0 ≡ stateInto r (now t) F (bytesOf (now c)) (now s)) (λ es.
         heard ! (zs .1 .1 .1 .1 .0 ≡ answersInto r (now t) F (bytesOf (now c)) (now a)) (λ ea.
@@ -226,15 +237,21 @@ module _ {M : Type 1} (𝓤 : URA M) (H : Heap 𝓤) (A : Atoms 𝓤) (W : Given
         fsplit ! $ drop ! $ fsplit ! $ move ! (2 ∷ []) $ split ! $ move ! (1 ∷ []) $ peeks ! u64 (Is u64) (shows 𝓤 H A u64) k (u ∷ []) (λ is′.
         -- [the result; the token of out; the last out; true; the tokens; the last answers; true; the last state; _12 at 8; …; room for _0 at 32]
         land ! (from ! (stop !)) (init ! 32 refl (uint-lawful 𝓤 H A W w64 .typed k _ is′ .0)) $
-        returns ! (look ! 32 refl) $ forget ! 8 refl $ forget ! 10 refl $ forget ! 12 refl $ forget ! 14 refl $ forget ! 16 refl $ forget ! 18 refl $ forget ! 20 refl $ forget ! 22 refl $ forget ! 24 refl $ forget ! 26 refl $ forget ! 28 refl $ forget ! 30 refl $ forget ! 32 refl $
-        move ! (32 ∷ 33 ∷ []) $ free1 ! $ move ! (30 ∷ 31 ∷ []) $ free1 ! $ move ! (28 ∷ 29 ∷ []) $ free1 ! $ move ! (26 ∷ 27 ∷ []) $ free1 ! $ move ! (24 ∷ 25 ∷ []) $ free1 ! $ move ! (22 ∷ 23 ∷ []) $ free1 ! $ move ! (20 ∷ 21 ∷ []) $ free1 ! $ move ! (18 ∷ 19 ∷ []) $ free1 ! $ move ! (16 ∷ 17 ∷ []) $ free1 ! $ move ! (14 ∷ 15 ∷ []) $ free1 ! $ move ! (12 ∷ 13 ∷ []) $ free1 ! $ move ! (10 ∷ 11 ∷ []) $ free1 ! $ move ! (8 ∷ 9 ∷ []) $ free1 ! $ free0 ! $
+        returns ! (look ! 32 refl) $ forget ! 8 refl $ forget ! 10 refl $ forget ! 12 refl $ forget ! 14 refl $ forget ! 16 refl $ forget ! 18 refl $
+        forget ! 20 refl $ forget ! 22 refl $ forget ! 24 refl $ forget ! 26 refl $ forget ! 28 refl $ forget ! 30 refl $ forget ! 32 refl $
+        move ! (32 ∷ 33 ∷ []) $ free1 ! $ move ! (30 ∷ 31 ∷ []) $ free1 ! $ move ! (28 ∷ 29 ∷ []) $ free1 ! $ move ! (26 ∷ 27 ∷ []) $ free1 ! $ move ! (24 ∷ 25 ∷ []) $ free1 ! $ move ! (22 ∷ 23 ∷ []) $ free1 ! $ move ! (20 ∷ 21 ∷ []) $
+        free1 ! $ move ! (18 ∷ 19 ∷ []) $ free1 ! $ move ! (16 ∷ 17 ∷ []) $ free1 ! $ move ! (14 ∷ 15 ∷ []) $ free1 ! $ move ! (12 ∷ 13 ∷ []) $ free1 ! $ move ! (10 ∷ 11 ∷ []) $ free1 ! $ move ! (8 ∷ 9 ∷ []) $ free1 ! $ free0 ! $
         by ! (exits r k u (zs .1 .1 .1 .0) (zs .1 .1 .1 .1 .0) (ys .1 .0) er es ea ek eo ls la)))))))))))))))))))))))))))))
 
-module _ {M : Type 1} (𝓤 : URA M) (H : Heap 𝓤) (A : Atoms 𝓤) (W : Given 𝓤 H A) (mem : Memory → SProp 𝓤) (run : Routine → Fun 𝓤) (𝓣 : Tables 𝓤 H) (known-run : Triple 𝓤 (𝓣 .C #records·run-records) (Run 𝓤 H A mem run)) (known-say : Triple 𝓤 (𝓣 .C #said·ran) (Say 𝓤 H A mem run)) where
+module _ {M : Type 1} (𝓤 : URA M) (H : Heap 𝓤) (A : Atoms 𝓤) (W : Given 𝓤 H A) (mem : Memory → SProp 𝓤) (run : Routine → Fun 𝓤) (𝓣 : Tables 𝓤 H)
+    (known-run : Triple 𝓤 (𝓣 .C #records·run-records) (Run 𝓤 H A mem run)) (known-say : Triple 𝓤 (𝓣 .C #said·ran) (Say 𝓤 H A mem run)) where
   walks : Walks 𝓤 H A siren-run-records.ended stayed (WpFn 𝓤 H (𝓣 .C) (𝓣 .Λ) code.function) (siren-run-records.clauses 𝓤 H A mem run)
   walks = walked 𝓤 H A siren-run-records.ended stayed (siren-run-records.clauses 𝓤 H A mem run) (WpFn 𝓤 H (𝓣 .C) (𝓣 .Λ) code.function)
       (λ κs. (slice-vals, (uint-vals w64, (slice-vals, (slice-vals, (slice-vals, (ptr-vals, tt)))))))
-      (λ κs. (shr-slice-tells (named 0) (κs .0) u64, (uint-tells w64, (shr-slice-tells (named 1) (κs .1 .0) T.the-row, (mut-slice-tells (named 2) (κs .1 .1 .0) u64, (mut-slice-tells (named 3) (κs .1 .1 .1 .0) u8, (mut-tells (named 4) (κs .1 .1 .1 .1 .0) (Array u64 4), tt)))))))
+      (λ κs. (
+        shr-slice-tells (named 0) (κs .0) u64,
+        (uint-tells w64, (shr-slice-tells (named 1) (κs .1 .0) T.the-row, (mut-slice-tells (named 2) (κs .1 .1 .0) u64, (mut-slice-tells (named 3) (κs .1 .1 .1 .0) u8, (mut-tells (named 4) (κs .1 .1 .1 .1 .0) (Array u64 4), tt))))),
+      ))
       (λ κs qs bounds a g are. via 𝓤 _ (fst∗ 𝓤 _ (emp 𝓤)) (walk 𝓤 H A W mem run (κs .0) (κs .1 .0) (κs .1 .1 .0) (κs .1 .1 .1 .0) (κs .1 .1 .1 .1 .0) (qs .0) (qs .1 .0) (qs .1 .1 .0) (qs .1 .1 .1 .0) (qs .1 .1 .1 .1 .0)
       (a .0) (a .1 .0) (a .1 .1 .0) (a .1 .1 .1 .0) (a .1 .1 .1 .1 .0) (a .1 .1 .1 .1 .1 .0)
       (are .0 .0 .1) (are .1 .0 .1) (are .1 .1 .0 .0 .1) (are .1 .1 .1 .0 .0 .1) (are .1 .1 .1 .1 .0 .0 .1) (𝓣 .C) (𝓣 .Λ) (fmOf 𝓤 H (W .laws) 𝓣) known-run known-say))

@@ -79,8 +79,10 @@ returns-7 c =
     let f = g .before .before .before .before in
     let a = f .before .before .before .before .before .args in
     let b = now (a .image) in
-    let e = whole-blocks (length b) (f .before .before .if1 .left) (f .before .if2 .left) (f .if3 .left) in
-    (sym (read-sites b (length (now (a .room))) e (g .before .before .before .if4 .left) (sym (g .before .before .check-blocks .ensures) ∙ g .enum-told .given .1)), c .before .before .before .before .before .before .before .load-blocks .ensures)
+    let e = whole-blocks (length b) (f .before .before .if1 .left) (f .before .if2 .left) (f .if3 .left) in (
+      sym (read-sites b (length (now (a .room))) e (g .before .before .before .if4 .left) (sym (g .before .before .check-blocks .ensures) ∙ g .enum-told .given .1)),
+      c .before .before .before .before .before .before .before .load-blocks .ensures,
+    )
 
 pub read-spec : {M : Type 1} → statement M
 read-spec =

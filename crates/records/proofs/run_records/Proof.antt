@@ -44,14 +44,15 @@ use denote.Triple.Walked.{Stays, stay-dropped, gave-slice, walkOf, goes-dropped,
 use denote.Triple.Clauses.{ensured, lasts}
 use denote.Exit.{yes}
 use borrow.Table.OneValue.{part-in-at, part-out-at}
-use Rattle.records.specs.Pack.{bytesOf, packTo, Ended}
+use Rattle.records.specs.Inner.{packTo, packable, Ended}
+use Rattle.records.specs.Pack.{bytesOf}
 use Rattle.run.specs.Run.{ran, stateInto, answersInto}
 use Rattle.run.specs.declared.Ran.{Ran}
 use Rattle.run.proofs.Ran as R
 use Rattle.run.proofs.Ran.Laws as R′
 use Rattle.records.specs.declared.Call.{Call}
 use Rattle.records.proofs.Facts.{shown, and-shown, beside}
-use Rattle.records.proofs.Packing.{bytesOf-length, packed}
+use Rattle.records.proofs.Packing.{bytesOf-length, packed, packable-all}
 use Rattle.records.proofs.Room.{Bytes, bytes, left-at}
 use Rattle.records.proofs.Call as T
 use Rattle.records.proofs.pack as pack
@@ -83,11 +84,11 @@ vz = arrayVal (replicate 16384 (vint w8 0))
 -- the room with the calls in it, and how a run of it ends: as the run of the list's bytes
 module _ (cs : List Call) where
   abbrev full : List ℕ
-  full = packTo zeros cs (length cs)
+  full = packTo zeros cs (packable (length cs))
 
   module _ {t : List ℕ} {F : ℕ} {s a : List ℕ} {r : Ran} {s′ a′ : List ℕ} (ended : Ended t F full (length cs) s a r s′ a′) where
     begins : length cs ≤ 4096 → take (4 * length cs) full ≡ bytesOf cs
-    begins h = packed zeros (length-replicate {A = ℕ} 16384 0) cs h
+    begins h = rw (packable-all (length cs) h) (packed zeros (length-replicate {A = ℕ} 16384 0) cs h)
 
     answer-is : r ≡ ran t F (bytesOf cs) (length s) (length a)
     answer-is = ended .answer (bytesOf cs) (bytesOf-length cs) begins
@@ -105,7 +106,8 @@ module _ {M : Type 1} (𝓤 : URA M) (H : Heap 𝓤) (A : Atoms 𝓤) (mem : Mem
   abbrev Run : Contract 𝓤
   Run = tripleOf 𝓤 H A run-packed.signature (run-packed.spec 𝓤 H A mem run)
 
-module _ {M : Type 1} (𝓤 : URA M) (H : Heap 𝓤) (A : Atoms 𝓤) (W : Given 𝓤 H A) (mem : Memory → SProp 𝓤) (run : Routine → Fun 𝓤) (κ₀ κ₁ κ₂ κ₃ : Lft) (q₀ q₁ q₂ q₃ : Share) (t : RefT (List ℕ)) (F : ℕ) (c : RefT (List Call)) (s a : RefT (List ℕ))
+module _ {M : Type 1} (𝓤 : URA M) (H : Heap 𝓤) (A : Atoms 𝓤) (W : Given 𝓤 H A) (mem : Memory → SProp 𝓤) (run : Routine
+    → Fun 𝓤) (κ₀ κ₁ κ₂ κ₃ : Lft) (q₀ q₁ q₂ q₃ : Share) (t : RefT (List ℕ)) (F : ℕ) (c : RefT (List Call)) (s a : RefT (List ℕ))
     (gt : Room u64 (length (t .now))) (gF : F < 2 ^ 64) (gc : Room T.the-row (length (c .now))) (gs : Room u64 (length (s .now))) (ga : Room u8 (length (a .now))) where
   abbrev n : ℕ
   n = length (c .now)
@@ -214,7 +216,8 @@ module _ {M : Type 1} (𝓤 : URA M) (H : Heap 𝓤) (A : Atoms 𝓤) (W : Given
       → ent 𝓤 (⋆ 𝓤 H A (Toks ∷ ‵ (R.the-row .own r (w ∷ [])) ∷ ‵ (finally u8 (a .name) a′) ∷ ‵ ftrue ∷ ‵ (finally u64 (s .name) s′) ∷ [])) (Post w)
   exits r w s′ a′ er es ea ls la =
       qed W (Toks ∷ ‵ (R.the-row .own r (w ∷ [])) ∷ ‵ (finally u8 (a .name) a′) ∷ ‵ ftrue ∷ ‵ (finally u64 (s .name) s′) ∷ []) ∵
-      suffices ! _ (ends-at 𝓤 H A run-records.ended stayed (run-records.clauses 𝓤 H A mem run) W (((κ₀, (κ₁, (κ₂, (κ₃, tt)))), (q₀, (q₁, (q₂, (q₃, tt)))), tt, x, at), tt) w r (tt, (tt, (tt, (s′, (a′, tt))))) (tt, (tt, (tt, (ls, (la, tt)))))) $ suffices ! _ (beside 𝓤 (and-shown 𝓤 er (and-shown 𝓤 es (shown 𝓤 ea)))) $
+      suffices ! _ (ends-at 𝓤 H A run-records.ended stayed (run-records.clauses 𝓤 H A mem run) W (((κ₀, (κ₁, (κ₂, (κ₃, tt)))), (q₀, (q₁, (q₂, (q₃, tt)))), tt, x, at), tt) w r
+      (tt, (tt, (tt, (s′, (a′, tt))))) (tt, (tt, (tt, (ls, (la, tt)))))) $ suffices ! _ (beside 𝓤 (and-shown 𝓤 er (and-shown 𝓤 es (shown 𝓤 ea)))) $
       frame ! $
       -- [the result; the last answers; true; the last state]
       move ! (1 ∷ 2 ∷ []) $ fjoin ! $ move ! (2 ∷ 0 ∷ []) $ fjoin ! $ nothing ! $ fjoin ! $ nothing ! $ fjoin ! $ nothing ! $ fjoin ! $ frame ! $ done !
@@ -224,7 +227,8 @@ module _ {M : Type 1} (𝓤 : URA M) (H : Heap 𝓤) (A : Atoms 𝓤) (W : Given
     walk =
         qed W (Toks ∷ ‵ (owns (ShrSlice (named 0) κ₀ u64 ∷ u64 ∷ ShrSlice (named 1) κ₁ T.the-row ∷ MutSlice (named 2) κ₂ u64 ∷ MutSlice (named 3) κ₃ u8 ∷ []) x at) ∷ []) ∵
         enter ! C Λ code.function (vt ∷ vF ∷ vc ∷ vs ∷ va ∷ []) _ $
-        alloc1 ! (λ l₀. alloc1 ! (λ l₁. alloc1 ! (λ l₂. alloc1 ! (λ l₃. alloc1 ! (λ l₄. alloc1 ! (λ l₅. alloc1 ! (λ l₆. alloc1 ! (λ l₇. alloc1 ! (λ l₈. alloc1 ! (λ l₉. alloc1 ! (λ l₁₀. alloc1 ! (λ l₁₁. alloc1 ! (λ l₁₂. alloc1 ! (λ l₁₃. alloc1 ! (λ l₁₄. alloc0 ! $ params1 ! $
+        alloc1 ! (λ l₀. alloc1 ! (λ l₁. alloc1 ! (λ l₂. alloc1 ! (λ l₃. alloc1 ! (λ l₄. alloc1 ! (λ l₅. alloc1 ! (λ l₆. alloc1 ! (λ l₇.
+        alloc1 ! (λ l₈. alloc1 ! (λ l₉. alloc1 ! (λ l₁₀. alloc1 ! (λ l₁₁. alloc1 ! (λ l₁₂. alloc1 ! (λ l₁₃. alloc1 ! (λ l₁₄. alloc0 ! $ params1 ! $
         pass1 ! (init ! 26 refl (tt, (tt, (record { fits = gt .0 }, tt)))) $ pass1 ! (init ! 24 refl (tt, record { fits = gF })) $ pass1 ! (init ! 22 refl (tt, (tt, (record { fits = gc .0 }, tt)))) $
         pass1 ! (init ! 20 refl (tt, (tt, (record { fits = gs .0 }, tt)))) $ pass1 ! (init ! 18 refl (tt, (tt, (record { fits = ga .0 }, tt)))) $ pass0 ! $
         -- [_14; …; _6 at 16; …; _0 at 28; …; the tokens at 30; what is owned]: the room is zeros
@@ -239,7 +243,8 @@ module _ {M : Type 1} (𝓤 : URA M) (H : Heap 𝓤) (A : Atoms 𝓤) (W : Given
         -- [the lent room; the lender's part; α's token; _14 at 3; …; the tokens at 32; what is owned]
         move ! (33 ∷ []) $ fsplit ! $ move ! (1 ∷ []) $ fsplit ! $ drop ! $ fsplit ! $
         -- [Oc; the rooms; Ot; the lent room; the lender's part; α's token; _14 at 6; …; the tokens at 35]
-        move ! (35 ∷ []) $ split ! $ move ! (1 ∷ []) $ split ! $ nothing ! $ move ! (9 ∷ 0 ∷ []) $ join ! $ move ! (1 ∷ 0 ∷ []) $ join ! $ move ! (3 ∷ 6 ∷ []) $ fjoin ! $ move ! (1 ∷ 0 ∷ []) $ use2 W (raw (Pack 𝓤 H A mem run .pre (to-pack l₆ α β))) (goes-pack l₆ α β) $
+        move ! (35 ∷ []) $ split ! $ move ! (1 ∷ []) $ split ! $ nothing ! $ move ! (9 ∷ 0 ∷ []) $ join ! $ move ! (1 ∷ 0 ∷ []) $ join ! $
+        move ! (3 ∷ 6 ∷ []) $ fjoin ! $ move ! (1 ∷ 0 ∷ []) $ use2 W (raw (Pack 𝓤 H A mem run .pre (to-pack l₆ α β))) (goes-pack l₆ α β) $
         -- [what is asked; the rooms' tokens; the table's; the rooms; Ot; the lender's part; _14 at 6; …]
         calls-at ! fm (Pack 𝓤 H A mem run) known-pack (to-pack l₆ α β) (and-then ! (load ! (from ! (stop !)) (look ! 27 refl)) (and-then ! (load ! (from ! (stop !)) (look ! 18 refl)) (no-more !))) (λ u.
         use1 W (later (given (u ≡ vunit) (Toks-pack α ⊛ ‵ (fres β (Bytes .coded .code ps))))) (gives l₆ α β u) $ await ! tt $ learn ! (λ e. split ! $ split ! $ move ! (1 ∷ []) $ split ! $ move ! (1 ∷ []) $ drop ! $ move ! (0 ∷ 2 ∷ []) $
@@ -250,18 +255,27 @@ module _ {M : Type 1} (𝓤 : URA M) (H : Heap 𝓤) (A : Atoms 𝓤) (W : Given
         assigns ! (addr ! (from ! (stop !))) (from ! (stop !)) (init ! 16 refl (tt, tt)) $
         assigns ! (of-opd ! (load ! (from ! (fld ! refl (stop !))) (look-in ! 27 (sub ! 1 refl (whole !))))) (from ! (stop !)) (init ! 14 refl (tt, record { fits = gc .0 })) $
         assigns ! (addr ! (from ! (fld ! refl (hop ! (look-in ! 25 (sub ! 0 refl (whole !))) (stop !))))) (from ! (stop !)) (init ! 12 refl (tt, tt)) $
-        assigns ! (agg ! (and-then ! (load ! (from ! (stop !)) (look ! 12 refl)) (and-then ! (load ! (from ! (fld ! refl (stop !))) (look-in ! 25 (sub ! 1 refl (whole !)))) (no-more !)))) (from ! (stop !)) (init ! 10 refl (tt, (tt, (record { fits = gs .0 }, tt)))) $
+        assigns ! (agg ! (and-then ! (load ! (from ! (stop !)) (look ! 12 refl)) (and-then ! (load ! (from ! (fld ! refl (stop !))) (look-in ! 25 (sub ! 1 refl (whole !)))) (no-more !))))
+        (from ! (stop !)) (init ! 10 refl (tt, (tt, (record { fits = gs .0 }, tt)))) $
         assigns ! (addr ! (from ! (fld ! refl (hop ! (look-in ! 23 (sub ! 0 refl (whole !))) (stop !))))) (from ! (stop !)) (init ! 8 refl (tt, tt)) $
-        assigns ! (agg ! (and-then ! (load ! (from ! (stop !)) (look ! 8 refl)) (and-then ! (load ! (from ! (fld ! refl (stop !))) (look-in ! 23 (sub ! 1 refl (whole !)))) (no-more !)))) (from ! (stop !)) (init ! 6 refl (tt, (tt, (record { fits = ga .0 }, tt)))) $
+        assigns ! (agg ! (and-then ! (load ! (from ! (stop !)) (look ! 8 refl)) (and-then ! (load ! (from ! (fld ! refl (stop !))) (look-in ! 23 (sub ! 1 refl (whole !)))) (no-more !))))
+        (from ! (stop !)) (init ! 6 refl (tt, (tt, (record { fits = ga .0 }, tt)))) $
         -- it is lent to `run_packed` for a lifetime ν
         lft-new ! tt (λ ν. move ! (1 ∷ []) $
         use1 W (later (some (λ (η : GName). ‵ (Own-shr l₆ ν η) ⊛ ‵ (flent (ν ∷ []) (partAt Bytes fullShare ps l₆ 0))))) (lends-shr 𝓤 H A W Bytes (named 1) (ν ∷ []) fullShare ps l₆ 0) $ await ! tt $ pick ! (λ η. split ! $
         -- [the lent room; the lender's part; ν's token; the calls' token; the rooms' tokens; the table's; the rooms; Ot; _14 at 8; …]
         move ! (2 ∷ 4 ∷ []) $ join ! $ move ! (4 ∷ 0 ∷ []) $ join ! $ move ! (1 ∷ 4 ∷ []) $ fjoin ! $ move ! (4 ∷ 0 ∷ []) $ fjoin ! $ move ! (1 ∷ 0 ∷ []) $ use2 W (raw (Run 𝓤 H A mem run .pre (to-run l₆ ν η))) (goes-run l₆ ν η) $
         -- [what is asked; the lender's part; the calls' token; _14 at 3; …]
-        calls-at ! fm (Run 𝓤 H A mem run) known-run (to-run l₆ ν η) (and-then ! (load ! (from ! (stop !)) (look ! 28 refl)) (and-then ! (load ! (from ! (stop !)) (look ! 26 refl)) (and-then ! (load ! (from ! (stop !)) (look ! 13 refl)) (and-then ! (load ! (from ! (stop !)) (look ! 11 refl)) (and-then ! (load ! (from ! (stop !)) (look ! 7 refl)) (and-then ! (load ! (from ! (stop !)) (look ! 3 refl)) (no-more !))))))) (λ w.
-        use1 W (later (some (λ (r : Ran). (Toks-run ν ⊛ ‵ (R.the-row .own r (w ∷ []))) ⊛ raw (ensured 𝓤 H A run-packed.ended (run-packed.clauses 𝓤 H A mem run) (κ₀, (ν ∷ [], (κ₂, (κ₃, tt)))) (given-run l₆ η) tt r)))) (id⊢ 𝓤 _) $ await ! tt $ pick ! (λ r.
-        split ! $ move ! (1 ∷ []) $ use1 W (some (λ (zs : Lasts-run). ‵ (lasts run-packed.ended (κ₀, (ν ∷ [], (κ₂, (κ₃, tt)))) (given-run l₆ η) zs) ⊛ raw (fact 𝓤 (Ended (now t) F ps n (now s) (now a) r (zs .1 .1 .1 .1 .0) (zs .1 .1 .1 .1 .1 .0))))) (id⊢ 𝓤 _) $ pick ! (λ zs.
+        calls-at ! fm (Run 𝓤 H A mem run) known-run (to-run l₆ ν η)
+        (and-then ! (load ! (from ! (stop !)) (look ! 28 refl))
+        (and-then ! (load ! (from ! (stop !)) (look ! 26 refl))
+        (and-then ! (load ! (from ! (stop !)) (look ! 13 refl))
+        (and-then ! (load ! (from ! (stop !)) (look ! 11 refl)) (and-then ! (load ! (from ! (stop !)) (look ! 7 refl)) (and-then ! (load ! (from ! (stop !)) (look ! 3 refl)) (no-more !))))))) (λ w.
+        use1 W (later (some (λ (r : Ran). (Toks-run ν ⊛ ‵ (R.the-row .own r (w ∷ []))) ⊛ raw (ensured 𝓤 H A run-packed.ended (run-packed.clauses 𝓤 H A mem run) (κ₀, (ν ∷ [], (κ₂, (κ₃, tt)))) (given-run l₆ η) tt r)))) (id⊢ 𝓤 _) $
+        await ! tt $ pick ! (λ r.
+        split ! $ move ! (1 ∷ []) $
+        use1 W (some (λ (zs : Lasts-run). ‵ (lasts run-packed.ended (κ₀, (ν ∷ [], (κ₂, (κ₃, tt)))) (given-run l₆ η) zs) ⊛ raw (fact 𝓤 (Ended (now t) F ps n (now s) (now a) r (zs .1 .1 .1 .1 .0) (zs .1 .1 .1 .1 .1 .0))))) (id⊢ 𝓤 _) $
+        pick ! (λ zs.
         split ! $ move ! (1 ∷ []) $ heard ! (Ended (now t) F ps n (now s) (now a) r (zs .1 .1 .1 .1 .0) (zs .1 .1 .1 .1 .1 .0)) (λ ended.
         -- what is said of the last values: nothing of the first four
         fsplit ! $ drop ! $ fsplit ! $ drop ! $ fsplit ! $ drop ! $ fsplit ! $ drop ! $ fsplit ! $ fsplit ! $ move ! (1 ∷ []) $ feqL ! (λ ls. move ! (1 ∷ []) $ fsplit ! $ fsplit ! $ move ! (1 ∷ []) $ feqL ! (λ la.
@@ -273,24 +287,36 @@ module _ {M : Type 1} (𝓤 : URA M) (H : Heap 𝓤) (A : Atoms 𝓤) (W : Given
         use1 W (some (λ (z : Val). ‵ (fat fullShare bytes l₆ 0 z) ⊛ ‵ (Bytes .own ps (z ∷ [])))) (part-out-at 𝓤 H A W Bytes refl fullShare ps l₆ 0 bytes refl) $ pick ! (λ z. split ! $
         -- [_6; what it owns; the rooms' tokens; the table's; the result; the last answers; true; the last state; the calls' token; _14 at 9; …;
         -- that _6 dies at 25; …; _0 at 36]
-        returns ! (look ! 36 refl) $ forget ! 0 refl $ forget ! 9 refl $ forget ! 11 refl $ forget ! 13 refl $ forget ! 15 refl $ forget ! 17 refl $ forget ! 19 refl $ forget ! 21 refl $ forget ! 23 refl $ forget ! 26 refl $ forget ! 28 refl $ forget ! 30 refl $ forget ! 32 refl $ forget ! 34 refl $ forget ! 36 refl $
-        move ! (36 ∷ 37 ∷ []) $ free1 ! $ move ! (34 ∷ 35 ∷ []) $ free1 ! $ move ! (32 ∷ 33 ∷ []) $ free1 ! $ move ! (30 ∷ 31 ∷ []) $ free1 ! $ move ! (28 ∷ 29 ∷ []) $ free1 ! $ move ! (26 ∷ 27 ∷ []) $ free1 ! $ move ! (0 ∷ 25 ∷ []) $ free1 ! $ move ! (22 ∷ 23 ∷ []) $ free1 ! $
-        move ! (20 ∷ 21 ∷ []) $ free1 ! $ move ! (18 ∷ 19 ∷ []) $ free1 ! $ move ! (16 ∷ 17 ∷ []) $ free1 ! $ move ! (14 ∷ 15 ∷ []) $ free1 ! $ move ! (12 ∷ 13 ∷ []) $ free1 ! $ move ! (10 ∷ 11 ∷ []) $ free1 ! $ move ! (8 ∷ 9 ∷ []) $ free1 ! $ free0 ! $
+        returns ! (look ! 36 refl) $ forget ! 0 refl $ forget ! 9 refl $ forget ! 11 refl $ forget ! 13 refl $ forget ! 15 refl $ forget ! 17 refl $ forget ! 19 refl $
+        forget ! 21 refl $ forget ! 23 refl $ forget ! 26 refl $ forget ! 28 refl $ forget ! 30 refl $ forget ! 32 refl $ forget ! 34 refl $ forget ! 36 refl $
+        move ! (36 ∷ 37 ∷ []) $ free1 ! $ move ! (34 ∷ 35 ∷ []) $ free1 ! $ move ! (32 ∷ 33 ∷ []) $ free1 ! $ move ! (30 ∷ 31 ∷ []) $ free1 ! $
+        move ! (28 ∷ 29 ∷ []) $ free1 ! $ move ! (26 ∷ 27 ∷ []) $ free1 ! $ move ! (0 ∷ 25 ∷ []) $ free1 ! $ move ! (22 ∷ 23 ∷ []) $ free1 ! $
+        move ! (20 ∷ 21 ∷ []) $ free1 ! $ move ! (18 ∷ 19 ∷ []) $ free1 ! $ move ! (16 ∷ 17 ∷ []) $ free1 ! $ move ! (14 ∷ 15 ∷ []) $
+        free1 ! $ move ! (12 ∷ 13 ∷ []) $ free1 ! $ move ! (10 ∷ 11 ∷ []) $ free1 ! $ move ! (8 ∷ 9 ∷ []) $ free1 ! $ free0 ! $
         move ! (7 ∷ 1 ∷ []) $ join ! $ move ! (2 ∷ 0 ∷ []) $ join ! $ keep ! (0 ∷ 2 ∷ 3 ∷ 4 ∷ 5 ∷ []) $
         by ! (exits r w (zs .1 .1 .1 .1 .0) (zs .1 .1 .1 .1 .1 .0) (answer-is (now c) ended) (states-are (now c) ended) (bytes-are (now c) ended) ls la)))))))))))))))))))))))))))))))
 
-module _ {M : Type 1} (𝓤 : URA M) (H : Heap 𝓤) (A : Atoms 𝓤) (W : Given 𝓤 H A) (mem : Memory → SProp 𝓤) (run : Routine → Fun 𝓤) (𝓣 : Tables 𝓤 H) (known-pack : Triple 𝓤 (𝓣 .C #records·pack) (Pack 𝓤 H A mem run)) (known-run : Triple 𝓤 (𝓣 .C #records·run-packed) (Run 𝓤 H A mem run)) where
+module _ {M : Type 1} (𝓤 : URA M) (H : Heap 𝓤) (A : Atoms 𝓤) (W : Given 𝓤 H A) (mem : Memory → SProp 𝓤) (run : Routine → Fun 𝓤) (𝓣 : Tables 𝓤 H)
+    (known-pack : Triple 𝓤 (𝓣 .C #records·pack) (Pack 𝓤 H A mem run)) (known-run : Triple 𝓤 (𝓣 .C #records·run-packed) (Run 𝓤 H A mem run)) where
   run-records-walks : Walks 𝓤 H A run-records.ended stayed (WpFn 𝓤 H (𝓣 .C) (𝓣 .Λ) code.function) (run-records.clauses 𝓤 H A mem run)
   run-records-walks = walked 𝓤 H A run-records.ended stayed (run-records.clauses 𝓤 H A mem run) (WpFn 𝓤 H (𝓣 .C) (𝓣 .Λ) code.function)
       (λ κs. (slice-vals, (uint-vals w64, (slice-vals, (slice-vals, (slice-vals, tt))))))
       (λ κs. (shr-slice-tells (named 0) (κs .0) u64, (uint-tells w64, (shr-slice-tells (named 1) (κs .1 .0) T.the-row, (mut-slice-tells (named 2) (κs .1 .1 .0) u64, (mut-slice-tells (named 3) (κs .1 .1 .1 .0) u8, tt))))))
-      (λ κs qs bounds a g are. via 𝓤 _ (fst∗ 𝓤 _ (emp 𝓤)) (walk 𝓤 H A W mem run (κs .0) (κs .1 .0) (κs .1 .1 .0) (κs .1 .1 .1 .0) (qs .0) (qs .1 .0) (qs .1 .1 .0) (qs .1 .1 .1 .0) (a .0) (a .1 .0) (a .1 .1 .0) (a .1 .1 .1 .0) (a .1 .1 .1 .1 .0)
+      (λ κs qs bounds a g are. via 𝓤 _ (fst∗ 𝓤 _ (emp 𝓤))
+      (walk 𝓤 H A W mem run (κs .0) (κs .1 .0) (κs .1 .1 .0) (κs .1 .1 .1 .0) (qs .0) (qs .1 .0) (qs .1 .1 .0) (qs .1 .1 .1 .0) (a .0) (a .1 .0) (a .1 .1 .0) (a .1 .1 .1 .0) (a .1 .1 .1 .1 .0)
       (are .0 .0 .1) (are .1 .0 .1) (are .1 .1 .0 .0 .1) (are .1 .1 .1 .0 .0 .1) (are .1 .1 .1 .1 .0 .0 .1) (𝓣 .C) (𝓣 .Λ) (fmOf 𝓤 H (W .laws) 𝓣) known-pack known-run))
 
   run-records-meets : Meets 𝓤 H A run-records.signature (WpFn 𝓤 H (𝓣 .C) (𝓣 .Λ) code.function) (run-records.spec 𝓤 H A mem run)
   run-records-meets = walk-meets 𝓤 H A run-records.ended stayed W (
     goes-dropped 𝓤 H A W 4 (shrSliceOf (0 ∷ []) tt (plain (λ _. u64))) yes (λ κs x f. refl),
-    (goes-dropped 𝓤 H A W 4 (plain (λ _. u64)) yes (λ κs x f. refl), (goes-dropped 𝓤 H A W 4 (shrSliceOf (1 ∷ []) tt (plain (λ _. T.the-row))) yes (λ κs x f. refl), (goes-gave-slice 𝓤 H A W 4 2 tt (plain (λ _. u64)), (goes-gave-slice 𝓤 H A W 4 3 tt (plain (λ _. u8)), tt)))),
+    (
+      goes-dropped 𝓤 H A W 4 (plain (λ _. u64)) yes (λ κs x f. refl),
+      (
+        goes-dropped 𝓤 H A W 4 (shrSliceOf (1 ∷ []) tt (plain (λ _. T.the-row))) yes
+            (λ κs x f. refl),
+        (goes-gave-slice 𝓤 H A W 4 2 tt (plain (λ _. u64)), (goes-gave-slice 𝓤 H A W 4 3 tt (plain (λ _. u8)), tt)),
+      ),
+    ),
   ) (run-records.clauses 𝓤 H A mem run) (WpFn 𝓤 H (𝓣 .C) (𝓣 .Λ) code.function) (WpFn-mono 𝓤 H (W .laws) 𝓣 code.function) run-records-walks
 
 pub run-records-spec : {M : Type 1} → stated.statement M

@@ -17,7 +17,8 @@ returns : tie.Need-returns
 returns c =
     let a = c .before .before .before .before .before .before .before .before .before .before .before .before .before .before .before .before .before .args in
     as-text (site-drill (a .drill) (a .live) (a .v) (sym (c .before .before .before .before .before .before .mark .ensures) ∙ c .before .before .before .before .before .if1 .taken))
-    (three (c .before .before .before .before .before .before .before .before .before .before .before .before .before .put .ensures) (c .before .before .before .before .before .before .before .before .before .put-decimal .ensures) (c .before .before .put2 .ensures) (omega arith))
+    (three (c .before .before .before .before .before .before .before .before .before .before .before .before .before .put .ensures)
+    (c .before .before .before .before .before .before .before .before .before .put-decimal .ensures) (c .before .before .put2 .ensures) (omega arith))
 
 put-requires-3 : tie.Need-put-requires-3
 put-requires-3 c κs = omega (arith, length-decimal (c .before .before .before .before .before .before .before .before .before .before .before .before .before .before .args .v))
@@ -27,7 +28,8 @@ returns-2 c =
     let a = c .before .before .before .before .before .before .before .before .before .before .before .before .before .before .before .before .before .args in
     as-text
     (site-live (a .drill) (a .live) (a .v) (ap (λ x. eqb x 1) (sym (c .before .before .before .before .before .before .mark .ensures)) ∙ ne-eqb _ 1 (c .before .before .before .before .before .if1 .left)))
-    (three (c .before .before .before .before .before .before .before .before .before .before .before .before .before .put .ensures) (c .before .before .before .before .before .before .before .before .before .put-decimal .ensures) (c .before .before .put3 .ensures) (omega arith))
+    (three (c .before .before .before .before .before .before .before .before .before .before .before .before .before .put .ensures)
+    (c .before .before .before .before .before .before .before .before .before .put-decimal .ensures) (c .before .before .put3 .ensures) (omega arith))
 
 pub put-site-spec : {M : Type 1} → statement M
 put-site-spec =
