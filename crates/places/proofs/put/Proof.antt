@@ -2,8 +2,8 @@
 use mathlib.Core.Path.{refl}
 use borrow.Author.Needs.{needs}
 use Rattle.rules.specs.State.{add}
-use Rattle.taking.proofs.put.Statement.{statement}
-use Rattle.taking.proofs.put.Tie as tie
+use Rattle.places.proofs.put.Statement.{statement}
+use Rattle.places.proofs.put.Tie as tie
 
 returns : tie.Need-returns
 unfolding add

@@ -4,8 +4,8 @@ use borrow.Author.Needs.{needs}
 use denote.Ref.{now}
 use Rattle.sets.specs.Promises.{questions}
 use Rattle.rules.proofs.WorkWays.{accepts-by-blocking, accepts-by-quorum}
-use Rattle.soundness.proofs.is_accepting.Statement.{statement}
-use Rattle.soundness.proofs.is_accepting.Tie as tie
+use Rattle.clauses.proofs.is_accepting.Statement.{statement}
+use Rattle.clauses.proofs.is_accepting.Tie as tie
 
 returns : tie.Need-returns
 returns c =
@@ -14,7 +14,7 @@ returns c =
     let o = c .before .before .minus in (
       accepts-by-blocking (questions (now (a .table))) (a .v) (a .votes) (a .accepts) (c .before .before .before .single .ensures) (o .ensures)
           (sym (c .before .blocked .ensures) ∙ c .if1 .taken),
-      b .pre .2,
+      b .pre .1 .1,
     )
 
 returns-2 : tie.Need-returns-2

@@ -2,8 +2,8 @@
 use mathlib.Core.Path.{sym, _∙_}
 use borrow.Author.Needs.{needs}
 use Rattle.rules.proofs.Ways.{zero-votes, zero-accepts, zero-voted, zero-accepted, zero-confirmed}
-use Rattle.soundness.proofs.is_not_zero.Statement.{statement}
-use Rattle.soundness.proofs.is_not_zero.Tie as tie
+use Rattle.clauses.proofs.is_not_zero.Statement.{statement}
+use Rattle.clauses.proofs.is_not_zero.Tie as tie
 
 returns : tie.Need-returns
 returns c = zero-votes _ _ _ _ _ _ (c .if1 .taken)
