@@ -3,8 +3,8 @@ use mathlib.Core.Bool.{Bool}
 use mathlib.Core.Path.{sym, ap, _∙_}
 use borrow.Author.Needs.{needs}
 use Rattle.rules.specs.Rules.{only}
-use Rattle.taking.proofs.only.Statement.{statement}
-use Rattle.taking.proofs.only.Tie as tie
+use Rattle.accepting.proofs.only.Statement.{statement}
+use Rattle.accepting.proofs.only.Tie as tie
 
 returns : tie.Need-returns
 returns c = c .single .ensures ∙ sym (ap (λ (x : Bool). only x (c .before .before .args .v)) (c .before .if1 .taken))
