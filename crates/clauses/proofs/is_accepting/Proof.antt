@@ -1,5 +1,4 @@
 -- `is_accepting` meets its contract: blocked, or else by a quorum.
-use mathlib.Core.Path.{sym, _∙_}
 use borrow.Author.Needs.{needs}
 use denote.Ref.{now}
 use Rattle.sets.specs.Promises.{questions}
@@ -13,18 +12,18 @@ returns c =
     let a = b .args in
     let o = c .before .before .minus in (
       accepts-by-blocking (questions (now (a .table))) (a .v) (a .votes) (a .accepts) (c .before .before .before .single .ensures) (o .ensures)
-          (sym (c .before .blocked .ensures) ∙ c .if1 .taken),
+          (c .before .blocked .ensures) (c .if1 .taken),
       b .pre .1 .1,
     )
 
 returns-2 : tie.Need-returns-2
 returns-2 c =
     let a = c .before .before .before .before .before .before .before .args in
-    let o = c .before .before .before .before .minus in (
-      c .belongs .ensures .0
-          ∙ accepts-by-quorum (questions (now (a .table))) (a .v) (a .votes) (a .accepts) (c .before .before .before .before .before .single .ensures) (o .ensures)
-          (sym (c .before .before .before .blocked .ensures) ∙ c .before .before .if1 .left),
-      c .belongs .ensures .1,
+    let o = c .before .before .before .before .minus in
+    let r = c .belongs .ensures in (
+      accepts-by-quorum (questions (now (a .table))) (a .v) (a .votes) (a .accepts) (c .before .before .before .before .before .single .ensures) (o .ensures)
+          (c .before .before .before .blocked .ensures) (c .before .before .if1 .left) (r .0),
+      r .1,
     )
 
 pub is-accepting-spec : {M : Type 1} → statement M

@@ -16,8 +16,9 @@ returns c =
 
 is-heard-requires : tie.Need-is-heard-requires
 is-heard-requires c κs =
+    let a = c .before .before .before .before .before .before .before .args in
     let p = c .before .before .before .before .before .before .before .pre in
-    (p .1 .long, (p .0 .few-sites, takes-found (c .before .before .before .answer .ensures) (c .before .enum-told .given .1) .range))
+    (p .1 .long, (p .0 .few-sites, takes-found {c = call (a .kind) (a .from) (a .to) (a .side)} (c .before .before .before .answer .ensures) (c .before .enum-told .given .1) .range))
 
 returns-2 : tie.Need-returns-2
 returns-2 c =
@@ -30,9 +31,10 @@ take-requires : tie.Need-take-requires
 take-requires c κs =
     let b = c .before .before .before .before .before .before .before .before .before .before in
     let p = b .pre in
-    let K = takes-found (c .before .before .before .before .before .before .answer .ensures) (c .before .before .before .before .enum-told .given .1) in
+    let a = b .args in
+    let K = takes-found {c = call (a .kind) (a .from) (a .to) (a .side)} (c .before .before .before .before .before .before .answer .ensures) (c .before .before .before .before .enum-told .given .1) in
     let r = K .range in
-    (p .0, (p .1 .long, (r, sound-since (p .1) (b .args .from) (r .side-in) (r .to-in) (K .correct))))
+    (p .0, (p .1 .long, (r, sound-since (p .1) {v = a .to} {side = a .side} (a .from) (r .side-in) (r .to-in) (K .correct))))
 
 returns-3 : tie.Need-returns-3
 returns-3 c =
