@@ -11,7 +11,7 @@ use Rattle.ground.proofs.Numbers.{two}
 use Rattle.masks.proofs.Laws.Subsets.{mem}
 use Rattle.masks.specs.Mask.{has, _∈_}
 use Rattle.refusals.specs.Refusal.{code}
-use Rattle.refusals.specs.declared.Check.the-variants.{Sound as Took, Refused}
+use Rattle.refusals.specs.declared.Check.the-variants.{Refused}
 use Rattle.refusals.specs.declared.Refusal.{Refusal}
 use Rattle.rules.proofs.Answer.{Takes, takes, takes-answer, takes-later, Refuses, refused, answered, step-refused, step-cases}
 use Rattle.rules.proofs.Heard.{heard-grows, heard-proposal}

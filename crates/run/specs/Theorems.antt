@@ -41,7 +41,7 @@ OrderFree =
 abbrev pub FewPasses : Type 0
 FewPasses = (t : List ℕ) (F : ℕ) (list state answers : List ℕ) (p : ℕ) → Taken t F list state answers p → p ≤ suc (length list / 4)
 
--- the answer and the two rooms are the run of the list
+-- The run is the run: what the call answers and what its two rooms hold are the run of its list, and only one outcome is like that (`OnlyRun`)
 abbrev pub TheRun : Type 0
 TheRun =
     (t : List ℕ) (F : ℕ) (list state answers : List ℕ) (p : ℕ) → Taken t F list state answers p →
