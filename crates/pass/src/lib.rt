@@ -9,13 +9,6 @@ ghost use Rattle.pass.specs.Calls.{calls, callAt};
 ghost use Rattle.pass.specs.Inner.{Passed, Listed, Again, Waiting, PassedAgain};
 ghost use Rattle.votes.specs.Inner.{Works};
 
-// A byte as a number that can be an index.
-fn wide(x: u8) -> usize
-    ensures { λ r. ⌜ r ≡ x ⌝ }
-{
-    x as usize
-}
-
 // A kept place as a number that can be an index.
 fn place(x: u16) -> usize
     ensures { λ r. ⌜ r ≡ x ⌝ }
@@ -47,10 +40,10 @@ fn work_at(
         (now (state .entry)) (r .answer) (r .changed) (now (state .exit)) ⌝ }
 {
     let at = 4 * i;
-    let kind = wide(list[at]);
-    let from = wide(list[at + 1]);
-    let to = wide(list[at + 2]);
-    let side = wide(list[at + 3]);
+    let kind = le::wide(list[at]);
+    let from = le::wide(list[at + 1]);
+    let to = le::wide(list[at + 2]);
+    let side = le::wide(list[at + 3]);
     taking::work(table, n, faulty, state, kind, from, to, side)
 }
 

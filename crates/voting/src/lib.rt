@@ -26,13 +26,6 @@ pub fn sound(table: &[u64], faulty: u64, state: &[u64]) -> Check
     Check::Sound
 }
 
-// A byte as a number that can be an index.
-fn wide(x: u8) -> usize
-    ensures { λ r. ⌜ r ≡ x ⌝ }
-{
-    x as usize
-}
-
 // One call on a state: table, 10, 18, 11, 13, 12, 14, 15.
 pub fn step(
     table: &[u64],
@@ -56,10 +49,10 @@ pub fn step(
         n,
         faulty,
         state,
-        wide(kind),
-        wide(from),
-        wide(to),
-        wide(side),
+        le::wide(kind),
+        le::wide(from),
+        le::wide(to),
+        le::wide(side),
     );
     let a = w.answer;
     if let Check::Refused(r) = a {

@@ -13,8 +13,8 @@ returns c =
     let from = to .before .before in
     let kind = from .before .before in
     let a = kind .before .before .before .before .before .args in
-    works-at (voteOf (now (a .table)) (a .n) (a .faulty)) (a .i) (now (a .list)) (kind .wide .ensures) (from .wide2 .ensures)
-    (to .wide3 .ensures) (side .wide4 .ensures) (c .before .before .work .ensures)
+    works-at (voteOf (now (a .table)) (a .n) (a .faulty)) (a .i) (now (a .list)) (kind .wide .ensures .0) (from .wide2 .ensures .0)
+    (to .wide3 .ensures .0) (side .wide4 .ensures .0) (c .before .before .work .ensures)
 
 pub work-at-spec : {M : Type 1} → statement M
 work-at-spec =

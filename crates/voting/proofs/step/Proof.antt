@@ -27,7 +27,7 @@ returns-2 c =
     let d = b .before .before .before .before in
     let a = d .before .before .before .before .before .before .before .before .args in
     stepped-refused (now (a .table)) (a .faulty) (now (a .state)) (d .before .before .before .before .sound .ensures) (d .before .before .enum-told .given .1)
-    (same-works (d .wide .ensures) (b .before .before .before .wide2 .ensures) (b .before .before .wide3 .ensures) (b .before .wide4 .ensures) (b .work .ensures))
+    (same-works (d .wide .ensures .0) (b .before .before .before .wide2 .ensures .0) (b .before .before .wide3 .ensures .0) (b .before .wide4 .ensures .0) (b .work .ensures))
     (c .before .a .given .1)
 
 returns-3 : tie.Need-returns-3
@@ -36,7 +36,7 @@ returns-3 c =
     let d = b .before .before .before .before in
     let a = d .before .before .before .before .before .before .before .before .args in
     stepped-taken (now (a .table)) (a .faulty) (now (a .state)) (d .before .before .before .before .sound .ensures) (d .before .before .enum-told .given .1)
-    (same-works (d .wide .ensures) (b .before .before .before .wide2 .ensures) (b .before .before .wide3 .ensures) (b .before .wide4 .ensures) (b .work .ensures))
+    (same-works (d .wide .ensures .0) (b .before .before .before .wide2 .ensures .0) (b .before .before .wide3 .ensures .0) (b .before .wide4 .ensures .0) (b .work .ensures))
     (c .enum-told2 .given .1)
 
 pub step-spec : {M : Type 1} → statement M
