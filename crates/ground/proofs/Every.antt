@@ -35,12 +35,6 @@ every-suc i p = ap (λ (k : ℕ). every k p) (add-one i)
 pub every-more : (i : ℕ) (p : ℕ → Bool) → every i p ≡ true → p i ≡ true → every (i + 1) p ≡ true
 every-more i p e f = every-suc i p ∙ and-i e f
 
--- the same test at each number
-pub every-ext : (k : ℕ) (p q : ℕ → Bool) → ((j : ℕ) → p j ≡ q j) → every k p ≡ every k q
-unfolding every
-every-ext zero p q f = refl
-every-ext (suc k) p q f = rw (every-ext k p q f, f k) refl
-
 -- not all pass: one fails
 pub every-fails : (k : ℕ) (p : ℕ → Bool) → every k p ≡ false → (j : ℕ) × (j < k) × (p j ≡ false)
 unfolding every

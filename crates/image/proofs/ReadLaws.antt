@@ -68,7 +68,7 @@ loads-sound n image h =
     (λ i l. ap (siteCheck n i) (loads-site n image i l)
     ∙ block-sound n i (part 512 i image) (first-all (λ j. blockCheck n j (part 512 j image)) n i h l) .4)
 
-loads-table : (n : ℕ) (image : List ℕ) → 1 ≤ n → n ≤ 64 → blocksCheck n image ≡ Sound → Table (loads n image) n
+pub loads-table : (n : ℕ) (image : List ℕ) → 1 ≤ n → n ≤ 64 → blocksCheck n image ≡ Sound → Table (loads n image) n
 loads-table n image p q h = checked-sites (loads n image) n (length-loads n image) p q (loads-sound n image h)
 
 pub some-quorum : (n : ℕ) (t : List ℕ) → Table t n → quorumless n t ≡ false

@@ -105,8 +105,14 @@ drill-line drill live v = (
   where
     other : line (ascii "site ") (decimal v ++ ascii " live") ≡ line (ascii "site ") (decimal v ++ ascii " drill") → ⊥
     other e =
-        omega (arith, ap length e, length-line (ascii "site ") (decimal v ++ ascii " live"), length-line (ascii "site ") (decimal v ++ ascii " drill"),
-        length-append (decimal v) (ascii " live"), length-append (decimal v) (ascii " drill"))
+        omega (
+          arith,
+          ap length e,
+          length-line (ascii "site ") (decimal v ++ ascii " live"),
+          length-line (ascii "site ") (decimal v ++ ascii " drill"),
+          length-append (decimal v) (ascii " live"),
+          length-append (decimal v) (ascii " drill"),
+        )
 
 -- of a table that was read, of as many sites as its length says
 module _ (t : List ℕ) (F : ℕ) (T : Table t (sites (length t))) where
@@ -154,9 +160,9 @@ register-as-published F image list e c =
     let r = theRun t F list in (
       rw (e, c) (ap (λ (m : ℕ). endLines F m (r .passes) (r .state) (r .answers)) same),
       subst (λ (m : ℕ). (v : ℕ) → v < m → (v ∈ F → ⊥) →
-      (siteLine (get (r .state) (confirmed m 0)) (get (r .state) (confirmed m 1)) v ≡ line (ascii "site ") (decimal v ++ ascii " drill"))
-      ↔ (Confirms (fbqsOf t m) v (get (r .state) (accepts 0 v)) × (Confirms (fbqsOf t m) v (get (r .state) (accepts 1 v)) → ⊥))) same
-      (drills t F (subst (Table t) (sym same) T) list),
+          (siteLine (get (r .state) (confirmed m 0)) (get (r .state) (confirmed m 1)) v ≡ line (ascii "site ") (decimal v ++ ascii " drill"))
+          ↔ (Confirms (fbqsOf t m) v (get (r .state) (accepts 0 v)) × (Confirms (fbqsOf t m) v (get (r .state) (accepts 1 v)) → ⊥))) same
+          (drills t F (subst (Table t) (sym same) T) list),
     )
 
 pub verdict-as-published : VerdictAsPublished

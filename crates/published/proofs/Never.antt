@@ -65,7 +65,7 @@ module _ (k : ℕ) where
         (orElse-avoids _ _
         (first-avoids (sliceCheck n v slice) many
         (λ i. orElse-avoids _ _ (refuse-avoids _ (Slice v) (other 5 (λ z. omega (arith, z)) (λ z. omega (arith, z))))
-            (refuse-avoids _ (Order v) (other 6 (λ z. omega (arith, z)) (λ z. omega (arith, z))))))
+        (refuse-avoids _ (Order v) (other 6 (λ z. omega (arith, z)) (λ z. omega (arith, z))))))
         (refuse-avoids bad (Filler v) (other 8 (λ z. omega (arith, z)) (λ z. omega (arith, z)))))
 
     blocks-avoid : (n : ℕ) (image : List ℕ) → Avoids k (blocksCheck n image)
@@ -73,7 +73,7 @@ module _ (k : ℕ) where
     blocks-avoid n image =
         first-avoids _ n
         (λ i. orElse-avoids _ _ (refuse-avoids _ (Sums i) (other 2 (λ z. omega (arith, z)) (λ z. omega (arith, z))))
-            (orElse-avoids _ _ (refuse-avoids _ (Header i) (other 3 (λ z. omega (arith, z)) (λ z. omega (arith, z)))) (row-avoids n i _ _ _)))
+        (orElse-avoids _ _ (refuse-avoids _ (Header i) (other 3 (λ z. omega (arith, z)) (λ z. omega (arith, z)))) (row-avoids n i _ _ _)))
 
     table-avoids : (t : List ℕ) (F : ℕ) → Avoids k (setCheck t F)
     unfolding setCheck check sitesCheck siteCheck
@@ -108,8 +108,8 @@ reader-avoids image room =
     (λ a. behind 7 _ _ (refuse-avoids 7 _ Room (λ z. omega (arith, z)))
     (λ b. behind 7 _ _ (blocks-avoid 7 (inl refl) n image)
     (λ c. let s = blocks-shape (length image) (unrefused _ Length a) in
-        let q = some-quorum n (loads n image) (loads-table n image (s .1) (s .2) c) in
-        rw q (sound-avoids 7))))
+    let q = some-quorum n (loads n image) (loads-table n image (s .1) (s .2) c) in
+    rw q (sound-avoids 7))))
 
 pub seven-never : SevenNever
 unfolding read
@@ -148,8 +148,8 @@ nine-list t F list =
     behind 9 _ _ (table-avoids 9 (inr refl) t F)
     (λ a. behind 9 _ _ (refuse-avoids 9 _ Refusals.Refusal.List (λ z. omega (arith, z)))
     (λ b. let few = set-table t F a .few-sites in
-        let short = few-bytes (length list) (unrefused _ Refusals.Refusal.List b) in
-        rw (le-ltb (size 64) (size (sites (length t))) (omega (arith, few)), le-ltb 4096 (length list / 4) (omega (arith, short))) (sound-avoids 9)))
+    let short = few-bytes (length list) (unrefused _ Refusals.Refusal.List b) in
+    rw (le-ltb (size 64) (size (sites (length t))) (omega (arith, few)), le-ltb 4096 (length list / 4) (omega (arith, short))) (sound-avoids 9)))
 
 pub nine-never : NineNever
 unfolding imageCheck

@@ -78,11 +78,6 @@ gather-took n p e = sym (ap (λ (k : ℕ). gather k p) (add-one n) ∙ gather-in
 pub gather-left : (n : ℕ) (p : ℕ → Bool) → p n ≡ false → gather n p ≡ gather (n + 1) p
 gather-left n p e = sym (ap (λ (k : ℕ). gather k p) (add-one n) ∙ gather-out n p e)
 
-pub gather-ext : (n : ℕ) (p q : ℕ → Bool) → ((v : ℕ) → v < n → p v ≡ q v) → gather n p ≡ gather n q
-unfolding gather
-gather-ext zero p q f = refl
-gather-ext (suc n) p q f = ap₂ (λ (x : ℕ) (b : Bool). x + cond b (2 ^ n) 0) (gather-ext n p q (λ v l. f v (omega arith))) (f n (omega arith))
-
 pub ∈-gather : {n v : ℕ} (p : ℕ → Bool) → v < n → p v ≡ true → v ∈ gather n p
 ∈-gather {n} {v} p l e = mem (has-gather n p v ∙ and-i (lt-ltb v n l) e)
 
