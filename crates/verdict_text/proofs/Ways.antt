@@ -26,7 +26,8 @@ use Rattle.refusals.specs.declared.Refusal.{Refusal}
 use Rattle.refusals.specs.declared.Refusal.the-variants.{Length}
 use Rattle.check_text.proofs.Ways.{image-sound, image-refused}
 use Rattle.verdict_text.specs.Inner.{met}
-use Rattle.verdict_text.specs.Verdict.{sevenLines, judgedText, verdictText, inputText}
+use Rattle.verdict_lines.specs.Verdict.{sevenLines}
+use Rattle.verdict_text.specs.Verdict.{judgedText, verdictText, inputText}
 use Rattle.sets.specs.Quorum as Quorum
 use Rattle.sets.specs.Slices.{slicesOf}
 use Rattle.verdicts.specs.Verdicts as Verdicts

@@ -1,11 +1,11 @@
 -- The verdict of an image: "n; F; `yes` or `no` for shared sites; intact set; befouled set; largest quorum outside F; its rounds."
 use Prim.Native.Nat.{ℕ}
-use mathlib.Core.Bool.{Bool, _||_, cond}
-use mathlib.Core.List.{List, _++_}
+use mathlib.Core.Bool.{_||_, cond}
+use mathlib.Core.List.{List}
 use lib.Dec.{ltb}
 use lib.ListN.{length, drop}
 use Rattle.le.specs.Le.{field}
-use Rattle.lines.specs.Lines.{line, refused}
+use Rattle.lines.specs.Lines.{refused}
 use Rattle.masks.specs.Mask.{allBelow, minus}
 use Rattle.questions.specs.Answers.{verdictCheck}
 use Rattle.refusals.specs.declared.Refusal.the-variants.{Length}
@@ -14,19 +14,7 @@ use Rattle.sets.specs.Quorum.{largest, rounds}
 use Rattle.sets.specs.Slices.{slicesOf}
 use Rattle.verdicts.specs.Verdicts.{meets, intact}
 use Rattle.table.specs.Table.{sites, setCheck}
-use Rattle.text.specs.Text.{ascii, decimal, mask}
-
--- for n sites, of which those of F are faulty: do the quorums meet, the intact sites, the largest quorum outside F and its rounds
-unfoldable pub sevenLines : ℕ → ℕ → Bool → ℕ → ℕ → ℕ → List ℕ
-unfolding line decimal mask
-sevenLines F n meet whole quorum k =
-    line (ascii "sites ") (decimal n)
-    ++ (line (ascii "faulty ") (mask F)
-    ++ (line (ascii "meet ") (cond meet (ascii "yes") (ascii "no"))
-    ++ (line (ascii "intact ") (mask whole)
-    ++ (line (ascii "befouled ") (mask (minus (allBelow n) whole))
-    ++ (line (ascii "quorum ") (mask quorum)
-    ++ line (ascii "rounds ") (decimal k))))))
+use Rattle.verdict_lines.specs.Verdict.{sevenLines}
 
 -- of a table in memory: 10, then 16, then the lines
 unfoldable pub judgedText : ℕ → List ℕ → List ℕ

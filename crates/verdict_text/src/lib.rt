@@ -5,37 +5,13 @@ ghost use lib.ListN.{length};
 ghost use Rattle.io.specs.Counts.{Counts};
 ghost use Rattle.text.specs.Written.{Writes};
 ghost use Rattle.verdict_text.specs.Inner.{met};
-ghost use Rattle.verdict_text.specs.Verdict.{sevenLines, judgedText, verdictText, inputText};
+ghost use Rattle.verdict_text.specs.Verdict.{judgedText, verdictText, inputText};
 use check_text::ROOM;
 use image::Reading;
 use questions::Greatest;
 use questions::Sharing;
 use questions::Standing;
 use refusals::Refusal;
-
-// The seven lines of a verdict.
-fn put_verdict(
-    room: &mut [u8],
-    faulty: u64,
-    sites: u64,
-    meet: bool,
-    intact: u64,
-    quorum: u64,
-    rounds: u64,
-) -> usize
-    requires { ⌜ 300 ≤ length (now room) ⌝ }
-    requires { ⌜ sites ≤ 64 ⌝ }
-    ensures { λ r. ⌜ Writes (sevenLines faulty sites meet intact quorum rounds) (now (room .entry)) 0 r (now (room .exit)) ⌝ }
-{
-    let at = lines::line_decimal(room, 0, b"sites ", sites);
-    let at = lines::line_mask(room, at, b"faulty ", faulty);
-    let at = lines::line_answer(room, at, b"meet ", meet);
-    let at = lines::line_mask(room, at, b"intact ", intact);
-    let befouled = masks::minus(masks::all_below(sites), intact);
-    let at = lines::line_mask(room, at, b"befouled ", befouled);
-    let at = lines::line_mask(room, at, b"quorum ", quorum);
-    lines::line_decimal(room, at, b"rounds ", rounds)
-}
 
 // Whether every two quorums meet.
 fn meets(s: Sharing) -> bool
@@ -67,7 +43,7 @@ fn judge(table: &[u64], sites: u64, faulty: u64, room: &mut [u8]) -> usize
             let greatest = questions::largest(table, others);
             match greatest {
                 Greatest::Refused(r) => lines::put_refused(room, 0, r),
-                Greatest::Set { set, rounds } => put_verdict(
+                Greatest::Set { set, rounds } => verdict_lines::put_verdict(
                     room,
                     faulty,
                     sites,

@@ -6,10 +6,10 @@ use Rattle.lines.proofs.Chain.{as-text, seven}
 use Rattle.lines.proofs.Lengths.{decimal-line, mask-line, answer-line}
 use Rattle.lines.specs.Lines.{line}
 use Rattle.masks.specs.Mask.{minus}
-use Rattle.verdict_text.specs.Verdict.{sevenLines}
+use Rattle.verdict_lines.specs.Verdict.{sevenLines}
 use Rattle.text.specs.Text.{ascii, mask}
-use Rattle.verdict_text.proofs.put_verdict.Statement.{statement}
-use Rattle.verdict_text.proofs.put_verdict.Tie as tie
+use Rattle.verdict_lines.proofs.put_verdict.Statement.{statement}
+use Rattle.verdict_lines.proofs.put_verdict.Tie as tie
 
 line-mask-requires : tie.Need-line-mask-requires
 line-mask-requires c κs =
