@@ -17,60 +17,10 @@
 //   s AT              the number in four bytes of the image, from byte AT on
 //   c N X             how many of the first N numbers of the table are X
 //   e                 1 where the image is what was kept, 0 where it is not
-ghost use Prim.Native.Nat.{_≤_};
-ghost use lib.ListN.{length};
+use cases::number;
+use cases::word;
 use image::Reading;
 use image::Writing;
-
-// The number x with the digit b behind it, which wraps past 64 bits; a byte that is no digit changes nothing.
-fn digit(x: u64, b: u8) -> u64 {
-    if b < 48 {
-        return x;
-    }
-    if 57 < b {
-        return x;
-    }
-    std::num::wrapping_add_u64(10 * (x % 1844674407370955162), (b - 48) as u64)
-}
-
-// The number in word k of a line, the letter being word 0.
-fn word(line: &[u8], k: usize) -> u64 {
-    let mut x = 0;
-    let mut left = k;
-    for i in 0..line.len() {
-        if line[i] == b' ' {
-            if left == 0 {
-                return x;
-            }
-            left -= 1;
-        }
-        if left == 0 {
-            x = digit(x, line[i]);
-        }
-    }
-    x
-}
-
-// Where the line that begins at a place of the text ends.
-fn line_end(text: &[u8], at: usize) -> usize
-    requires { ⌜ at ≤ length (now text) ⌝ }
-    ensures { λ r. ⌜ (at ≤ r) × (r ≤ length (now (text .entry))) ⌝ }
-{
-    let mut end = at;
-    while end < text.len() {
-        if text[end] == b'\n' {
-            return end;
-        }
-        end += 1;
-    }
-    end
-}
-
-// Writes a number.
-fn number(x: u64) {
-    io::write_all(1, b" ");
-    io::print_decimal(1, x);
-}
 
 // Writes the number of an answer, and what it carries.
 fn answer(kind: u64, carried: u64) {
@@ -198,15 +148,6 @@ fn tell(letter: u8, at: usize, x: u64, table: &[u64], image: &[u8], kept: &[u8])
     }
 }
 
-// Writes the name of a case, or ends its line.
-fn name(line: &[u8]) {
-    if line.len() < 2 {
-        io::write_all(1, b"\n");
-        return;
-    }
-    io::write_all(1, &line[2..line.len()]);
-}
-
 // Does what a line says.
 fn command(
     line: &[u8],
@@ -220,7 +161,7 @@ fn command(
     let y = word(line, 2);
     match letter {
         b'#' => {}
-        b'=' | b'\n' => name(line),
+        b'=' | b'\n' => cases::say(line),
         b'T' | b'I' | b'k' | b'b' => whole(letter, x, table, image, kept),
         b't' | b'i' | b'm' => change(letter, at, y, table, image),
         b'r' | b'w' | b'W' => exchange(letter, at, y as usize, table, image),
@@ -232,7 +173,7 @@ fn command(
 fn lines(text: &[u8], table: &mut [u64; 4095], image: &mut [u8; 33280], kept: &mut [u8; 33280]) {
     let mut at = 0;
     while at < text.len() {
-        let end = line_end(text, at);
+        let end = cases::line_end(text, at);
         command(&text[at..end], text[at], table, image, kept);
         at = end + 1;
     }
@@ -245,5 +186,5 @@ fn main() {
     let mut table = [0u64; 4095];
     let mut image = [0u8; 33280];
     let mut kept = [0u8; 33280];
-    lines(&text[..n], &mut table, &mut image, &mut kept);
+    lines(&text[0..n], &mut table, &mut image, &mut kept);
 }

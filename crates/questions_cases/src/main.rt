@@ -8,70 +8,13 @@
 //   l .. SET        the largest quorum inside the set, and its rounds
 //   s ..            do every two quorums have a common site?
 //   i .. SET        which sites are intact when those of the set are faulty?
-ghost use Prim.Native.Nat.{_≤_};
-ghost use lib.ListN.{length};
+use cases::number;
+use cases::refused;
+use cases::word;
 use questions::Greatest;
 use questions::Holds;
 use questions::Sharing;
 use questions::Standing;
-use refusals::Refusal;
-
-// The number x with the digit b behind it, which wraps past 64 bits; a byte that is no digit changes nothing.
-fn digit(x: u64, b: u8) -> u64 {
-    if b < 48 {
-        return x;
-    }
-    if 57 < b {
-        return x;
-    }
-    std::num::wrapping_add_u64(10 * (x % 1844674407370955162), (b - 48) as u64)
-}
-
-// The number in word k of a line, the letter being word 0.
-fn word(line: &[u8], k: usize) -> u64 {
-    let mut x = 0;
-    let mut left = k;
-    for i in 0..line.len() {
-        if line[i] == b' ' {
-            if left == 0 {
-                return x;
-            }
-            left -= 1;
-        }
-        if left == 0 {
-            x = digit(x, line[i]);
-        }
-    }
-    x
-}
-
-// Where the line that begins at a place of the text ends.
-fn line_end(text: &[u8], at: usize) -> usize
-    requires { ⌜ at ≤ length (now text) ⌝ }
-    ensures { λ r. ⌜ (at ≤ r) × (r ≤ length (now (text .entry))) ⌝ }
-{
-    let mut end = at;
-    while end < text.len() {
-        if text[end] == b'\n' {
-            return end;
-        }
-        end += 1;
-    }
-    end
-}
-
-// Writes a number.
-fn number(x: u64) {
-    io::write_all(1, b" ");
-    io::print_decimal(1, x);
-}
-
-// Writes a refusal.
-fn refused(r: Refusal) {
-    io::write_all(1, b" refused");
-    number(refusals::number(r));
-    number(refusals::place(r));
-}
 
 // Writes whether it holds.
 fn holds(answer: Holds) {
@@ -119,14 +62,6 @@ fn standing(answer: Standing) {
     }
 }
 
-// Changes a number of the table: the place, and what stands there then.
-fn put(line: &[u8], table: &mut [u64]) {
-    let at = word(line, 1) as usize;
-    if at < table.len() {
-        table[at] = word(line, 2);
-    }
-}
-
 // Writes the question of a line and its answer.
 fn ask(line: &[u8], table: &[u64]) {
     if line.len() < 2 {
@@ -155,7 +90,7 @@ fn command(line: &[u8], letter: u8, numbers: &mut [u64], from: usize, to: usize)
     match letter {
         b'#' => {}
         b'n' => {}
-        b't' => put(line, &mut numbers[from..to]),
+        b't' => cases::put(line, &mut numbers[from..to]),
         _ => ask(line, &numbers[from..to]),
     }
 }
@@ -166,7 +101,7 @@ fn lines(text: &[u8], numbers: &mut [u64]) {
     let mut to = 0;
     let mut at = 0;
     while at < text.len() {
-        let end = line_end(text, at);
+        let end = cases::line_end(text, at);
         let line = &text[at..end];
         let letter = text[at];
         if letter == b'n' {
@@ -183,5 +118,5 @@ fn main() {
     let mut text = [0u8; 8192];
     let n = io::read_full(0, &mut text);
     let mut numbers = [0u64; 12288];
-    lines(&text[..n], &mut numbers);
+    lines(&text[0..n], &mut numbers);
 }

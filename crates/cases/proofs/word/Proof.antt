@@ -3,8 +3,8 @@ use Prim.Native.Nat.{_-_}
 use mathlib.Core.Path.{_≡_}
 use lib.ListN.{length}
 use borrow.Author.Needs.{needs}
-use Rattle.questions_cases.proofs.word.Statement.{statement}
-use Rattle.questions_cases.proofs.word.Tie as tie
+use Rattle.cases.proofs.word.Statement.{statement}
+use Rattle.cases.proofs.word.Tie as tie
 
 abbrev Inv-loop : tie.InvT-loop
 Inv-loop line k x₀ left₀ i₀ i-end x left i = i-end ≡ length line

@@ -2,14 +2,14 @@
 use Prim.Native.Nat.{_-_}
 use native.Mathlib.Omega.{arith}
 use borrow.Author.Needs.{needs}
-use Rattle.records_cases.proofs.bytes.Statement.{statement}
-use Rattle.records_cases.proofs.bytes.Tie as tie
+use Rattle.cases.proofs.bytes.Statement.{statement}
+use Rattle.cases.proofs.bytes.Tie as tie
 
 abbrev Inv-loop : tie.InvT-loop
-Inv-loop room from to i₀ i = Unit {0}
+Inv-loop row from to i₀ i = Unit {0}
 
 abbrev μ-loop : tie.MeasureT-loop
-μ-loop room from to i₀ i = to - i
+μ-loop row from to i₀ i = to - i
 
 pub bytes-spec : {M : Type 1} → statement M
 bytes-spec =

@@ -2,8 +2,8 @@
 use Prim.Native.Nat.{_≤_, _-_}
 use lib.ListN.{length}
 use borrow.Author.Needs.{needs}
-use Rattle.records_cases.proofs.line_end.Statement.{statement}
-use Rattle.records_cases.proofs.line_end.Tie as tie
+use Rattle.cases.proofs.line_end.Statement.{statement}
+use Rattle.cases.proofs.line_end.Tie as tie
 
 abbrev Inv-loop : tie.InvT-loop
 Inv-loop text at end₀ end = (at ≤ end) × (end ≤ length text)
