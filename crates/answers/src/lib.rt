@@ -37,11 +37,13 @@ fn is_crooked(kind: usize, from: usize, to: usize, side: usize) -> bool
 
 // A proposal to a site that has voted for the other side.
 fn is_against(n: usize, state: &[u64], kind: usize, from: usize, to: usize, side: usize) -> bool
-    requires { ⌜ (length (now state) ≡ size n) × (n ≤ 64) × InRange n (call kind from to side) ⌝ }
+    requires { ⌜ length (now state) ≡ size n ⌝ }
+    requires { ⌜ n ≤ 64 ⌝ }
+    requires { ⌜ InRange n (call kind from to side) ⌝ }
     ensures { λ r. ⌜ r ≡ against n (call kind from to side) (now (state .entry)) ⌝ }
 {
     if kind == 0 {
-        return masks::has(state[4 * n + (1 - side)], to as u64);
+        return masks::has(state[places::voted(n, 1 - side)], to as u64);
     }
     false
 }
@@ -56,7 +58,9 @@ fn is_unsent(
     to: usize,
     side: usize,
 ) -> bool
-    requires { ⌜ (length (now state) ≡ size n) × (n ≤ 64) × InRange n (call kind from to side) ⌝ }
+    requires { ⌜ length (now state) ≡ size n ⌝ }
+    requires { ⌜ n ≤ 64 ⌝ }
+    requires { ⌜ InRange n (call kind from to side) ⌝ }
     ensures { λ r. ⌜ r ≡ unsent n faulty (call kind from to side) (now (state .entry)) ⌝ }
 {
     if kind == 0 {
@@ -66,9 +70,9 @@ fn is_unsent(
         return false;
     }
     if kind == 1 {
-        return !masks::has(state[4 * n + side], from as u64);
+        return !masks::has(state[places::voted(n, side)], from as u64);
     }
-    !masks::has(state[4 * n + 2 + side], from as u64)
+    !masks::has(state[places::accepted(n, side)], from as u64)
 }
 
 // The first refusal of a call, or sound.
@@ -81,7 +85,8 @@ pub fn answer(
     to: usize,
     side: usize,
 ) -> Check
-    requires { ⌜ (length (now state) ≡ size n) × (n ≤ 64) ⌝ }
+    requires { ⌜ length (now state) ≡ size n ⌝ }
+    requires { ⌜ n ≤ 64 ⌝ }
     ensures { λ r. ⌜ r ≡ answer n faulty (call kind from to side) (now (state .entry)) ⌝ }
 {
     if is_out_of_range(n, kind, from, to, side) {
@@ -104,14 +109,16 @@ pub fn answer(
 
 // The bit that a call sets is set already.
 pub fn is_heard(n: usize, state: &[u64], kind: usize, from: usize, to: usize, side: usize) -> bool
-    requires { ⌜ (length (now state) ≡ size n) × (n ≤ 64) × InRange n (call kind from to side) ⌝ }
+    requires { ⌜ length (now state) ≡ size n ⌝ }
+    requires { ⌜ n ≤ 64 ⌝ }
+    requires { ⌜ InRange n (call kind from to side) ⌝ }
     ensures { λ r. ⌜ r ≡ heard n (call kind from to side) (now (state .entry)) ⌝ }
 {
     if kind == 0 {
-        return masks::has(state[4 * n + side], to as u64);
+        return masks::has(state[places::voted(n, side)], to as u64);
     }
     if kind == 1 {
-        return masks::has(state[4 * to + side], from as u64);
+        return masks::has(state[places::votes(side, to)], from as u64);
     }
-    masks::has(state[4 * to + 2 + side], from as u64)
+    masks::has(state[places::accepts(side, to)], from as u64)
 }

@@ -3,7 +3,7 @@ use Prim.Native.Nat.{ℕ, _-_}
 use mathlib.Core.Bool.{true, false, _&&_, _||_, not}
 use mathlib.Core.List.{List}
 use mathlib.Core.Logic.{_⊎_, inl, inr, ⊎-elim}
-use mathlib.Core.Path.{_≡_, refl, subst}
+use mathlib.Core.Path.{_≡_, refl, sym, _∙_, subst}
 use native.Mathlib.Omega.{arith}
 use lib.Dec.{eqb, ltb}
 use borrow.Author.Tests.{eq-eqb, ne-eqb, eqb-true, lt-ltb, le-ltb, ltb-true, ltb-false, not-false}
@@ -13,6 +13,7 @@ use Rattle.masks.proofs.Laws.Single.{in?, not-in}
 use Rattle.masks.proofs.Laws.Subsets.{mem}
 use Rattle.masks.specs.Mask.{has, _∈_}
 use Rattle.refusals.proofs.First.{missed}
+use Rattle.refusals.specs.declared.Check.{Check}
 use Rattle.refusals.specs.declared.Check.the-variants.{Sound, Refused}
 use Rattle.refusals.specs.declared.Refusal.{Refusal}
 use Rattle.refusals.specs.declared.Refusal.the-variants.{Range, Receiver, Proposal, Voted, Unsent}
@@ -183,6 +184,10 @@ module _ (n F : ℕ) (c : Call) (s : List ℕ) where
     -- a call that cannot be taken changes nothing
     pub step-not-taken : (Takes n F c s → ⊥) → step (vote Q n F) c s ≡ s
     step-not-taken f = ⊎-elim (λ e. e) (λ x. absurd (f (x .0))) step-cases
+
+-- as the code finds it
+pub takes-found : {n F : ℕ} {c : Call} {s : List ℕ} {a : Check} → a ≡ answer n F c s → a ≡ Sound → Takes n F c s
+takes-found {n} {F} {c} {s} e f = takes n F c s (sym e ∙ f)
 
 -- a call that is taken is taken in each later state, if a proposal is still not for the other side
 pub takes-later : {n F : ℕ} {c : Call} {s t : List ℕ} → Below s t → (c .kind ≡ 0 → c .to ∈ get t (voted n (1 - c .side)) → ⊥) → Takes n F c s →

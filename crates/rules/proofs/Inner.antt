@@ -1,6 +1,6 @@
 -- Laws of the inner step: on a sound state a call whose bit is heard already changes nothing, and a taken call whose bit is not heard changes the state.
 use Prim.Native.Nat.{ℕ}
-use mathlib.Core.Bool.{true, false, not}
+use mathlib.Core.Bool.{Bool, true, false, not}
 use mathlib.Core.List.{List}
 use mathlib.Core.Logic.{_⊎_, inl, inr, ⊎-elim}
 use mathlib.Core.Path.{_≡_, sym, ap, _∙_, subst}
@@ -12,7 +12,7 @@ use Rattle.sets.specs.Promises.{Questions}
 use Rattle.rules.specs.Inner.{heard}
 use Rattle.rules.specs.Rules.{answer, hears, nowAccepts, nowConfirms, taken}
 use Rattle.rules.specs.Sound.{Sound}
-use Rattle.rules.proofs.Answer.{Takes, takes, step-taken, step-refused, step-cases}
+use Rattle.rules.proofs.Answer.{Takes, takes-found, step-taken, step-refused, step-cases}
 use Rattle.rules.proofs.Heard.{heard-grows, hears-still, hears-heard}
 use Rattle.rules.proofs.SoundLaws.{voted-heard, accepted-heard, rule-accepted, rule-confirmed}
 use Rattle.rules.proofs.State.{below-trans}
@@ -65,15 +65,16 @@ module _ {Q : Questions} {n F : ℕ} {s : List ℕ} (S : Sound Q n F s) (c : Cal
     pub works-refused : {r : Refusal} → a ≡ Check.Refused r → Works (vote Q n F) c s a false s
     works-refused f = still (sym (step-refused n F c s Q (sym e ∙ f)))
 
-    pub works-heard : heard n c s ≡ true → Works (vote Q n F) c s a false s
-    works-heard h = still (sym (heard-still h))
+    -- h is whether the bit is heard already
+    module _ {h : Bool} (eh : h ≡ heard n c s) where
+      pub works-heard : h ≡ true → Works (vote Q n F) c s a false s
+      works-heard f = still (sym (heard-still (sym eh ∙ f)))
 
-    pub works-taken : {t : List ℕ} → a ≡ Check.Sound → heard n c s ≡ false → t ≡ taken Q n c s → Works (vote Q n F) c s a true t
-    works-taken f h q =
-        let K = takes n F c s (sym e ∙ f) in
-        record {
-          answers-so = e;
-          changes = sym (ap not (ne-alike s (step (vote Q n F) c s) (unheard-changes K h)));
-          state = q
-              ∙ sym (step-taken n F c s Q K);
-        }
+      pub works-taken : {t : List ℕ} → a ≡ Check.Sound → h ≡ false → t ≡ taken Q n c s → Works (vote Q n F) c s a true t
+      works-taken f g q =
+          let K = takes-found e f in
+          record {
+            answers-so = e;
+            changes = sym (ap not (ne-alike s (step (vote Q n F) c s) (unheard-changes K (sym eh ∙ g))));
+            state = q ∙ sym (step-taken n F c s Q K);
+          }

@@ -1,12 +1,13 @@
 -- Laws of a site that is asked only what has changed since the rules were last asked of it.
 use Prim.Native.Nat.{ℕ, _<_}
-use mathlib.Core.Bool.{true, false}
+use mathlib.Core.Bool.{Bool, true, false, not}
 use mathlib.Core.List.{List}
 use mathlib.Core.Logic.{⊎-elim}
-use mathlib.Core.Path.{_≡_, sym, ap, _∙_, subst}
+use mathlib.Core.Path.{_≡_, sym, ap, _∙_, subst, subst₂}
 use native.Mathlib.Omega.{arith}
 use lib.Bits.{bitOr}
 use lib.ListN.{length}
+use borrow.Author.Tests.{not-true, not-false}
 use Rattle.ground.proofs.Logic.{is-false, clash}
 use Rattle.ground.proofs.Numbers.{same?}
 use Rattle.masks.proofs.Laws.Single.{not-in, ∈-eq, ∈-or}
@@ -16,7 +17,7 @@ use Rattle.sets.proofs.Without.{without}
 use Rattle.sets.specs.Paper.{Fbqs}
 use Rattle.sets.specs.Promises.{Questions, Promises}
 use Rattle.rules.specs.Inner.{InRange, New, Since}
-use Rattle.rules.specs.Rules.{others, accepting, hears, nowAccepts}
+use Rattle.rules.specs.Rules.{others, accepting, confirming, hears, nowAccepts}
 use Rattle.rules.specs.Sound.{Sound}
 use Rattle.rules.specs.State.{votes, accepts, accepted, confirmed, size, get}
 use Rattle.rules.proofs.Heard.{hears-alone, hears-cases, hears-kept, says-votes, says-accepts}
@@ -76,10 +77,35 @@ module _ {Q : Questions} {n : ℕ} {a b : ℕ} {s s₁ : List ℕ} where
             (nowAccepts-cases Q n v side s (accepted n side) h);
       })
 
--- to a site that has not accepted the rule did not say so
-pub unaccepted : {Q : Questions} {n u v side a b : ℕ} {s : List ℕ} → Since Q n u v side a b s → has (get s (accepted n side)) v ≡ false →
-    accepting Q v a b ≡ false
-unaccepted {Q} {v = v} {a = a} {b} S h = is-false (accepting Q v a b) (λ e. not-in h (S .accepted-then e))
+-- of what the code reads: the votes and accepts before at the places i and j, then the state after hearing, then after accepting
+pub heard-since : {Q : Questions} {n : ℕ} {c : Call} {s s₁ : List ℕ} {i j : ℕ} → InRange n c → length s ≡ size n → i ≡ votes (c .side) (c .to) →
+    j ≡ accepts (c .side) (c .to) → s₁ ≡ hears n c s →
+    Since Q n (c .from) (c .to) (c .side) (get s (votes (c .side) (c .to))) (get s (accepts (c .side) (c .to))) s →
+    (length s₁ ≡ size n) × Since Q n (c .from) (c .to) (c .side) (get s i) (get s j) s₁
+heard-since {Q} {n} {c} {s} r long p q e S = (
+  ap length e ∙ sym (hears-alone n c s .adds .long) ∙ long,
+  hears-since r e (subst₂ (λ (x y : ℕ). Since Q n (c .from) (c .to) (c .side) (get s x) (get s y) s) (sym p) (sym q) S),
+)
+
+pub worked-since : {Q : Questions} {n a b u v side : ℕ} {s s₁ : List ℕ} → v < n → side < 2 → length s ≡ size n → s₁ ≡ nowAccepts Q n v side s →
+    Since Q n u v side a b s → (length s₁ ≡ size n) × Since Q n u v side a b s₁
+worked-since {Q} {n} {v = v} {side} {s} hv hs long e S =
+    (ap length e ∙ sym (nowAccepts-alone Q n v side s .adds .long) ∙ long, accepts-since hv hs long e S)
+
+pub new-read : {u v before i j : ℕ} (s : List ℕ) → i ≡ j → New u v before (get s j) → New u v before (get s i)
+new-read {u} {v} {before} s p N = subst (λ (x : ℕ). New u v before (get s x)) (sym p) N
+
+-- to a site that has not accepted, as b is read at place i, the rule did not say so; so of confirming
+pub unaccepted : {Q : Questions} {n u v side x y : ℕ} {s : List ℕ} → Since Q n u v side x y s → {b : Bool} {i : ℕ} → b ≡ has (get s i) v → b ≡ false →
+    i ≡ accepted n side → accepting Q v x y ≡ false
+unaccepted {Q} {v = v} {x = x} {y} {s} S e f p =
+    is-false (accepting Q v x y) (λ t. not-in (ap (λ (k : ℕ). has (get s k) v) (sym p) ∙ sym e ∙ f) (S .accepted-then t))
+
+pub unconfirmed : (Q : Questions) (n v side before : ℕ) (s : List ℕ) → (confirming Q v before ≡ true → v ∈ get s (confirmed n side)) → {b : Bool} {i : ℕ} →
+    b ≡ has (get s i) v → b ≡ false → i ≡ confirmed n side → Q .inQuorum v before ≡ false
+unfolding confirming
+unconfirmed Q n v side before s then e f p =
+    is-false (Q .inQuorum v before) (λ t. not-in (ap (λ (k : ℕ). has (get s k) v) (sym p) ∙ sym e ∙ f) (then t))
 
 -- by blocking and by a quorum, with the accepts of the others in o
 module _ (Q : Questions) (v a b : ℕ) (f : accepting Q v a b ≡ false) {m o : ℕ} (em : m ≡ single v) (eo : o ≡ minus b m) where
@@ -102,9 +128,10 @@ new-either {a = a} {b} {heardVotes} {heardAccepts} A B m {o} {p} eo ep = record 
       or-⊆-r a o .each z (∈-eq (sym eo) (∈-minus (B .each z (minus-⊆ heardAccepts m .each z l) x y) (minus-not-in heardAccepts l)))) (∈-or heardVotes p h);
 }
 
--- where only u and v are new, and v was there, no quorum is new if u has no slice
+-- where only u and v are new, and v was there as b says, no quorum is new if u has no slice, as f says
 pub sender-without : {S : ℕ → Fbqs} {Q : Questions} → Promises S Q → {u v before w : ℕ} → New u v before w → Q .inQuorum v before ≡ false →
-    has before v ≡ true → Q .hasSlice v u w ≡ false → false ≡ Q .inQuorum v w
-sender-without {Q = Q} P {u} {v} {before} {w} N g h f =
+    {b f : Bool} → b ≡ has before v → not b ≡ false → f ≡ Q .hasSlice v u w → not f ≡ true → false ≡ Q .inQuorum v w
+sender-without {Q = Q} P {u} {v} {before} {w} N g {b} {f} eb hb ef hf =
+    let there : v ∈ before = mem (sym eb ∙ not-false b hb) in
     sym (is-false (Q .inQuorum v w)
-    (λ e. clash (without P v u w before f (λ z k ne. ⊎-elim (λ q. rw q (mem h)) (λ q. N .each z k ne q) (same? z v)) e) g))
+    (λ e. clash (without P v u w before (sym ef ∙ not-true f hf) (λ z k ne. ⊎-elim (λ q. rw q there) (λ q. N .each z k ne q) (same? z v)) e) g))

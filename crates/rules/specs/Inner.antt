@@ -24,16 +24,16 @@ heard n c s =
     (cond (eqb (c .kind) 1) (has (get s (votes (c .side) (c .to))) (c .from))
     (has (get s (accepts (c .side) (c .to))) (c .from)))
 
--- who is in w and was not before is u or v
-pub record New (u v before w : ℕ) : Type 0 where
-  pub each : (z : ℕ) → z ∈ w → (z ≡ u → ⊥) → (z ≡ v → ⊥) → z ∈ before
+-- who is in w and was not before is the sender or the receiver
+pub record New (sender receiver before w : ℕ) : Type 0 where
+  pub each : (z : ℕ) → z ∈ w → (z ≡ sender → ⊥) → (z ≡ receiver → ⊥) → z ∈ before
 
--- site v had heard the votes a and the accepts b, and had accepted and confirmed if the rules said so from those; all that is new since then is what it
--- heard from site u, and from itself
-pub record Since (Q : Questions) (n u v side a b : ℕ) (s : List ℕ) : Type 0 where
-  pub new-votes : New u v a (get s (votes side v))
-  pub new-accepts : New u v b (get s (accepts side v))
-  pub accepted-then : accepting Q v a b ≡ true → v ∈ get s (accepted n side)
-  pub confirmed-then : confirming Q v b ≡ true → v ∈ get s (confirmed n side)
+-- the receiver had heard these votes and accepts before, and had accepted and confirmed if the rules said so from those; all that is new since then is
+-- what it heard from the sender, and from itself
+pub record Since (Q : Questions) (n sender receiver side votesBefore acceptsBefore : ℕ) (s : List ℕ) : Type 0 where
+  pub new-votes : New sender receiver votesBefore (get s (votes side receiver))
+  pub new-accepts : New sender receiver acceptsBefore (get s (accepts side receiver))
+  pub accepted-then : accepting Q receiver votesBefore acceptsBefore ≡ true → receiver ∈ get s (accepted n side)
+  pub confirmed-then : confirming Q receiver acceptsBefore ≡ true → receiver ∈ get s (confirmed n side)
   -- its own accept is heard by itself
-  pub own-heard : v ∈ get s (accepted n side) → v ∈ get s (accepts side v)
+  pub own-heard : receiver ∈ get s (accepted n side) → receiver ∈ get s (accepts side receiver)

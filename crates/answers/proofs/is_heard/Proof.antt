@@ -1,38 +1,42 @@
 -- `is_heard` meets its contract: it reads the bit that a call of this kind sets.
-use mathlib.Core.Path.{sym, _∙_}
+use native.Mathlib.Omega.{arith}
 use borrow.Author.Needs.{needs}
-use Rattle.rules.proofs.Heard.{heard-proposal, heard-vote, heard-accept}
+use denote.Ref.{now}
+use Rattle.rules.proofs.Ways.{is-heard-proposal, is-heard-vote, is-heard-accept}
+use Rattle.votes.specs.Call.{call}
 use Rattle.answers.proofs.is_heard.Statement.{statement}
 use Rattle.answers.proofs.is_heard.Tie as tie
 
 returns : tie.Need-returns
-returns c = c .has .ensures ∙ sym (heard-proposal _ _ _ (c .before .before .if1 .taken))
+returns c =
+    let a = c .before .before .before .before .before .args in
+    is-heard-proposal (a .n) (call (a .kind) (a .from) (a .to) (a .side)) (now (a .state)) (c .before .before .before .if1 .taken) (c .has .ensures) (omega arith)
 
 returns-2 : tie.Need-returns-2
-returns-2 c = c .has2 .ensures ∙ sym (heard-vote _ _ _ (c .before .before .if2 .taken))
+returns-2 c =
+    let a = c .before .before .before .before .before .before .args in
+    is-heard-vote (a .n) (call (a .kind) (a .from) (a .to) (a .side)) (now (a .state)) (c .before .before .before .if2 .taken) (c .has2 .ensures) (omega arith)
 
 returns-3 : tie.Need-returns-3
-returns-3 c = c .has3 .ensures ∙ sym (heard-accept _ _ _ (c .before .before .before .if1 .left) (c .before .before .if2 .left))
+returns-3 c =
+    let a = c .before .before .before .before .before .before .args in
+    is-heard-accept (a .n) (call (a .kind) (a .from) (a .to) (a .side)) (now (a .state)) (c .before .before .before .before .if1 .left) (c .before .before .before .if2 .left) (c .has3 .ensures) (omega arith)
 
 pub is-heard-spec : {M : Type 1} → statement M
 is-heard-spec =
     tie.close
     (tie.spec
-    (λ c. search needs)
-    (λ c. search needs)
+    (λ c κs. search needs)
     (λ c. search needs)
     (λ c. search needs)
     (λ c κs. search needs)
     returns
-    (λ c. search needs)
-    (λ c. search needs)
+    (λ c κs. search needs)
     (λ c. search needs)
     (λ c. search needs)
     (λ c κs. search needs)
     returns-2
-    (λ c. search needs)
-    (λ c. search needs)
-    (λ c. search needs)
+    (λ c κs. search needs)
     (λ c. search needs)
     (λ c. search needs)
     (λ c κs. search needs)

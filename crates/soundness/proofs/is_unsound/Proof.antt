@@ -1,48 +1,54 @@
 -- `is_unsound` meets its contract: the length, the bits at or above n, the sites that voted both sides, then site by site.
-use mathlib.Core.Path.{sym, _∙_}
+use native.Mathlib.Omega.{arith}
 use borrow.Author.Needs.{needs}
+use denote.Ref.{now}
 use Rattle.rules.proofs.Ways.{unsound-length, unsound-bit, unsound-both, unsound-site}
+use Rattle.sets.specs.Promises.{questions}
 use Rattle.soundness.proofs.is_unsound.Statement.{statement}
 use Rattle.soundness.proofs.is_unsound.Tie as tie
 
 returns : tie.Need-returns
-returns c = unsound-length _ _ _ _ (c .if1 .taken)
-
-some-bit-above-requires : tie.Need-some-bit-above-requires
-some-bit-above-requires c κs = c .before .before .before .pre .few-sites
+returns c = let a = c .before .before .before .before .args in unsound-length (questions (now (a .table))) (a .n) (a .faulty) (now (a .state)) (c .before .width .ensures) (c .if1 .taken)
 
 returns-2 : tie.Need-returns-2
-returns-2 c = unsound-bit _ _ _ _ (c .before .before .if1 .left) (sym (c .before .some-bit-above .ensures) ∙ c .if2 .taken)
+returns-2 c =
+    let first = c .before .before in
+    let a = first .before .before .before .before .args in
+    unsound-bit (questions (now (a .table))) (a .n) (a .faulty) (now (a .state)) (first .before .width .ensures) (first .if1 .left) (c .before .some-bit-above .ensures) (c .if2 .taken)
 
 returns-3 : tie.Need-returns-3
 returns-3 c =
-    let e = sym (c .before .before .before .before .some-bit-above .ensures) ∙ c .before .before .before .if2 .left in
-    unsound-both _ _ _ _ (c .before .before .before .before .before .if1 .left) e (c .if3 .taken)
+    let second = c .before .before .before .before .before in
+    let first = second .before .before in
+    let a = first .before .before .before .before .args in
+    unsound-both (questions (now (a .table))) (a .n) (a .faulty) (now (a .state)) (first .before .width .ensures) (first .if1 .left) (second .before .some-bit-above .ensures) (second .if2 .left)
+    (c .if3 .taken) (omega arith) (omega arith)
 
 some-bad-site-requires : tie.Need-some-bad-site-requires
 some-bad-site-requires c κs =
-    let long = c .before .before .before .before .before in
-    (long .before .before .before .pre, long .if1 .left)
+    let first = c .before .before .before .before .before .before .before in
+    (first .before .before .before .before .pre, omega arith)
 
 returns-4 : tie.Need-returns-4
 returns-4 c =
-    let e = sym (c .before .before .before .before .before .some-bit-above .ensures) ∙ c .before .before .before .before .if2 .left in
-    c .some-bad-site .ensures ∙ unsound-site _ _ _ _ (c .before .before .before .before .before .before .if1 .left) e (c .before .if3 .left)
+    let second = c .before .before .before .before .before .before in
+    let first = second .before .before in
+    let a = first .before .before .before .before .args in
+    unsound-site (questions (now (a .table))) (a .n) (a .faulty) (now (a .state)) (first .before .width .ensures) (first .if1 .left) (second .before .some-bit-above .ensures) (second .if2 .left)
+    (c .before .if3 .left) (omega arith) (omega arith) (c .some-bad-site .ensures)
 
 pub is-unsound-spec : {M : Type 1} → statement M
 is-unsound-spec =
     tie.close
     (tie.spec
-    (λ c. search needs)
-    (λ c. search needs)
+    (λ c κs. search needs)
     returns
-    some-bit-above-requires
+    (λ c κs. search needs)
     returns-2
+    (λ c κs. search needs)
     (λ c. search needs)
     (λ c. search needs)
-    (λ c. search needs)
-    (λ c. search needs)
-    (λ c. search needs)
+    (λ c κs. search needs)
     (λ c. search needs)
     (λ c. search needs)
     returns-3

@@ -1,17 +1,18 @@
 -- `some_bad_site` meets its contract: no site before v is bad, and the set asked last has its answer.
-use Prim.Native.Nat.{_-_, _≤_}
 use mathlib.Core.Bool.{false}
-use mathlib.Core.Path.{_≡_, sym, _∙_}
+use mathlib.Core.Path.{_≡_, sym}
+use Prim.Native.Nat.{_-_, _≤_}
 use native.Mathlib.Omega.{arith}
 use borrow.Author.Needs.{needs}
 use denote.Ref.{now}
-use Rattle.ground.proofs.Some.{some-of, some-more, some-none}
-use Rattle.ground.specs.Search.{some}
-use Rattle.sets.specs.Promises.{questions}
-use Rattle.asking.specs.Inner.{Asked}
 use Rattle.asking.proofs.AskedLaws.{asked-none}
+use Rattle.asking.specs.Inner.{Asked}
+use Rattle.ground.proofs.Some.{some-none}
+use Rattle.ground.specs.Search.{some}
+use Rattle.rules.proofs.Ways.{sites-bad, sites-good}
+use Rattle.rules.proofs.WorkWays.{table-rests}
 use Rattle.rules.specs.Sound.{badSite}
-use Rattle.sets.proofs.Promises.{table-promises}
+use Rattle.sets.specs.Promises.{questions}
 use Rattle.soundness.proofs.some_bad_site.Statement.{statement}
 use Rattle.soundness.proofs.some_bad_site.Tie as tie
 
@@ -22,16 +23,26 @@ Inv-loop table n faulty state asked₀ v₀ asked v =
 abbrev μ-loop : tie.MeasureT-loop
 μ-loop table n faulty state asked₀ v₀ asked v = n - v
 
+is-bad-site-requires : tie.Need-is-bad-site-requires Inv-loop μ-loop
+is-bad-site-requires c κs =
+    let p = c .before .before .before .before .before .pre in
+    (p .0, (p .1, (search needs, c .before .before .loop .inv .2)))
+
 loop-holds : tie.Need-loop-holds Inv-loop μ-loop
-loop-holds c = let a = c .before .before .args in (search needs, some-none _, asked-none (table-promises (now (a .table)) (a .n) (c .before .before .pre .0)) (a .n))
+loop-holds c =
+    let b = c .before .before in
+    (search needs, some-none _, asked-none (table-rests (b .pre .0) .promises) (b .args .n))
 
 returns : tie.Need-returns Inv-loop μ-loop
-returns c = sym (some-of _ _ (c .before .before .before .loop-test .taken) (sym (c .before .is-bad-site .ensures .0) ∙ c .if1 .taken))
+returns c =
+    let a = c .before .before .before .before .before .before .before .args in
+    sites-bad (questions (now (a .table))) (a .n) (a .faulty) (now (a .state)) (c .before .before .before .before .loop .v) (c .before .is-bad-site .ensures .0) (c .before .before .before .loop-test .taken) (c .if1 .taken)
 
 loop-again : tie.Need-loop-again Inv-loop μ-loop
 loop-again c =
+    let a = c .before .before .before .before .before .before .before .args in
     let r = c .before .is-bad-site .ensures in
-    (search needs, some-more _ _ (c .before .before .before .before .loop .inv .1) (sym (r .0) ∙ c .if1 .left), r .1)
+    (search needs, sites-good (questions (now (a .table))) (a .n) (a .faulty) (now (a .state)) (c .before .before .before .before .loop .v) (r .0) (c .before .before .before .before .loop .inv .1) (c .if1 .left), r .1)
 
 returns-2 : tie.Need-returns-2 Inv-loop μ-loop
 returns-2 c =
@@ -45,7 +56,7 @@ some-bad-site-spec =
     Inv-loop
     μ-loop
     loop-holds
-    (λ c κs. search needs)
+    is-bad-site-requires
     returns
     (λ c. search needs)
     (λ c. search needs)
