@@ -17,7 +17,7 @@ use Rattle.rules.proofs.Alone.{Alone, Other, here-or-other, same-votes,
 use Rattle.rules.proofs.Answer.{Takes}
 use Rattle.rules.proofs.Heard.{proposal-heard}
 use Rattle.rules.proofs.SoundLaws.{voted-heard, accepted-heard, accepted-rule, confirmed-rule}
-use Rattle.rules.proofs.Taken.{taken-alone, votes-kept, acceptsNow-kept, taken-below, taken-voted, accepts-cases, accepted-cases, confirmed-cases, accepted-there, accepts-there, confirmed-there, heard-voted, heard-accepted}
+use Rattle.rules.proofs.Taken.{taken-alone, votes-kept, acceptsNow-kept, taken-below, taken-voted, accepts-cases, taken-accepted, confirmed-cases, accepted-there, accepts-there, confirmed-there, heard-voted, heard-accepted}
 use Rattle.rules.proofs.Receiver.{acceptsNow, confirmsNow, acceptsNow-grows, confirmsNow-grows}
 use Rattle.votes.specs.Call.{Call}
 
@@ -60,14 +60,14 @@ module _ {Q : Questions} {n F : ℕ} {c : Call} {s : List ℕ} (S : Sound Q n F 
   own-accept-here =
       iff (has (get t (accepts side v)) v) (has (get t (accepted n side)) v) (λ e. accepts-sent-here (K .correct) (mem e) .holds)
       (λ e. ⊎-elim (λ x. A .adds .each (accepts side v) .each v (accepted-heard S hs x) .holds) (λ x. accepts-there S K (x .0) .holds)
-      (accepted-cases S K hs (mem e)))
+      (taken-accepted S K hs (mem e)))
 
   module _ {Σ : ℕ → Fbqs} (P : Promises Σ Q) where
     accepted-here : has (get t (accepted n side)) v ≡ acceptsNow Q v side t
     accepted-here =
         iff (has (get t (accepted n side)) v) (acceptsNow Q v side t)
         (λ e. ⊎-elim (λ x. acceptsNow-grows P n v side (A .adds) (accepted-rule S hs x)) (λ x. acceptsNow-kept S K ∙ x .0)
-        (accepted-cases S K hs (mem e)))
+        (taken-accepted S K hs (mem e)))
         (λ e. accepted-there S K (sym (acceptsNow-kept S K) ∙ e) .holds)
 
     confirmed-here : has (get t (confirmed n side)) v ≡ confirmsNow Q v side t

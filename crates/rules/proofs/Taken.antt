@@ -17,7 +17,8 @@ use Rattle.rules.specs.State.{votes, accepts, voted, accepted, confirmed
 use Rattle.rules.proofs.Alone.{Alone, alone-trans}
 use Rattle.rules.proofs.Answer.{Takes}
 use Rattle.rules.proofs.Heard.{hears-alone, hears-grows, hears-cases, hears-kept, says-below, says-voted, says-votes, says-accepts, proposal-voted}
-use Rattle.rules.proofs.Receiver.{acceptsNow, confirmsNow, nowAccepts-alone, nowConfirms-alone, nowAccepts-else, nowConfirms-else, nowAccepts-cases, nowConfirms-cases, nowAccepts-accepted, nowAccepts-accepts, nowConfirms-confirmed, acceptsNow-after, nowAccepts-grows, nowConfirms-grows}
+use Rattle.rules.proofs.Receiver.{acceptsNow, confirmsNow, acceptsNow-after, nowAccepts-grows, nowConfirms-grows}
+use Rattle.rules.proofs.Receiver.{nowAccepts-alone, nowConfirms-alone, nowAccepts-else, nowConfirms-else, nowAccepts-cases, nowConfirms-cases, nowAccepts-accepted, nowAccepts-accepts, nowConfirms-confirmed}
 use Rattle.votes.specs.Call.{Call}
 
 -- from hearing on, and from the state before, only the receiver changes
@@ -121,10 +122,10 @@ module _ {Q : Questions} {n F : ℕ} {c : Call} {s : List ℕ} (S : Sound Q n F 
   accepts-cases h = nowAccepts-cases Q n v side s₁ (accepts side v) (∈-eq (accepts-kept hs hv) h)
 
   -- who has accepted or confirmed had before, or is the receiver by the rule
-  pub accepted-cases : {τ u : ℕ} → τ < 2 → u ∈ get (taken Q n c s) (accepted n τ) →
+  pub taken-accepted : {τ u : ℕ} → τ < 2 → u ∈ get (taken Q n c s) (accepted n τ) →
       (u ∈ get s (accepted n τ)) ⊎ ((acceptsNow Q (c .to) (c .side) (hears n c s) ≡ true) × (τ ≡ c .side) × (u ≡ c .to))
   unfolding taken
-  accepted-cases {τ} {u} ht h =
+  taken-accepted {τ} {u} ht h =
       let h₂ : u ∈ get s₂ (accepted n τ) = ∈-eq (nowConfirms-else Q n v side s₂ (λ e. omega arith)) h in
       let old : u ∈ get s₁ (accepted n τ) → u ∈ get s (accepted n τ) = ∈-eq (hears-kept (K .range) s (accepted n τ) (omega arith)) in
       ⊎-elim (λ e. ⊎-elim (λ x. inl (old x)) (λ x. inr (x .0, e, x .1)) (nowAccepts-cases Q n v side s₁ (accepted n τ) h₂))
@@ -170,29 +171,3 @@ module _ {Q : Questions} {n F : ℕ} {c : Call} {s : List ℕ} (S : Sound Q n F 
       (λ x. let y = says-accepts (K .range) hs hv x in
       subst (λ (w : ℕ). w ∈ get s (accepted n side)) (sym (y .2)) (K .accept-sent (y .1) (subst (λ (w : ℕ). w ∈ F → ⊥) (y .2) f)))
       (hears-cases n c s (accepts side v) h)
-
--- how a site comes to accept: by the rule, from votes and accepts that correct senders have sent
-pub record NewAccept (Q : Questions) (n F : ℕ) (c : Call) (s : List ℕ) : Type 0 where
-  pub heardVotes : ℕ
-  pub heardAccepts : ℕ
-  pub rule : accepting Q (c .to) heardVotes heardAccepts ≡ true
-  pub voters : (u : ℕ) → (u ∈ F → ⊥) → u ∈ heardVotes → u ∈ get (taken Q n c s) (voted n (c .side))
-  pub accepters : (u : ℕ) → (u ∈ F → ⊥) → u ∈ heardAccepts → u ∈ get s (accepted n (c .side))
-
-pub taken-accepted : {Q : Questions} {n F : ℕ} {c : Call} {s : List ℕ} → Sound Q n F s → Takes n F c s → {τ u : ℕ} → τ < 2 →
-    u ∈ get (taken Q n c s) (accepted n τ) → (u ∈ get s (accepted n τ)) ⊎ (NewAccept Q n F c s × (τ ≡ c .side) × (u ≡ c .to))
-taken-accepted {n = n} {c = c} {s} S K ht h =
-    let s₁ = hears n c s in
-    ⊎-elim inl
-    (λ x. inr (
-      record {
-        heardVotes = get s₁ (votes (c .side) (c .to));
-        heardAccepts = get s₁ (accepts (c .side) (c .to));
-        rule = x .0;
-        voters = λ w. heard-voted S K;
-        accepters = λ w. heard-accepted S K;
-      },
-      x .1,
-      x .2,
-    ))
-    (accepted-cases S K ht h)

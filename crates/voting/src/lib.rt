@@ -1,11 +1,7 @@
-// The rules of a vote: the step and the soundness of a state, as public calls, and the inner step that a run shares.
+// The public calls of the voting: the soundness of a state, and the step.
 ghost use mathlib.Core.Path.{_≡_};
-ghost use Rattle.table.specs.Table.{Table};
-ghost use Rattle.sets.specs.Promises.{questions};
-ghost use Rattle.rules.specs.Sound.{Sound};
 ghost use Rattle.voting.specs.Step.{soundCheck, stepCheck, toStepped, stepInto};
 ghost use Rattle.votes.specs.Call.{call};
-ghost use Rattle.votes.specs.Inner.{Works};
 use refusals::Check;
 use refusals::Refusal;
 

@@ -58,9 +58,11 @@ returns-4 : tie.Need-returns-4
 returns-4 c =
     let d = c .before .before .before .before .before .before .before .before in
     let a = d .before .before .before .before .before .before .before .before .before .before .before .before .args in
+    let first = c .before .before .before .before .before .before in
     let r = c .is-not-rule .ensures in (
-      side-rule (questions (now (a .table))) (a .n) (a .faulty) (now (a .state)) (a .v) (a .side) (read d) (c .before .before .before .before .before .before .before .has .ensures) (c .before .before .before .before .before .before .if1 .left)
-          (c .before .before .before .before .before .is-not-own .ensures) (c .before .before .before .before .if2 .left) (c .before .before .before .is-not-sent .ensures) (c .before .before .if3 .left) (r .0),
+      side-rule (questions (now (a .table))) (a .n) (a .faulty) (now (a .state)) (a .v) (a .side) (read d) (first .before .has .ensures) (first .if1 .left)
+          (c .before .before .before .before .before .is-not-own .ensures) (c .before .before .before .before .if2 .left)
+          (c .before .before .before .is-not-sent .ensures) (c .before .before .if3 .left) (r .0),
       r .1,
     )
 

@@ -18,14 +18,17 @@ now-accepts-requires : tie.Need-now-accepts-requires
 now-accepts-requires c κs =
     let p = c .before .before .before .before .before .before .before .before .before .before .before .pre in
     let r = p .1 .1 .0 in
-    let H = heard-since r (p .1 .0) (c .before .before .before .before .before .before .before .before .votes .ensures) (c .before .before .before .before .before .before .accepts .ensures) (c .before .before .before .hear .ensures) (p .1 .1 .1) in
+    let H = heard-since r (p .1 .0) (c .before .before .before .before .before .before .before .before .votes .ensures)
+    (c .before .before .before .before .before .before .accepts .ensures) (c .before .before .before .hear .ensures) (p .1 .1 .1) in
     (p .0, (H .0, (r .from-in, (r .to-in, (r .side-in, H .1)))))
 
 now-confirms-requires : tie.Need-now-confirms-requires
 now-confirms-requires c κs =
     let p = c .before .before .before .before .before .before .before .before .before .before .before .before .before .before .before .pre in
     let r = p .1 .1 .0 in
-    let H = heard-since r (p .1 .0) (c .before .before .before .before .before .before .before .before .before .before .before .before .votes .ensures) (c .before .before .before .before .before .before .before .before .before .before .accepts .ensures) (c .before .before .before .before .before .before .before .hear .ensures) (p .1 .1 .1) in
+    let first = c .before .before .before .before .before .before .before in
+    let H = heard-since r (p .1 .0) (first .before .before .before .before .before .votes .ensures)
+    (first .before .before .before .accepts .ensures) (first .hear .ensures) (p .1 .1 .1) in
     let W = worked-since (r .to-in) (r .side-in) (H .0) (c .before .before .before .now-accepts .ensures) (H .1) in
     (p .0, (W .0, (r .from-in, (r .to-in, (r .side-in, (W .1 .new-accepts, W .1 .confirmed-then))))))
 
