@@ -74,7 +74,7 @@ def contracts(files):
         if path.suffix != ".rt":
             continue
         for i, line in enumerate(lines, 1):
-            m = re.match(r"\s*(requires|ensures)\b.*?⌜ (.*) ⌝", line)
+            m = re.match(r"\s*(requires)\b.*?⌜ (.*) ⌝", line)
             if m and facts(m[2]) > 1:
                 report(f"`{m[1]}` lines that hold two facts", path, i, f"{facts(m[2])} facts")
 

@@ -6,7 +6,7 @@ ghost use lib.ListN.{length};
 ghost use Rattle.table.specs.Table.{Table};
 ghost use Rattle.sets.specs.Promises.{questions};
 ghost use Rattle.masks.specs.Mask.{_∈_};
-ghost use Rattle.rules.specs.State.{accepts, confirmed, size, get};
+ghost use Rattle.rules.specs.State.{accepts, confirmed, width, get};
 ghost use Rattle.rules.specs.Rules.{only, accepting, confirming, nowAccepts, nowConfirms};
 ghost use Rattle.rules.specs.Inner.{New, Since};
 
@@ -111,7 +111,7 @@ pub fn now_accepts(
     accepts_before: u64,
 )
     requires { ⌜ Table (now table) n ⌝ }
-    requires { ⌜ length (now state) ≡ size n ⌝ }
+    requires { ⌜ length (now state) ≡ width n ⌝ }
     requires { ⌜ sender < n ⌝ }
     requires { ⌜ receiver < n ⌝ }
     requires { ⌜ side < 2 ⌝ }
@@ -149,7 +149,7 @@ pub fn now_confirms(
     accepts_before: u64,
 )
     requires { ⌜ Table (now table) n ⌝ }
-    requires { ⌜ length (now state) ≡ size n ⌝ }
+    requires { ⌜ length (now state) ≡ width n ⌝ }
     requires { ⌜ sender < n ⌝ }
     requires { ⌜ receiver < n ⌝ }
     requires { ⌜ side < 2 ⌝ }

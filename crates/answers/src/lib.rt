@@ -2,7 +2,7 @@
 ghost use mathlib.Core.Path.{_≡_};
 ghost use Prim.Native.Nat.{_≤_};
 ghost use lib.ListN.{length};
-ghost use Rattle.rules.specs.State.{size};
+ghost use Rattle.rules.specs.State.{width};
 ghost use Rattle.rules.specs.Rules.{outOfRange, crooked, against, unsent, answer};
 ghost use Rattle.rules.specs.Inner.{InRange, heard};
 ghost use Rattle.votes.specs.Call.{call};
@@ -37,7 +37,7 @@ fn is_crooked(kind: usize, from: usize, to: usize, side: usize) -> bool
 
 // A proposal to a site that has voted for the other side.
 fn is_against(n: usize, state: &[u64], kind: usize, from: usize, to: usize, side: usize) -> bool
-    requires { ⌜ length (now state) ≡ size n ⌝ }
+    requires { ⌜ length (now state) ≡ width n ⌝ }
     requires { ⌜ n ≤ 64 ⌝ }
     requires { ⌜ InRange n (call kind from to side) ⌝ }
     ensures { λ r. ⌜ r ≡ against n (call kind from to side) (now (state .entry)) ⌝ }
@@ -58,7 +58,7 @@ fn is_unsent(
     to: usize,
     side: usize,
 ) -> bool
-    requires { ⌜ length (now state) ≡ size n ⌝ }
+    requires { ⌜ length (now state) ≡ width n ⌝ }
     requires { ⌜ n ≤ 64 ⌝ }
     requires { ⌜ InRange n (call kind from to side) ⌝ }
     ensures { λ r. ⌜ r ≡ unsent n faulty (call kind from to side) (now (state .entry)) ⌝ }
@@ -85,7 +85,7 @@ pub fn answer(
     to: usize,
     side: usize,
 ) -> Check
-    requires { ⌜ length (now state) ≡ size n ⌝ }
+    requires { ⌜ length (now state) ≡ width n ⌝ }
     requires { ⌜ n ≤ 64 ⌝ }
     ensures { λ r. ⌜ r ≡ answer n faulty (call kind from to side) (now (state .entry)) ⌝ }
 {
@@ -109,7 +109,7 @@ pub fn answer(
 
 // The bit that a call sets is set already.
 pub fn is_heard(n: usize, state: &[u64], kind: usize, from: usize, to: usize, side: usize) -> bool
-    requires { ⌜ length (now state) ≡ size n ⌝ }
+    requires { ⌜ length (now state) ≡ width n ⌝ }
     requires { ⌜ n ≤ 64 ⌝ }
     requires { ⌜ InRange n (call kind from to side) ⌝ }
     ensures { λ r. ⌜ r ≡ heard n (call kind from to side) (now (state .entry)) ⌝ }

@@ -1,6 +1,6 @@
 // The files and masks that a call of a program names, the answer on standard output, and what is said on standard error when a call cannot be
 // answered. Nothing here decides anything of the rules.
-ghost use Rattle.files.specs.Files.{holds};
+ghost use Rattle.files.specs.Files.{fetchedBytes};
 use libc::STDERR_FILENO;
 use libc::STDOUT_FILENO;
 use text::Typed;
@@ -40,7 +40,7 @@ fn wrong(call: &[u8], word: &[u8], what: &[u8]) {
 
 // Reads an open file to its end. A file that fills the room is longer than any table or list of calls.
 fn read_whole(call: &[u8], path: &[u8], fd: i32, room: &mut [u8]) -> Fetched
-    ensures { λ r. ⌜ holds r (now (room .exit)) ⌝ }
+    ensures { λ r. ⌜ fetchedBytes r (now (room .exit)) ⌝ }
 {
     let n = io::read_full(fd, room);
     if n == room.len() {
@@ -57,7 +57,7 @@ fn read_whole(call: &[u8], path: &[u8], fd: i32, room: &mut [u8]) -> Fetched
 
 // Reads the file that argument k names into the room.
 pub fn fetch(call: &[u8], k: usize, room: &mut [u8]) -> Fetched
-    ensures { λ r. ⌜ holds r (now (room .exit)) ⌝ }
+    ensures { λ r. ⌜ fetchedBytes r (now (room .exit)) ⌝ }
 {
     let mut path = io::buffer();
     let p = os::arg(k, &mut path);

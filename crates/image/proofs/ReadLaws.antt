@@ -10,7 +10,7 @@ use lib.ListN.{length, take}
 use borrow.Author.Tests.{eqb-true, eqb-false, eq-eqb, ne-eqb, ltb-false, lt-ltb, le-ltb, not-false}
 use Rattle.ground.proofs.Logic.{cases, or-none}
 use Rattle.ground.specs.Pieces.{part}
-use Rattle.image.specs.Image.{misshapen, blocksCheck, loads}
+use Rattle.image.specs.Image.{imageMisshapen, blocksCheck, loads}
 use Rattle.image.specs.Read.{quorumless, readCheck, toReading, read}
 use Rattle.image.specs.declared.Reading.{Reading}
 use Rattle.image.specs.declared.Reading.the-variants.{Sites}
@@ -32,25 +32,25 @@ use Rattle.table.specs.Table.{siteOf, siteCheck, sitesCheck, Table}
 -- the length
 
 module _ (many : ℕ) where
-  pub no-blocks : many / 512 ≡ 0 → misshapen many ≡ true
-  unfolding misshapen
+  pub no-blocks : many / 512 ≡ 0 → imageMisshapen many ≡ true
+  unfolding imageMisshapen
   no-blocks e =
       ⊎-elim (λ z. rw z refl) (λ z. let ne = eqb-false many 0 z in rw (z, ne-eqb (many % 512) 0 (λ r. omega arith)) refl) (cases (eqb many 0))
 
-  pub odd-blocks : (many % 512 ≡ 0 → ⊥) → misshapen many ≡ true
-  unfolding misshapen
+  pub odd-blocks : (many % 512 ≡ 0 → ⊥) → imageMisshapen many ≡ true
+  unfolding imageMisshapen
   odd-blocks ne = rw (ne-eqb (many % 512) 0 ne) (or-true (eqb many 0))
 
-  pub too-many-blocks : 64 < many / 512 → misshapen many ≡ true
-  unfolding misshapen
+  pub too-many-blocks : 64 < many / 512 → imageMisshapen many ≡ true
+  unfolding imageMisshapen
   too-many-blocks l = rw (lt-ltb 32768 many (omega arith), or-true) (or-true (eqb many 0))
 
-  pub whole-blocks : (many / 512 ≡ 0 → ⊥) → many % 512 ≡ 0 → many / 512 ≤ 64 → misshapen many ≡ false
-  unfolding misshapen
+  pub whole-blocks : (many / 512 ≡ 0 → ⊥) → many % 512 ≡ 0 → many / 512 ≤ 64 → imageMisshapen many ≡ false
+  unfolding imageMisshapen
   whole-blocks ne e l = rw (ne-eqb many 0 (λ z. ne (omega arith)), eq-eqb (many % 512) 0 e, le-ltb 32768 many (omega arith)) refl
 
-  pub blocks-shape : misshapen many ≡ false → (many ≡ 512 * (many / 512)) × (1 ≤ many / 512) × (many / 512 ≤ 64)
-  unfolding misshapen
+  pub blocks-shape : imageMisshapen many ≡ false → (many ≡ 512 * (many / 512)) × (1 ≤ many / 512) × (many / 512 ≤ 64)
+  unfolding imageMisshapen
   blocks-shape h =
       let p = or-none (eqb many 0) (not (eqb (many % 512) 0) || ltb 32768 many) h in
       let q = or-none (not (eqb (many % 512) 0)) (ltb 32768 many) (p .1) in
@@ -86,11 +86,11 @@ module _ (n : ℕ) (image d m : List ℕ) (e : m ≡ loads n image ++ d) (p : 1 
 -- the ways out
 
 module _ (image : List ℕ) (room : ℕ) where
-  pub read-length : misshapen (length image) ≡ true → read image room ≡ Reading.Refused Length
+  pub read-length : imageMisshapen (length image) ≡ true → read image room ≡ Reading.Refused Length
   unfolding read readCheck
   read-length e = rw e refl
 
-  module _ (e : misshapen (length image) ≡ false) where
+  module _ (e : imageMisshapen (length image) ≡ false) where
     pub read-room : room < 63 * (length image / 512) → read image room ≡ Reading.Refused Room
     unfolding read readCheck
     read-room l = rw (e, lt-ltb room (63 * (length image / 512)) l) refl
@@ -106,12 +106,12 @@ module _ (image : List ℕ) (room : ℕ) where
         let s = blocks-shape (length image) e in
         rw (e, le-ltb room (63 * n) l, h, some-quorum n (loads n image) (loads-table n image (s .1) (s .2) h)) refl
 
-  pub read-taken : (n : ℕ) → read image room ≡ Sites n → (misshapen (length image) ≡ false) × (length image / 512 ≡ n) × (blocksCheck n image ≡ Sound)
+  pub read-taken : (n : ℕ) → read image room ≡ Sites n → (imageMisshapen (length image) ≡ false) × (length image / 512 ≡ n) × (blocksCheck n image ≡ Sound)
   unfolding read readCheck
   read-taken n h =
       let k = length image / 512 in
       let d = done k n (readCheck image room) h in
-      let p = missed (misshapen (length image)) Length _ (d .0) in
+      let p = missed (imageMisshapen (length image)) Length _ (d .0) in
       let q = missed (ltb room (63 * k)) Room _ (p .1) in
       (p .0, d .1, ap (λ (x : ℕ). blocksCheck x image) (sym (d .1)) ∙ orElse-sound (blocksCheck k image) _ (q .1) .0)
     where

@@ -15,14 +15,14 @@ use Rattle.refusals.specs.declared.Check.{Check}
 use Rattle.refusals.specs.declared.Check.the-variants.{Sound}
 use Rattle.refusals.specs.declared.Refusal.the-variants.{Length, Room}
 use Rattle.table.proofs.Table.{well-shaped}
-use Rattle.table.specs.Table.{sites, misshapen, sitesCheck}
+use Rattle.table.specs.Table.{sites, tableMisshapen, sitesCheck}
 
 module _ (t : List ℕ) (room : ℕ) where
-  pub write-length : misshapen (length t) ≡ true → write t room ≡ Writing.Refused Length
+  pub write-length : tableMisshapen (length t) ≡ true → write t room ≡ Writing.Refused Length
   unfolding write writeCheck
   write-length e = rw e refl
 
-  module _ (e : misshapen (length t) ≡ false) where
+  module _ (e : tableMisshapen (length t) ≡ false) where
     pub write-room : room < 512 * sites (length t) → write t room ≡ Writing.Refused Room
     unfolding write writeCheck
     write-room l = rw (e, lt-ltb room (512 * sites (length t)) l) refl
@@ -31,12 +31,12 @@ module _ (t : List ℕ) (room : ℕ) where
     unfolding write writeCheck
     write-sites l s h = rw (e, le-ltb room (512 * sites (length t)) l, h) refl
 
-  pub write-taken : (n : ℕ) → write t room ≡ Sites n → (misshapen (length t) ≡ false) × (sites (length t) ≡ n) × (sitesCheck n t ≡ Sound)
+  pub write-taken : (n : ℕ) → write t room ≡ Sites n → (tableMisshapen (length t) ≡ false) × (sites (length t) ≡ n) × (sitesCheck n t ≡ Sound)
   unfolding write writeCheck
   write-taken n h =
       let k = sites (length t) in
       let d = done k n (writeCheck t room) h in
-      let p = missed (misshapen (length t)) Length _ (d .0) in
+      let p = missed (tableMisshapen (length t)) Length _ (d .0) in
       let q = missed (ltb room (512 * k)) Room (sitesCheck k t) (p .1) in
       (p .0, d .1, ap (λ (x : ℕ). sitesCheck x t) (sym (d .1)) ∙ q .1)
     where

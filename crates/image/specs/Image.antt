@@ -10,8 +10,8 @@ use Rattle.site_block.specs.Block.{blockCheck, load, store}
 use Rattle.table.specs.Table.{siteOf}
 
 -- 1: "image length zero, not a multiple of 512, or over 32,768"
-unfoldable pub misshapen : ℕ → Bool
-misshapen length = eqb length 0 || (not (eqb (length % 512) 0) || ltb 32768 length)
+unfoldable pub imageMisshapen : ℕ → Bool
+imageMisshapen length = eqb length 0 || (not (eqb (length % 512) 0) || ltb 32768 length)
 
 -- "Each block is checked as a part of the image, where it begins."
 unfoldable pub blocksCheck : ℕ → List ℕ → Check

@@ -4,7 +4,7 @@ use mathlib.Core.Bool.{Bool}
 use mathlib.Core.List.{List, _++_}
 use lib.Dec.{eqb, ltb}
 use lib.ListN.{length, drop}
-use Rattle.image.specs.Image.{misshapen, blocksCheck, loads}
+use Rattle.image.specs.Image.{imageMisshapen, blocksCheck, loads}
 use Rattle.image.specs.declared.Reading.{Reading}
 use Rattle.image.specs.declared.Reading.the-variants.{Sites}
 use Rattle.masks.specs.Mask.{allBelow}
@@ -22,10 +22,10 @@ quorumless n t = eqb (largest (slicesOf t .inside) n (allBelow n)) 0
 
 -- "Order, reading: 1, 9, then block by block 2, 3, 4, each slice 5 then 6, then 8; after all blocks 7." 9 is "room lent too short".
 unfoldable pub readCheck : List ℕ → ℕ → Check
-unfolding misshapen blocksCheck quorumless
+unfolding imageMisshapen blocksCheck quorumless
 readCheck image room =
     let n = length image / 512 in
-    orElse (refuse (misshapen (length image)) Length)
+    orElse (refuse (imageMisshapen (length image)) Length)
     (orElse (refuse (ltb room (63 * n)) Room)
     (orElse (blocksCheck n image)
     (refuse (quorumless n (loads n image)) NoQuorum)))

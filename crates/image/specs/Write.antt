@@ -10,13 +10,13 @@ use Rattle.refusals.specs.First.{orElse, refuse}
 use Rattle.refusals.specs.declared.Check.{Check}
 use Rattle.refusals.specs.declared.Check.the-variants.{Sound}
 use Rattle.refusals.specs.declared.Refusal.the-variants.{Length, Room}
-use Rattle.table.specs.Table.{sites, misshapen, sitesCheck}
+use Rattle.table.specs.Table.{sites, tableMisshapen, sitesCheck}
 
 -- "Writing: 1, 9, then site by site 4, each slice 5 then 6, then 8"
 unfoldable pub writeCheck : List ℕ → ℕ → Check
-unfolding misshapen sitesCheck
+unfolding tableMisshapen sitesCheck
 writeCheck t room =
-    orElse (refuse (misshapen (length t)) Length)
+    orElse (refuse (tableMisshapen (length t)) Length)
     (orElse (refuse (ltb room (512 * sites (length t))) Room)
     (sitesCheck (sites (length t)) t))
 

@@ -3,7 +3,7 @@ ghost use mathlib.Core.Path.{_≡_};
 ghost use Prim.Native.Nat.{_+_, _*_, _≤_};
 ghost use lib.ListN.{length};
 ghost use Rattle.outcome.specs.Outcome.{callLine, callLines, endLines};
-ghost use Rattle.rules.specs.State.{size};
+ghost use Rattle.rules.specs.State.{width};
 ghost use Rattle.text.specs.Written.{Writes};
 
 // The line of one call.
@@ -42,7 +42,7 @@ pub fn put_run(
     answers: &[u8],
 ) -> usize
     requires { ⌜ 196608 ≤ length (now room) ⌝ }
-    requires { ⌜ length (now state) ≡ size n ⌝ }
+    requires { ⌜ length (now state) ≡ width n ⌝ }
     requires { ⌜ n ≤ 64 ⌝ }
     requires { ⌜ length (now answers) ≤ 4096 ⌝ }
     ensures { λ r. ⌜ Writes (endLines faulty n passes (now (state .entry)) (now (answers .entry))) (now (room .entry)) 0 r (now (room .exit)) ⌝ }

@@ -24,7 +24,7 @@ use Rattle.rules.proofs.WorkWays.{table-rests}
 use Rattle.rules.specs.Inner.{heard}
 use Rattle.rules.specs.Rules.{answer, against, taken}
 use Rattle.rules.specs.Sound.{Sound}
-use Rattle.rules.specs.State.{voted, size, get, Below}
+use Rattle.rules.specs.State.{voted, width, get, Below}
 use Rattle.rules.specs.Theorems.{Rests}
 use Rattle.rules.specs.Vote.{vote, voteOf}
 use Rattle.sets.specs.Paper.{Fbqs}
@@ -85,7 +85,7 @@ module _ {Σ : ℕ → Fbqs} {Q : Questions} {n : ℕ} (R : Rests Σ Q n) (F : �
   abbrev Made : (ℕ → ℕ → Type 0) → List ℕ → Type 0
   Made May s = Sound Q n F s × ((τ w : ℕ) → τ < 2 → w ∈ get s (voted n τ) → May w τ)
 
-  made-fresh : (May : ℕ → ℕ → Type 0) → Made May (fresh (size n))
+  made-fresh : (May : ℕ → ℕ → Type 0) → Made May (fresh (width n))
   made-fresh May = (fresh-sound Σ Q n F R, λ τ w ht h. absurd (fresh-none n (voted n τ) h))
 
   made-step : (May : ℕ → ℕ → Type 0) (c : Call) → Fits May c → (s : List ℕ) → Made May s → Made May (step X c s)

@@ -2,7 +2,7 @@
 ghost use mathlib.Core.Path.{_≡_};
 ghost use Prim.Native.Nat.{_<_, _≤_};
 ghost use lib.ListN.{length};
-ghost use Rattle.rules.specs.State.{votes, accepts, voted, accepted, confirmed, size, add};
+ghost use Rattle.rules.specs.State.{votes, accepts, voted, accepted, confirmed, width, add};
 
 // The votes that site v heard for a side.
 pub fn votes(side: usize, v: usize) -> usize
@@ -52,7 +52,7 @@ pub fn confirmed(n: usize, side: usize) -> usize
 // How many numbers a state has.
 pub fn width(n: usize) -> usize
     requires { ⌜ n ≤ 64 ⌝ }
-    ensures { λ r. ⌜ r ≡ size n ⌝ }
+    ensures { λ r. ⌜ r ≡ width n ⌝ }
 {
     4 * n + 6
 }

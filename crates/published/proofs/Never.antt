@@ -21,8 +21,8 @@ use Rattle.refusals.specs.declared.Check.the-variants.{Sound, Refused}
 use Rattle.refusals.specs.declared.Refusal.{Refusal}
 use Rattle.refusals.specs.declared.Refusal.the-variants.{Length, NoQuorum, Room, Set, Sums, Header, Count, Slice, Order, Filler}
 use Rattle.refusals.specs.declared.Refusal as Refusals
-use Rattle.rules.specs.State.{size}
-use Rattle.run.specs.Run.{runCheck, roomless, misshapen as badList}
+use Rattle.rules.specs.State.{width}
+use Rattle.run.specs.Run.{runCheck, roomless, listMisshapen}
 use Rattle.site_block.specs.Block.{blockCheck}
 use Rattle.table.proofs.SetCheck.{set-table}
 use Rattle.table.specs.Row.{sliceCheck, rowCheck}
@@ -125,8 +125,8 @@ nine-image image =
     rw (le-ltb (63 * 64) (63 * n) (omega (arith, s .2)))
     (orElse-avoids 9 _ _ (blocks-avoid 9 (inr refl) n image) (refuse-avoids 9 _ NoQuorum (λ z. omega (arith, z)))))
 
-few-bytes : (many : ℕ) → badList many ≡ false → many ≤ 16384
-unfolding badList
+few-bytes : (many : ℕ) → listMisshapen many ≡ false → many ≤ 16384
+unfolding listMisshapen
 few-bytes many e = le-of-not-lt (λ h. absurd (over h))
   where
     le-of-not-lt : (16384 < many → ⊥) → many ≤ 16384
@@ -142,14 +142,14 @@ few-bytes many e = le-of-not-lt (λ h. absurd (over h))
         false-or true b p q = clash refl p
         false-or false b p q = clash q p
 
-nine-list : (t : List ℕ) (F : ℕ) (list : List ℕ) → Avoids 9 (runCheck t F (length list) (size 64) 4096)
+nine-list : (t : List ℕ) (F : ℕ) (list : List ℕ) → Avoids 9 (runCheck t F (length list) (width 64) 4096)
 unfolding runCheck roomless
 nine-list t F list =
     behind 9 _ _ (table-avoids 9 (inr refl) t F)
     (λ a. behind 9 _ _ (refuse-avoids 9 _ Refusals.Refusal.List (λ z. omega (arith, z)))
     (λ b. let few = set-table t F a .few-sites in
     let short = few-bytes (length list) (unrefused _ Refusals.Refusal.List b) in
-    rw (le-ltb (size 64) (size (sites (length t))) (omega (arith, few)), le-ltb 4096 (length list / 4) (omega (arith, short))) (sound-avoids 9)))
+    rw (le-ltb (width 64) (width (sites (length t))) (omega (arith, few)), le-ltb 4096 (length list / 4) (omega (arith, short))) (sound-avoids 9)))
 
 pub nine-never : NineNever
 unfolding imageCheck

@@ -14,7 +14,7 @@ use Rattle.rules.proofs.SoundLaws.{fresh-sound}
 use Rattle.rules.proofs.Steps.{step-sound}
 use Rattle.rules.proofs.WorkWays.{table-rests}
 use Rattle.rules.specs.Sound.{Sound as SoundState}
-use Rattle.rules.specs.State.{size}
+use Rattle.rules.specs.State.{width}
 use Rattle.rules.specs.Vote.{voteOf}
 use Rattle.run.proofs.Public.{fit, the-run}
 use Rattle.run.specs.Run.{ran, runCheck, theRun, toRan}
@@ -70,7 +70,7 @@ run-set t F list state answers p T =
 
 pub never-unsound : NeverUnsound
 never-unsound = (
-  λ t F e. explained t F (fresh (size (sites (length t)))) e (fresh-sound _ (questions t) (sites (length t)) F (table-rests (set-table t F e))),
+  λ t F e. explained t F (fresh (width (sites (length t)))) e (fresh-sound _ (questions t) (sites (length t)) F (table-rests (set-table t F e))),
   λ t F c s e.
       let R = table-rests (sound-table t F s refl e) in
       subst (λ (x : List ℕ). soundCheck t F x ≡ Sound) (sym (into t F c s e))

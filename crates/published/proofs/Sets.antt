@@ -11,7 +11,7 @@ use lib.Pow.{ones-lt}
 use Rattle.ground.proofs.Logic.{cases, is-false, clash}
 use Rattle.masks.proofs.Laws.Subsets.{within-⊆, ⊆-within, ⊆-antisym, ⊆-trans, ⊆-zero, ∈-below}
 use Rattle.masks.specs.Mask.{within, allBelow, _∈_, _⊆_}
-use Rattle.questions.specs.Answers.{sitesOf, quorum, largest, blocks, shared, intact, toHolds, toGreatest, toSharing, toStanding, verdictCheck, siteCheck}
+use Rattle.questions.specs.Answers.{sitesOf, quorum, largest, blocks, shared, intact, toHolds, toGreatest, toSharing, toStanding, verdictCheck, setSiteCheck}
 use Rattle.questions.specs.declared.Greatest.the-variants.{Set}
 use Rattle.questions.specs.declared.Holds.the-variants.{Yes, No}
 use Rattle.questions.specs.declared.Sharing as Sharing
@@ -87,8 +87,8 @@ quorum-as-published t set =
       ),
     )
 
-site-inside : (t : List ℕ) (set site : ℕ) → siteCheck t set site ≡ Sound → Proper t set × (site < sitesOf t)
-unfolding siteCheck
+site-inside : (t : List ℕ) (set site : ℕ) → setSiteCheck t set site ≡ Sound → Proper t set × (site < sitesOf t)
+unfolding setSiteCheck
 site-inside t set site e =
     let y = orElse-sound (setCheck t set) _ e in
     (proper-of t set (y .0), lt-of-not-le (λ h. clash (ap not (le-ltb site (sitesOf t) h)) (kept (not (ltb site (sitesOf t))) Refusal.Refusal.Range (y .1))))
@@ -97,18 +97,18 @@ site-inside t set site e =
     lt-of-not-le f = omega (arith, f)
 
 pub blocks-as-published : BlocksAsPublished
-unfolding blocks siteCheck
+unfolding blocks setSiteCheck
 blocks-as-published t set site =
     let n = sitesOf t in
     let b = slicesOf t .blocked site set in (
       (
-        λ e. let x = yes-inv (siteCheck t set site) b e in
+        λ e. let x = yes-inv (setSiteCheck t set site) b e in
             let y = site-inside t set site (x .0) in
             (y .0, y .1, table-decides t n (y .0 .0) .blocked-decides site set .0 (x .1)),
         λ x. rw (of-proper t set (x .0), lt-ltb site n (x .1), table-decides t n (x .0 .0) .blocked-decides site set .1 (x .2)) refl,
       ),
       (
-        λ e. let x = no-inv (siteCheck t set site) b e in
+        λ e. let x = no-inv (setSiteCheck t set site) b e in
             let y = site-inside t set site (x .0) in
             (y .0, y .1, λ k. clash (table-decides t n (y .0 .0) .blocked-decides site set .1 k) (x .1)),
         λ x. rw (of-proper t set (x .0), lt-ltb site n (x .1), is-false b (λ e. x .2 (table-decides t n (x .0 .0) .blocked-decides site set .0 e))) refl,

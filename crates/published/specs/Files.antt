@@ -15,7 +15,7 @@ use Rattle.outcome.specs.Outcome.{endLines}
 use Rattle.refusals.specs.declared.Check.the-variants.{Sound, Refused}
 use Rattle.refusals.specs.declared.Refusal.the-variants.{NoQuorum, Room}
 use Rattle.register.specs.Register.{siteLine}
-use Rattle.rules.specs.State.{accepts, confirmed, size, get}
+use Rattle.rules.specs.State.{accepts, confirmed, width, get}
 use Rattle.run.specs.Run.{runCheck, theRun}
 use Rattle.run_text.specs.Run.{runText}
 use Rattle.sets.specs.Paper.{Fbqs, Intersection}
@@ -66,7 +66,7 @@ VerdictAsPublished =
 -- heard in the run of the list
 abbrev pub RegisterAsPublished : Type 0
 RegisterAsPublished =
-    (F : ℕ) (image list : List ℕ) → imageCheck image ≡ Sound → runCheck (tableOn image) F (length list) (size 64) 4096 ≡ Sound →
+    (F : ℕ) (image list : List ℕ) → imageCheck image ≡ Sound → runCheck (tableOn image) F (length list) (width 64) 4096 ≡ Sound →
     let n = sitesOn image in
     let r = theRun (tableOn image) F list in
     (runText F image list ≡ endLines F n (r .passes) (r .state) (r .answers))
@@ -82,4 +82,4 @@ SevenNever = (image : List ℕ) (room : ℕ) → read image room ≡ Reading.Rea
 abbrev pub NineNever : Type 0
 NineNever =
     ((image : List ℕ) → imageCheck image ≡ Refused Room → ⊥)
-    × ((t : List ℕ) (F : ℕ) (list : List ℕ) → runCheck t F (length list) (size 64) 4096 ≡ Refused Room → ⊥)
+    × ((t : List ℕ) (F : ℕ) (list : List ℕ) → runCheck t F (length list) (width 64) 4096 ≡ Refused Room → ⊥)

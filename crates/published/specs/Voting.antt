@@ -8,7 +8,7 @@ use lib.ListN.{length}
 use Rattle.masks.specs.Mask.{_∈_, _⊆_}
 use Rattle.refusals.specs.declared.Check.the-variants.{Sound}
 use Rattle.rules.specs.Rules.{others, accepting, confirming}
-use Rattle.rules.specs.State.{votes, accepts, accepted, confirmed, size, get}
+use Rattle.rules.specs.State.{votes, accepts, accepted, confirmed, width, get}
 use Rattle.rules.specs.Theorems.{Rests}
 use Rattle.run.specs.Theorems.{Taken, endState}
 use Rattle.sets.specs.Paper.{Fbqs, Quorum, Blocking}
@@ -61,6 +61,6 @@ EndAsPublished =
 -- no public call refuses with 18 what a public call left: the fresh state, the state after a step, the state that a run ends in
 abbrev pub NeverUnsound : Type 0
 NeverUnsound =
-    ((t : List ℕ) (F : ℕ) → setCheck t F ≡ Sound → soundCheck t F (fresh (size (sites (length t)))) ≡ Sound)
+    ((t : List ℕ) (F : ℕ) → setCheck t F ≡ Sound → soundCheck t F (fresh (width (sites (length t)))) ≡ Sound)
     × ((t : List ℕ) (F : ℕ) (c : Call) (s : List ℕ) → soundCheck t F s ≡ Sound → soundCheck t F (stepInto t F c s) ≡ Sound)
     × ((t : List ℕ) (F : ℕ) (list state answers : List ℕ) (p : ℕ) → Taken t F list state answers p → soundCheck t F (endState t F list state p) ≡ Sound)

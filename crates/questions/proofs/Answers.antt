@@ -4,7 +4,7 @@ use mathlib.Core.Bool.{true, false}
 use mathlib.Core.List.{List}
 use mathlib.Core.Path.{_≡_, refl, ap, ap₂, _∙_}
 use borrow.Author.Tests.{eq-eqb, ne-eqb, lt-ltb, le-ltb}
-use Rattle.questions.specs.Answers.{sitesOf, siteCheck, quorum, largest, blocks, shared, intact}
+use Rattle.questions.specs.Answers.{sitesOf, setSiteCheck, quorum, largest, blocks, shared, intact}
 use Rattle.questions.specs.declared.Greatest.{Greatest}
 use Rattle.questions.specs.declared.Holds.{Holds}
 use Rattle.questions.specs.declared.Sharing.{Sharing}
@@ -44,19 +44,19 @@ module _ (t : List ℕ) (set : ℕ) where
   -- does the set block the site
   module _ (site : ℕ) where
     pub blocks-refused : (r : Refusal) → setCheck t set ≡ Refused r → Holds.Refused r ≡ blocks t set site
-    unfolding blocks siteCheck
+    unfolding blocks setSiteCheck
     blocks-refused r e = rw e refl
 
     pub blocks-range : setCheck t set ≡ Sound → sitesOf t ≤ site → Holds.Refused Range ≡ blocks t set site
-    unfolding blocks siteCheck
+    unfolding blocks setSiteCheck
     blocks-range e l = rw (e, le-ltb site (sitesOf t) l) refl
 
     pub blocks-yes : setCheck t set ≡ Sound → site < sitesOf t → slicesOf t .blocked site set ≡ true → Holds.Yes ≡ blocks t set site
-    unfolding blocks siteCheck
+    unfolding blocks setSiteCheck
     blocks-yes e l f = rw (e, lt-ltb site (sitesOf t) l, f) refl
 
     pub blocks-no : setCheck t set ≡ Sound → site < sitesOf t → slicesOf t .blocked site set ≡ false → Holds.No ≡ blocks t set site
-    unfolding blocks siteCheck
+    unfolding blocks setSiteCheck
     blocks-no e l f = rw (e, lt-ltb site (sitesOf t) l, f) refl
 
   -- which sites are intact

@@ -25,9 +25,9 @@ abbrev pub sitesOf : List ℕ → ℕ
 sitesOf t = sites (length t)
 
 -- the table, 10, then 11: "site at or above n"
-unfoldable pub siteCheck : List ℕ → ℕ → ℕ → Check
+unfoldable pub setSiteCheck : List ℕ → ℕ → ℕ → Check
 unfolding setCheck
-siteCheck t set site = orElse (setCheck t set) (refuse (not (ltb site (sitesOf t))) Range)
+setSiteCheck t set site = orElse (setCheck t set) (refuse (not (ltb site (sitesOf t))) Range)
 
 -- 16: "n over 12 where a verdict needs at most 12"
 abbrev pub verdictCheck : List ℕ → Check → Check
@@ -57,8 +57,8 @@ largest t set = toGreatest (setCheck t set) (Quorum.largest (slicesOf t .inside)
 
 -- does the set block the site
 unfoldable pub blocks : List ℕ → ℕ → ℕ → Holds
-unfolding siteCheck
-blocks t set site = toHolds (siteCheck t set site) (slicesOf t .blocked site set)
+unfolding setSiteCheck
+blocks t set site = toHolds (setSiteCheck t set site) (slicesOf t .blocked site set)
 
 -- do every two quorums have a common site; if not, the quorum of the smallest mask that has one in its complement, and the largest there
 abbrev pub toSharing : Check → Bool → ℕ → ℕ → Sharing

@@ -5,7 +5,7 @@ use mathlib.Core.Path.{_≡_, refl, sym, ap, _∙_}
 use native.Mathlib.Omega.{arith}
 use lib.Dec.{eqb}
 use borrow.Author.Tests.{ne-eqb}
-use Rattle.refusals.specs.Refusal.{number, place, Settled}
+use Rattle.refusals.specs.Refusal.{number, place, NumberSettles}
 use Rattle.refusals.specs.declared.Refusal.{Refusal}
 use Rattle.refusals.specs.declared.Refusal.the-variants.{Length, Sums, Header, Count, Slice, Order, NoQuorum, Filler, Room, Set, Range, Receiver, Proposal, Voted, Unsent, Large, List, Unsound}
 
@@ -52,7 +52,7 @@ back Large = refl
 back List = refl
 back Unsound = refl
 
-pub settled : Settled
+pub settled : NumberSettles
 settled r s p q = sym (back r) ∙ ap (λ (n : ℕ). refusalOf n (place r)) p ∙ ap (λ (i : ℕ). refusalOf (number s) i) q ∙ back s
 
 -- a refusal's number is not 0, which is the answer of a call that was taken

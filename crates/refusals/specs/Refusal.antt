@@ -49,8 +49,8 @@ place List = 0
 place Unsound = 0
 
 -- a refusal is settled by its number and its place
-abbrev pub Settled : Type 0
-Settled = (r s : Refusal) → number r ≡ number s → place r ≡ place s → r ≡ s
+abbrev pub NumberSettles : Type 0
+NumberSettles = (r s : Refusal) → number r ≡ number s → place r ≡ place s → r ≡ s
 
 -- "A taken call answers 0": the byte of a check's answer, 0 or the refusal's number
 abbrev pub code : Check → ℕ

@@ -3,7 +3,7 @@ ghost use mathlib.Core.Path.{_≡_};
 ghost use Prim.Native.Nat.{_+_, _*_, _≤_};
 ghost use lib.ListN.{length};
 ghost use Rattle.ground.specs.Pieces.{cat};
-ghost use Rattle.rules.specs.State.{size};
+ghost use Rattle.rules.specs.State.{width};
 ghost use Rattle.text.specs.Written.{Writes};
 ghost use Rattle.register.specs.Register.{siteLine, stateLines};
 
@@ -37,7 +37,7 @@ fn put_sites(room: &mut [u8], at: usize, n: u64, drill: u64, live: u64) -> usize
 // The masks of a state, and the line of each site.
 pub fn put_state(room: &mut [u8], at: usize, n: usize, state: &[u64]) -> usize
     requires { ⌜ at + 130 + 32 * n ≤ length (now room) ⌝ }
-    requires { ⌜ length (now state) ≡ size n ⌝ }
+    requires { ⌜ length (now state) ≡ width n ⌝ }
     requires { ⌜ n ≤ 64 ⌝ }
     ensures { λ r. ⌜ Writes (stateLines n (now (state .entry))) (now (room .entry)) at r (now (room .exit)) ⌝ }
 {

@@ -3,7 +3,7 @@ use Prim.Native.Nat.{ℕ, _-_}
 use mathlib.Core.Bool.{true, false, _&&_, _||_, not}
 use mathlib.Core.List.{List}
 use mathlib.Core.Logic.{_⊎_, inl, inr, ⊎-elim}
-use mathlib.Core.Path.{_≡_, refl, sym, _∙_, subst}
+use mathlib.Core.Path.{_≡_, refl, sym, _∙_}
 use native.Mathlib.Omega.{arith}
 use lib.Dec.{eqb, ltb}
 use borrow.Author.Tests.{eq-eqb, ne-eqb, eqb-true, lt-ltb, le-ltb, ltb-true, ltb-false, not-false}
@@ -91,10 +91,6 @@ module _ (n F : ℕ) (c : Call) (s : List ℕ) where
       (λ d. ⊎-elim (λ e. inr (Voted, voted-other a b d e))
       (λ e. ⊎-elim (λ f. inr (Unsent, not-sent a b d e f)) (λ f. inl (passes a b d e f)) (cases (unsent n F c s)))
       (cases (against n c s))) (cases (has F (c .to)))) (cases (crooked c))) (cases (outOfRange n c))
-
-  pub refuses : {r : Refusal} → answer n F c s ≡ Refused r → Refuses r
-  refuses {r} e = ⊎-elim (λ a. let z : _≡_ {A = ℕ} 0 1 = cc in absurd (omega arith))
-      (λ x. let q = refused (x .1) in let z : x .0 ≡ r = cc in subst Refuses z (x .1)) answered
 
   -- what a taken call says, in facts, and the other way
 

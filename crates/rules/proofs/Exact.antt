@@ -22,8 +22,8 @@ use Rattle.masks.specs.Mask.{has, within, minus, allBelow, _∈_}
 use Rattle.sets.specs.Promises.{Questions}
 use Rattle.rules.specs.Rules.{accepting, confirming}
 use Rattle.rules.specs.Sound.{Sound, differ, notZero, notOwn, notRule, notSent, badSide, badSite, unsound}
-use Rattle.rules.specs.State.{votes, accepts, voted, accepted, confirmed, size, get}
-use Rattle.rules.specs.Theorems.{Exact}
+use Rattle.rules.specs.State.{votes, accepts, voted, accepted, confirmed, width, get}
+use Rattle.rules.specs.Theorems.{SoundExact}
 
 -- tests that fail, in facts and back
 
@@ -155,20 +155,20 @@ module _ (Q : Questions) (n F : ℕ) (s : List ℕ) where
   no-site f = each-none n (badSite Q n F s) (λ v hv. no-or (f v 0 hv (omega arith)) (f v 1 hv (omega arith)))
 
   -- no number has a bit at or above n: the numbers of the state by the test, and past its end there is none
-  low-of : length s ≡ size n → some (size n) (λ i. not (within (get s i) (allBelow n))) ≡ false → (i v : ℕ) → v ∈ get s i → v < n
-  low-of l e i v h = go (decLt i (size n))
+  low-of : length s ≡ width n → some (width n) (λ i. not (within (get s i) (allBelow n))) ≡ false → (i v : ℕ) → v ∈ get s i → v < n
+  low-of l e i v h = go (decLt i (width n))
     where
-      go : Dec (i < size n) → v < n
+      go : Dec (i < width n) → v < n
       go (yes k) =
           let w : within (get s i) (allBelow n) ≡ true =
-          not-false (within (get s i) (allBelow n)) (none-each (size n) (λ j. not (within (get s j) (allBelow n))) i e k) in
+          not-false (within (get s i) (allBelow n)) (none-each (width n) (λ j. not (within (get s j) (allBelow n))) i e k) in
           ∈-below (ones-lt n) (within-⊆ (get s i) (allBelow n) w .each v h)
       go (no k) = absurd (not-in-zero (∈-eq (List·getD-eq-default s 0 (omega arith)) h))
 
-  no-high : ((i v : ℕ) → v ∈ get s i → v < n) → some (size n) (λ i. not (within (get s i) (allBelow n))) ≡ false
-  no-high f = each-none (size n) (λ i. not (within (get s i) (allBelow n))) (λ i k. ap not (⊆-within (record { each = λ v h. in-all (f i v h) })))
+  no-high : ((i v : ℕ) → v ∈ get s i → v < n) → some (width n) (λ i. not (within (get s i) (allBelow n))) ≡ false
+  no-high f = each-none (width n) (λ i. not (within (get s i) (allBelow n))) (λ i k. ap not (⊆-within (record { each = λ v h. in-all (f i v h) })))
 
-  sides-sound : length s ≡ size n → ((i v : ℕ) → v ∈ get s i → v < n) → bitAnd (get s (voted n 0)) (get s (voted n 1)) ≡ 0 →
+  sides-sound : length s ≡ width n → ((i v : ℕ) → v ∈ get s i → v < n) → bitAnd (get s (voted n 0)) (get s (voted n 1)) ≡ 0 →
       ((v side : ℕ) → v < n → side < 2 → badSide Q n F s v side ≡ false) → Sound Q n F s
   sides-sound l low once good = record {
     long = l;
@@ -211,10 +211,10 @@ module _ (Q : Questions) (n F : ℕ) (s : List ℕ) where
   pub sound-of : unsound Q n F s ≡ false → Sound Q n F s
   unfolding unsound
   sound-of e =
-      let p = or-none (not (eqb (length s) (size n))) _ e in
-      let q = or-none (some (size n) (λ i. not (within (get s i) (allBelow n)))) _ (p .1) in
+      let p = or-none (not (eqb (length s) (width n))) _ e in
+      let q = or-none (some (width n) (λ i. not (within (get s i) (allBelow n)))) _ (p .1) in
       let r = or-none (not (eqb (bitAnd (get s (voted n 0)) (get s (voted n 1))) 0)) (some n (badSite Q n F s)) (q .1) in
-      let l : length s ≡ size n = eqb-true (length s) (size n) (not-false (eqb (length s) (size n)) (p .0)) in
+      let l : length s ≡ width n = eqb-true (length s) (width n) (not-false (eqb (length s) (width n)) (p .0)) in
       sides-sound l (low-of l (q .0)) (is-zero (r .0)) (each-side (r .1))
 
   pub of-sound : Sound Q n F s → unsound Q n F s ≡ false
@@ -222,9 +222,9 @@ module _ (Q : Questions) (n F : ℕ) (s : List ℕ) where
   of-sound S =
       let a = get s (voted n 0) in
       let b = get s (voted n 1) in
-      no-or (ap not (eq-eqb (length s) (size n) (S .long)))
+      no-or (ap not (eq-eqb (length s) (width n) (S .long)))
       (no-or (no-high (S .below))
       (no-or (zero-is (empty (bitAnd a b) (λ v h. S .once v (and-⊆-l a b .each v h) (and-⊆-r a b .each v h)))) (no-site (sound-sides S))))
 
-pub exact : Exact
+pub exact : SoundExact
 exact Q n F s = (sound-of Q n F s, of-sound Q n F s)

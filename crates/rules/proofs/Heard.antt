@@ -13,7 +13,7 @@ use Rattle.masks.proofs.Laws.Subsets.{mem, ⊆-refl, ⊆-antisym}
 use Rattle.masks.specs.Mask.{has, single, _∈_}
 use Rattle.rules.specs.Inner.{InRange, heard}
 use Rattle.rules.specs.Rules.{hears}
-use Rattle.rules.specs.State.{votes, accepts, voted, size, get, add, Below}
+use Rattle.rules.specs.State.{votes, accepts, voted, width, get, add, Below}
 use Rattle.rules.proofs.Alone.{Alone, alone-trans, alone-votes, alone-accepts, alone-voted}
 use Rattle.rules.proofs.State.{length-add, add-adds, add-grows, add-still, add-there, add-cases}
 use Rattle.votes.specs.Call.{Call}
@@ -152,7 +152,7 @@ module _ {n : ℕ} {c : Call} (r : InRange n c) where
         ⊆-antisym (record { each = λ u h. ⊎-elim (λ x. x) (λ x. absurd (omega (arith, says-low x))) (hears-cases n c s i h) })
         (hears-alone n c s .adds .each i)
 
-    module _ (long : length s ≡ size n) where
+    module _ (long : length s ≡ width n) where
       -- by a proposal the receiver has voted, and heard its own vote
       pub proposal-voted : c .kind ≡ 0 → c .to ∈ get (hears n c s) (voted n (c .side))
       proposal-voted e =

@@ -12,7 +12,7 @@ use Rattle.masks.specs.Mask.{_∈_}
 use Rattle.sets.specs.Paper.{Fbqs}
 use Rattle.sets.specs.Promises.{Questions, Promises}
 use Rattle.rules.specs.Rules.{only, accepting, confirming, nowAccepts, nowConfirms}
-use Rattle.rules.specs.State.{votes, accepts, accepted, confirmed, size, get, add, Below}
+use Rattle.rules.specs.State.{votes, accepts, accepted, confirmed, width, get, add, Below}
 use Rattle.rules.proofs.Alone.{Alone, alone-trans, alone-accepts, alone-accepted, alone-confirmed}
 use Rattle.rules.proofs.RuleLaws.{only-⊆, ∈-only, only-holds, only-still, only-grows, accepting-own, accepting-grows, confirming-grows}
 use Rattle.rules.proofs.State.{length-add, get-add, get-add-other, add-adds, add-grows, add-still, add-there, add-cases}
@@ -76,7 +76,7 @@ module _ (Q : Questions) (n v side : ℕ) (s : List ℕ) where
   nowConfirms-still f = let b = confirmsNow Q v side s in add-still (confirmed n side) (only b v) s (only-still b v f)
 
   -- where the rule says so, v is at the places
-  module _ (hv : v < n) (hs : side < 2) (long : length s ≡ size n) where
+  module _ (hv : v < n) (hs : side < 2) (long : length s ≡ width n) where
     pub nowAccepts-accepted : acceptsNow Q v side s ≡ true → v ∈ get (nowAccepts Q n v side s) (accepted n side)
     unfolding nowAccepts
     nowAccepts-accepted e =

@@ -19,7 +19,7 @@ use Rattle.sets.specs.Promises.{Questions, Promises}
 use Rattle.rules.specs.Inner.{InRange, New, Since}
 use Rattle.rules.specs.Rules.{others, accepting, confirming, hears, nowAccepts}
 use Rattle.rules.specs.Sound.{Sound}
-use Rattle.rules.specs.State.{votes, accepts, accepted, confirmed, size, get}
+use Rattle.rules.specs.State.{votes, accepts, accepted, confirmed, width, get}
 use Rattle.rules.proofs.Heard.{hears-alone, hears-cases, hears-kept, says-votes, says-accepts}
 use Rattle.rules.proofs.Receiver.{nowAccepts-alone, nowAccepts-cases, nowAccepts-accepts}
 use Rattle.rules.proofs.RuleLaws.{others-found, by-quorum, by-blocked}
@@ -60,7 +60,7 @@ module _ {Q : Questions} {n : ℕ} {a b : ℕ} {s s₁ : List ℕ} where
       })
 
   -- a site that was worked out whether it accepts: it may have heard itself
-  pub accepts-since : {u v side : ℕ} → v < n → side < 2 → length s ≡ size n → s₁ ≡ nowAccepts Q n v side s → Since Q n u v side a b s →
+  pub accepts-since : {u v side : ℕ} → v < n → side < 2 → length s ≡ width n → s₁ ≡ nowAccepts Q n v side s → Since Q n u v side a b s →
       Since Q n u v side a b s₁
   accepts-since {u} {v} {side} hv hs long e S =
       let up = nowAccepts-alone Q n v side s .adds in
@@ -78,17 +78,17 @@ module _ {Q : Questions} {n : ℕ} {a b : ℕ} {s s₁ : List ℕ} where
       })
 
 -- of what the code reads: the votes and accepts before at the places i and j, then the state after hearing, then after accepting
-pub heard-since : {Q : Questions} {n : ℕ} {c : Call} {s s₁ : List ℕ} {i j : ℕ} → InRange n c → length s ≡ size n → i ≡ votes (c .side) (c .to) →
+pub heard-since : {Q : Questions} {n : ℕ} {c : Call} {s s₁ : List ℕ} {i j : ℕ} → InRange n c → length s ≡ width n → i ≡ votes (c .side) (c .to) →
     j ≡ accepts (c .side) (c .to) → s₁ ≡ hears n c s →
     Since Q n (c .from) (c .to) (c .side) (get s (votes (c .side) (c .to))) (get s (accepts (c .side) (c .to))) s →
-    (length s₁ ≡ size n) × Since Q n (c .from) (c .to) (c .side) (get s i) (get s j) s₁
+    (length s₁ ≡ width n) × Since Q n (c .from) (c .to) (c .side) (get s i) (get s j) s₁
 heard-since {Q} {n} {c} {s} r long p q e S = (
   ap length e ∙ sym (hears-alone n c s .adds .long) ∙ long,
   hears-since r e (subst₂ (λ (x y : ℕ). Since Q n (c .from) (c .to) (c .side) (get s x) (get s y) s) (sym p) (sym q) S),
 )
 
-pub worked-since : {Q : Questions} {n a b u v side : ℕ} {s s₁ : List ℕ} → v < n → side < 2 → length s ≡ size n → s₁ ≡ nowAccepts Q n v side s →
-    Since Q n u v side a b s → (length s₁ ≡ size n) × Since Q n u v side a b s₁
+pub worked-since : {Q : Questions} {n a b u v side : ℕ} {s s₁ : List ℕ} → v < n → side < 2 → length s ≡ width n → s₁ ≡ nowAccepts Q n v side s →
+    Since Q n u v side a b s → (length s₁ ≡ width n) × Since Q n u v side a b s₁
 worked-since {Q} {n} {v = v} {side} {s} hv hs long e S =
     (ap length e ∙ sym (nowAccepts-alone Q n v side s .adds .long) ∙ long, accepts-since hv hs long e S)
 

@@ -10,7 +10,7 @@ use Rattle.masks.specs.Mask.{has, _∈_}
 use Rattle.sets.specs.Promises.{Questions}
 use Rattle.rules.specs.Rules.{accepting, confirming}
 use Rattle.rules.specs.Sound.{Sound}
-use Rattle.rules.specs.State.{votes, accepts, voted, accepted, confirmed, get, size}
+use Rattle.rules.specs.State.{votes, accepts, voted, accepted, confirmed, get, width}
 use Rattle.rules.specs.Theorems.{FreshSound}
 use Rattle.rules.proofs.RuleLaws.{accepting-nothing, confirming-nothing}
 use Rattle.rules.proofs.State.{fresh-length, fresh-get, fresh-none}
@@ -53,7 +53,7 @@ module _ {Q : Questions} {n F : ℕ} {s : List ℕ} (S : Sound Q n F s) {v side 
 
 -- the fresh state
 
-fresh-has : (n i v : ℕ) → has (get (fresh (size n)) i) v ≡ false
+fresh-has : (n i v : ℕ) → has (get (fresh (width n)) i) v ≡ false
 fresh-has n i v = ap (λ (m : ℕ). has m v) (fresh-get n i) ∙ has-zero v
 
 pub fresh-sound : FreshSound

@@ -12,7 +12,7 @@ use Rattle.ground.proofs.Numbers.{same?}
 use Rattle.masks.proofs.Laws.Single.{∈-eq, ∈-or}
 use Rattle.masks.proofs.Laws.Subsets.{not-in-zero, ⊆-refl, ⊆-trans, ⊆-antisym, or-⊆, or-⊆-l, or-⊆-r}
 use Rattle.masks.specs.Mask.{_∈_, _⊆_}
-use Rattle.rules.specs.State.{size, get, add, Below}
+use Rattle.rules.specs.State.{width, get, add, Below}
 use Rattle.votes.specs.Vote.{fresh}
 
 -- the order of states
@@ -90,21 +90,21 @@ add-grows i {m} {k} {s} {t} p b = record {
 
 -- the fresh state
 
-pub fresh-length : (n : ℕ) → length (fresh (size n)) ≡ size n
+pub fresh-length : (n : ℕ) → length (fresh (width n)) ≡ width n
 unfolding fresh
-fresh-length n = length-replicate (size n) 0
+fresh-length n = length-replicate (width n) 0
 
-pub fresh-get : (n i : ℕ) → get (fresh (size n)) i ≡ 0
+pub fresh-get : (n i : ℕ) → get (fresh (width n)) i ≡ 0
 unfolding fresh
-fresh-get n i = go (decLt i (size n))
+fresh-get n i = go (decLt i (width n))
   where
-    go : Dec (i < size n) → get (fresh (size n)) i ≡ 0
-    go (yes h) = getD-replicate (size n) i 0 0 h
-    go (no h) = List·getD-eq-default (fresh (size n)) 0 (omega (arith, length-replicate {A = ℕ} (size n) 0))
+    go : Dec (i < width n) → get (fresh (width n)) i ≡ 0
+    go (yes h) = getD-replicate (width n) i 0 0 h
+    go (no h) = List·getD-eq-default (fresh (width n)) 0 (omega (arith, length-replicate {A = ℕ} (width n) 0))
 
-pub fresh-none : (n i : ℕ) {v : ℕ} → v ∈ get (fresh (size n)) i → ⊥
+pub fresh-none : (n i : ℕ) {v : ℕ} → v ∈ get (fresh (width n)) i → ⊥
 fresh-none n i h = not-in-zero (∈-eq (fresh-get n i) h)
 
 -- it is below each state of its length
-pub fresh-least : (n : ℕ) {s : List ℕ} → length s ≡ size n → Below (fresh (size n)) s
+pub fresh-least : (n : ℕ) {s : List ℕ} → length s ≡ width n → Below (fresh (width n)) s
 fresh-least n e = record { long = fresh-length n ∙ sym e; each = λ i. record { each = λ v h. absurd (fresh-none n i h) } }

@@ -13,7 +13,7 @@ use Rattle.sets.specs.Paper.{Fbqs}
 use Rattle.sets.specs.Promises.{Questions, Promises}
 use Rattle.rules.specs.Rules.{accepting, confirming, hears, nowAccepts, taken}
 use Rattle.rules.specs.Sound.{Sound}
-use Rattle.rules.specs.State.{votes, accepts, voted, accepted, confirmed, size, get, Below}
+use Rattle.rules.specs.State.{votes, accepts, voted, accepted, confirmed, width, get, Below}
 use Rattle.rules.proofs.Alone.{Alone, alone-trans}
 use Rattle.rules.proofs.Answer.{Takes}
 use Rattle.rules.proofs.Heard.{hears-alone, hears-grows, hears-cases, hears-kept, says-below, says-voted, says-votes, says-accepts, proposal-voted}
@@ -61,10 +61,10 @@ module _ {Q : Questions} {n F : ℕ} {c : Call} {s : List ℕ} (S : Sound Q n F 
   hs : side < 2
   hs = K .range .side-in
 
-  long₁ : length s₁ ≡ size n
+  long₁ : length s₁ ≡ width n
   long₁ = sym (hears-alone n c s .adds .long) ∙ S .long
 
-  long₂ : length s₂ ≡ size n
+  long₂ : length s₂ ≡ width n
   long₂ = sym (nowAccepts-alone Q n v side s₁ .adds .long) ∙ long₁
 
   -- what accepting and confirming leave alone

@@ -1,5 +1,5 @@
 -- One law for each way out of the functions that answer a call or test a state: the tests before it failed, and what its own test says.
-use Prim.Native.Nat.{ℕ, _+_, _*_, _-_, _≤_, _<_}
+use Prim.Native.Nat.{ℕ, _+_, _-_, _≤_, _<_}
 use mathlib.Core.Bool.{Bool, true, false, _&&_, _||_, not, or-true, or-false}
 use mathlib.Core.List.{List}
 use mathlib.Core.Path.{_≡_, refl, sym, ap, ap₂, _∙_}
@@ -16,7 +16,7 @@ use Rattle.sets.specs.Promises.{Questions}
 use Rattle.rules.specs.Inner.{InRange, heard}
 use Rattle.rules.specs.Rules.{accepting, confirming, outOfRange, crooked, against, unsent, answer}
 use Rattle.rules.specs.Sound.{differ, notZero, notOwn, notRule, notSent, badSide, badSite, unsound}
-use Rattle.rules.specs.State.{votes, accepts, voted, accepted, confirmed, size, get}
+use Rattle.rules.specs.State.{votes, accepts, voted, accepted, confirmed, width, get}
 use Rattle.rules.proofs.Answer.{in-range, refused, passes, range, proposal, receiver, voted-other, not-sent}
 use Rattle.rules.proofs.Heard.{heard-proposal, heard-vote, heard-accept}
 use Rattle.votes.specs.Call.{Call}
@@ -248,19 +248,19 @@ module _ (Q : Questions) (n F : ℕ) (s : List ℕ) (v : ℕ) {d : Bool} (ed : d
 
 -- 18, the whole state: w is its width, and `bit` whether some number has a bit at or above n
 
-module _ (Q : Questions) (n F : ℕ) (s : List ℕ) {w : ℕ} (ew : w ≡ size n) where
+module _ (Q : Questions) (n F : ℕ) (s : List ℕ) {w : ℕ} (ew : w ≡ width n) where
   pub unsound-length : (length s ≡ w → ⊥) → true ≡ unsound Q n F s
   unfolding unsound
-  unsound-length e = rw (ne-eqb (length s) (size n) (λ z. e (z ∙ sym ew))) refl
+  unsound-length e = rw (ne-eqb (length s) (width n) (λ z. e (z ∙ sym ew))) refl
 
   module _ (l : length s ≡ w) {bit : Bool} (eb : bit ≡ some (length s) (λ i. not (within (get s i) (allBelow n)))) where
     abbrev above : ℕ → Bool
     above i = not (within (get s i) (allBelow n))
 
-    long : eqb (length s) (size n) ≡ true
-    long = eq-eqb (length s) (size n) (l ∙ ew)
+    long : eqb (length s) (width n) ≡ true
+    long = eq-eqb (length s) (width n) (l ∙ ew)
 
-    bits : {b : Bool} → bit ≡ b → some (size n) above ≡ b
+    bits : {b : Bool} → bit ≡ b → some (width n) above ≡ b
     bits e = ap (λ (k : ℕ). some k above) (sym (l ∙ ew)) ∙ sym eb ∙ e
 
     pub unsound-bit : bit ≡ true → true ≡ unsound Q n F s

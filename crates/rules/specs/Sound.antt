@@ -12,12 +12,12 @@ use Rattle.ground.specs.Search.{some}
 use Rattle.masks.specs.Mask.{has, within, minus, allBelow, _∈_}
 use Rattle.sets.specs.Promises.{Questions}
 use Rattle.rules.specs.Rules.{accepting, confirming}
-use Rattle.rules.specs.State.{votes, accepts, voted, accepted, confirmed, size, get}
+use Rattle.rules.specs.State.{votes, accepts, voted, accepted, confirmed, width, get}
 
 -- a sound state, clause by clause
 pub record Sound (Q : Questions) (n F : ℕ) (s : List ℕ) : Type 0 where
   -- its length is 4n + 6, and no number has a bit at or above n
-  pub long : length s ≡ size n
+  pub long : length s ≡ width n
   pub below : (i v : ℕ) → v ∈ get s i → v < n
   -- a faulty receiver has nothing: its four numbers are zero, and it is in none of the six masks
   pub faulty-votes : (v side : ℕ) → v < n → side < 2 → v ∈ F → get s (votes side v) ≡ 0
@@ -86,7 +86,7 @@ module _ (Q : Questions) (n F : ℕ) (s : List ℕ) where
   unfoldable pub unsound : Bool
   unfolding badSite some
   unsound =
-      not (eqb (length s) (size n))
-      || (some (size n) (λ i. not (within (get s i) (allBelow n)))
+      not (eqb (length s) (width n))
+      || (some (width n) (λ i. not (within (get s i) (allBelow n)))
       || (not (eqb (bitAnd (get s (voted n 0)) (get s (voted n 1))) 0)
       || some n badSite))

@@ -23,8 +23,8 @@ accepted n side = 4 * n + 2 + side
 abbrev pub confirmed : ℕ → ℕ → ℕ
 confirmed n side = 4 * n + 4 + side
 
-abbrev pub size : ℕ → ℕ
-size n = 4 * n + 6
+abbrev pub width : ℕ → ℕ
+width n = 4 * n + 6
 
 -- the set at a place, and the state with the sites of m put into it
 abbrev pub get : List ℕ → ℕ → ℕ

@@ -10,7 +10,7 @@ use Rattle.sets.specs.Paper.{Fbqs}
 use Rattle.sets.specs.Promises.{Questions, Promises}
 use Rattle.rules.specs.Rules.{answer}
 use Rattle.rules.specs.Sound.{Sound, unsound}
-use Rattle.rules.specs.State.{size, Below}
+use Rattle.rules.specs.State.{width, Below}
 use Rattle.rules.specs.Vote.{vote}
 use Rattle.votes.specs.Call.{Call}
 use Rattle.votes.specs.Vote.{fresh, step}
@@ -22,7 +22,7 @@ pub record Rests (S : ℕ → Fbqs) (Q : Questions) (n : ℕ) : Type 0 where
 
 -- "A fresh state is sound."
 abbrev pub FreshSound : Type 1
-FreshSound = (S : ℕ → Fbqs) (Q : Questions) (n F : ℕ) → Rests S Q n → Sound Q n F (fresh (size n))
+FreshSound = (S : ℕ → Fbqs) (Q : Questions) (n F : ℕ) → Rests S Q n → Sound Q n F (fresh (width n))
 
 -- a step from a sound state ends in a sound state
 abbrev pub StepSound : Type 1
@@ -40,5 +40,5 @@ TakenStays =
     Below (step (vote Q n F) c s) t → Sound Q n F t → step (vote Q n F) c t ≡ t
 
 -- 18 is exactly "not sound"
-abbrev pub Exact : Type 0
-Exact = (Q : Questions) (n F : ℕ) (s : List ℕ) → (unsound Q n F s ≡ false) ↔ Sound Q n F s
+abbrev pub SoundExact : Type 0
+SoundExact = (Q : Questions) (n F : ℕ) (s : List ℕ) → (unsound Q n F s ≡ false) ↔ Sound Q n F s

@@ -4,14 +4,14 @@ use mathlib.Core.List.{List}
 use Rattle.masks.specs.Mask.{_∈_}
 use Rattle.rules.specs.Rules.{answer, taken}
 use Rattle.rules.specs.Sound.{Sound}
-use Rattle.rules.specs.State.{size, Below}
+use Rattle.rules.specs.State.{width, Below}
 use Rattle.sets.specs.Promises.{Questions, questions}
 use Rattle.votes.specs.Vote.{Vote}
 
 -- of n sites, those of F faulty; "the list proposes both sides to no correct site"
 abbrev pub vote : Questions → ℕ → ℕ → Vote
 vote Q n F = record {
-  width = size n;
+  width = width n;
   answer = answer n F;
   taken = taken Q n;
   Sound = Sound Q n F;

@@ -27,7 +27,7 @@ use Rattle.table.specs.Table.{sites}
 use Rattle.rules.proofs.SoundLaws.{fresh-sound, accepted-correct}
 use Rattle.rules.proofs.WorkWays.{table-rests}
 use Rattle.rules.specs.Sound.{Sound}
-use Rattle.rules.specs.State.{voted, accepted, size, get}
+use Rattle.rules.specs.State.{voted, accepted, width, get}
 use Rattle.rules.specs.Theorems.{Rests}
 use Rattle.rules.specs.Vote.{vote}
 use Rattle.votes.specs.Passes.{pass, iter}
@@ -37,12 +37,12 @@ use Rattle.votes.specs.Vote.{step, fresh, runOf}
 module _ {Σ : ℕ → Fbqs} {Q : Questions} {n : ℕ} (R : Rests Σ Q n) (F : ℕ) (l : List Call) where
   -- the state after so many passes
   abbrev pub at : ℕ → List ℕ
-  at zero = fresh (size n)
+  at zero = fresh (width n)
   at (suc k) = pass (step (vote Q n F)) l (at k)
 
-  pub iter-at : (k : ℕ) → iter (step (vote Q n F)) k l (fresh (size n)) ≡ at k
+  pub iter-at : (k : ℕ) → iter (step (vote Q n F)) k l (fresh (width n)) ≡ at k
   iter-at zero = refl
-  iter-at (suc k) = iter-more (step (vote Q n F)) l k (fresh (size n)) ∙ ap (pass (step (vote Q n F)) l) (iter-at k)
+  iter-at (suc k) = iter-more (step (vote Q n F)) l k (fresh (width n)) ∙ ap (pass (step (vote Q n F)) l) (iter-at k)
 
   at-sound : (k : ℕ) → Sound Q n F (at k)
   at-sound zero = fresh-sound Σ Q n F R

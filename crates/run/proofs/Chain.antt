@@ -97,7 +97,7 @@ module _ (n : ℕ) where
   module _ (two : 2 ≤ n) where
     pub chain-table : n ≤ 64 → Table (chain n) n
     chain-table few = record {
-      size = chain-length;
+      long = chain-length;
       some-site = omega arith;
       few-sites = few;
       some-slice = λ v l. omega (arith, chain-count l);

@@ -11,7 +11,7 @@ use Rattle.pass.proofs.Turns.{length-answers}
 use Rattle.pass.specs.Calls.{calls, callAt}
 use Rattle.refusals.specs.declared.Check.{Check}
 use Rattle.refusals.specs.declared.Check.the-variants.{Sound, Refused}
-use Rattle.rules.specs.State.{size}
+use Rattle.rules.specs.State.{width}
 use Rattle.rules.specs.Vote.{voteOf}
 use Rattle.run.proofs.RunWays.{Fits, fits}
 use Rattle.run.specs.Run.{runCheck, theRun, toRan, ran, stateInto, answersInto}
@@ -50,7 +50,7 @@ module _ {t : List ℕ} {F : ℕ} {list state answers : List ℕ} {p : ℕ} (T :
   state-is-run : endState t F list state p ≡ theRun t F list .state
   unfolding stateInto
   state-is-run =
-      take-at (theRun t F list .state) (drop (size (sites (length t))) state) (size (sites (length t)))
+      take-at (theRun t F list .state) (drop (width (sites (length t))) state) (width (sites (length t)))
       (law .long (theRun t F list .state) (is-run X law (calls list) .1))
 
   answers-are-run : endAnswers t F list answers p ≡ theRun t F list .answers

@@ -34,7 +34,7 @@ use Rattle.rules.proofs.Steps.{step-sound, step-adds}
 use Rattle.rules.proofs.Taken.{taken-voted, taken-votes, taken-accepted}
 use Rattle.rules.specs.Rules.{others, accepting, taken}
 use Rattle.rules.specs.Sound.{Sound}
-use Rattle.rules.specs.State.{votes, accepts, voted, accepted, size, get}
+use Rattle.rules.specs.State.{votes, accepts, voted, accepted, width, get}
 use Rattle.rules.specs.Theorems.{Rests}
 use Rattle.rules.specs.Vote.{vote}
 use Rattle.votes.specs.Passes.{pass}
@@ -101,7 +101,7 @@ module _ {Σ : ℕ → Fbqs} {Q : Questions} (j : ℕ) (more : 1 ≤ j) (R : Res
             (λ u k. is-v u (S₁ .accepts-sent w u 0 hw (omega arith) not-in-zero k) ∙ sym (is-v w h)) (accepted-rule S₁ (omega arith) h)
 
   -- the first pass takes the two proposals
-  quiet-fresh : Quiet (fresh (size n))
+  quiet-fresh : Quiet (fresh (width n))
   quiet-fresh = record {
     sound = fresh-sound Σ Q n 0 R;
     nobody = λ w. fresh-none n (accepted n 0);
@@ -110,20 +110,20 @@ module _ {Σ : ℕ → Fbqs} {Q : Questions} (j : ℕ) (more : 1 ≤ j) (R : Res
   }
 
   abbrev s₀ : List ℕ
-  s₀ = does (propose 1 0) (does (propose 0 0) (fresh (size n)))
+  s₀ = does (propose 1 0) (does (propose 0 0) (fresh (width n)))
 
-  fresh-accept : (u v : ℕ) → does (call 2 u v 0) (fresh (size n)) ≡ fresh (size n)
-  fresh-accept u v = step-not-taken n 0 (call 2 u v 0) (fresh (size n)) Q (λ K. fresh-none n (accepted n 0) (K .accept-sent refl not-in-zero))
+  fresh-accept : (u v : ℕ) → does (call 2 u v 0) (fresh (width n)) ≡ fresh (width n)
+  fresh-accept u v = step-not-taken n 0 (call 2 u v 0) (fresh (width n)) Q (λ K. fresh-none n (accepted n 0) (K .accept-sent refl not-in-zero))
 
-  fresh-link : (k : ℕ) → does (link k) (fresh (size n)) ≡ fresh (size n)
-  fresh-link zero = step-not-taken n 0 (link 0) (fresh (size n)) Q (λ K. fresh-none n (voted n 0) (K .vote-sent refl not-in-zero))
+  fresh-link : (k : ℕ) → does (link k) (fresh (width n)) ≡ fresh (width n)
+  fresh-link zero = step-not-taken n 0 (link 0) (fresh (width n)) Q (λ K. fresh-none n (voted n 0) (K .vote-sent refl not-in-zero))
   fresh-link (suc v) = fresh-accept v (suc v)
 
-  fresh-links : (k : ℕ) → pass does (links k) (fresh (size n)) ≡ s₀
+  fresh-links : (k : ℕ) → pass does (links k) (fresh (width n)) ≡ s₀
   fresh-links zero = refl
   fresh-links (suc k) = ap (pass does (links k)) (fresh-link k) ∙ fresh-links k
 
-  first : Stage Q j 0 (pass does (longest j) (fresh (size n)))
+  first : Stage Q j 0 (pass does (longest j) (fresh (width n)))
   first = subst (Stage Q j 0) (sym (ap (pass does (links n)) (fresh-accept j 0) ∙ fresh-links n)) (record {
     sound = q₂ .sound;
     before = λ c m. ⊎-elim
@@ -137,7 +137,7 @@ module _ {Σ : ℕ → Fbqs} {Q : Questions} (j : ℕ) (more : 1 ≤ j) (R : Res
   })
     where
       s₁ : List ℕ
-      s₁ = does (propose 0 0) (fresh (size n))
+      s₁ = does (propose 0 0) (fresh (width n))
 
       q₁ : Quiet s₁
       q₁ = quiet-step quiet-fresh 0 (omega arith)

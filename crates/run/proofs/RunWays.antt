@@ -15,12 +15,12 @@ use Rattle.refusals.specs.declared.Refusal as Refusal
 use Rattle.refusals.specs.declared.Refusal.the-variants.{Room}
 use Rattle.pass.specs.Calls.{calls}
 use Rattle.passes.specs.Inner.{Whole}
-use Rattle.run.specs.Run.{misshapen, roomless, runCheck, ran, stateInto, answersInto}
+use Rattle.run.specs.Run.{listMisshapen, roomless, runCheck, ran, stateInto, answersInto}
 use Rattle.run.specs.declared.Ran.{Ran}
 use Rattle.run.specs.declared.Ran.the-variants.{Passes}
 use Rattle.table.proofs.SetCheck.{set-table}
 use Rattle.table.specs.Table.{sites, setCheck, Table}
-use Rattle.rules.specs.State.{size}
+use Rattle.rules.specs.State.{width}
 use Rattle.rules.specs.Vote.{voteOf}
 
 -- the check of a run: table, 10, 17, 9
@@ -31,32 +31,32 @@ module _ (t : List ℕ) (F bytes state answers : ℕ) where
 
   module _ (e : setCheck t F ≡ Sound) where
     pub cut-refused : (bytes % 4 ≡ 0 → ⊥) → Refused Refusal.Refusal.List ≡ runCheck t F bytes state answers
-    unfolding runCheck misshapen
+    unfolding runCheck listMisshapen
     cut-refused f = rw (e, ne-eqb (bytes % 4) 0 f) refl
 
     module _ (f : bytes % 4 ≡ 0) where
       pub long-refused : 16384 < bytes → Refused Refusal.Refusal.List ≡ runCheck t F bytes state answers
-      unfolding runCheck misshapen
+      unfolding runCheck listMisshapen
       long-refused l = rw (e, eq-eqb (bytes % 4) 0 f, lt-ltb 16384 bytes l) refl
 
       module _ (l : bytes ≤ 16384) where
         pub state-refused : state < 4 * sites (length t) + 6 → Refused Room ≡ runCheck t F bytes state answers
-        unfolding runCheck misshapen roomless
+        unfolding runCheck listMisshapen roomless
         state-refused s = rw (e, eq-eqb (bytes % 4) 0 f, le-ltb 16384 bytes l, lt-ltb state (4 * sites (length t) + 6) s) refl
 
         pub answers-refused : 4 * sites (length t) + 6 ≤ state → answers < bytes / 4 → Refused Room ≡ runCheck t F bytes state answers
-        unfolding runCheck misshapen roomless
+        unfolding runCheck listMisshapen roomless
         answers-refused s a =
             rw (e, eq-eqb (bytes % 4) 0 f, le-ltb 16384 bytes l, le-ltb state (4 * sites (length t) + 6) s, lt-ltb answers (bytes / 4) a) refl
 
         pub none-refused : 4 * sites (length t) + 6 ≤ state → bytes / 4 ≤ answers → Sound ≡ runCheck t F bytes state answers
-        unfolding runCheck misshapen roomless
+        unfolding runCheck listMisshapen roomless
         none-refused s a =
             rw (e, eq-eqb (bytes % 4) 0 f, le-ltb 16384 bytes l, le-ltb state (4 * sites (length t) + 6) s, le-ltb answers (bytes / 4) a) refl
 
 -- all lists that are too long are refused alike: the table, 10, 17
 pub long-alike : (t : List ℕ) (F state answers n : ℕ) → 4096 < n → runCheck t F (4 * n) state answers ≡ runCheck t F 16388 state answers
-unfolding runCheck misshapen
+unfolding runCheck listMisshapen
 long-alike t F state answers n l = rw (eq-eqb (4 * n % 4) 0 (omega arith), lt-ltb 16384 (4 * n) (omega arith)) refl
 
 -- what a sound check of a run has shown
@@ -64,26 +64,26 @@ pub record Fits (t : List ℕ) (bytes state answers : ℕ) : Type 0 where
   pub table : Table t (sites (length t))
   pub four : bytes ≡ 4 * (bytes / 4)
   pub few : bytes / 4 ≤ 4096
-  pub states : size (sites (length t)) ≤ state
+  pub states : width (sites (length t)) ≤ state
   pub many : bytes / 4 ≤ answers
 
 pub fits : (t : List ℕ) (F bytes state answers : ℕ) → runCheck t F bytes state answers ≡ Sound → Fits t bytes state answers
-unfolding runCheck misshapen roomless
+unfolding runCheck listMisshapen roomless
 fits t F bytes state answers e =
     let n = sites (length t) in
     let roomed = refuse (roomless n bytes state answers) Room in
-    let listed = orElse (refuse (misshapen bytes) Refusal.Refusal.List) roomed in
+    let listed = orElse (refuse (listMisshapen bytes) Refusal.Refusal.List) roomed in
     let a = orElse-sound (setCheck t F) listed e in
-    let b = missed (misshapen bytes) Refusal.Refusal.List roomed (a .1) in
+    let b = missed (listMisshapen bytes) Refusal.Refusal.List roomed (a .1) in
     let c = or-none (not (eqb (bytes % 4) 0)) (ltb 16384 bytes) (b .0) in
-    let d = or-none (ltb state (size n)) (ltb answers (bytes / 4)) (kept (roomless n bytes state answers) Room (b .1)) in
+    let d = or-none (ltb state (width n)) (ltb answers (bytes / 4)) (kept (roomless n bytes state answers) Room (b .1)) in
     let z : bytes % 4 ≡ 0 = eqb-true (bytes % 4) 0 (not-false (eqb (bytes % 4) 0) (c .0)) in
     let l : bytes ≤ 16384 = ltb-false 16384 bytes (c .1) in
     record {
       table = set-table t F (a .0);
       four = omega arith;
       few = omega arith;
-      states = ltb-false state (size n) (d .0);
+      states = ltb-false state (width n) (d .0);
       many = ltb-false answers (bytes / 4) (d .1);
     }
 
@@ -97,11 +97,11 @@ module _ (t : List ℕ) (F : ℕ) (list state answers : List ℕ) where
   pub ran-passes : {p : ℕ} {s b : List ℕ} → runCheck t F (length list) (length state) (length answers) ≡ Sound →
       Whole (voteOf t (sites (length t)) F) (calls list) p s b →
       (Passes p ≡ ran t F list (length state) (length answers))
-      × (s ++ drop (size (sites (length t))) state ≡ stateInto (Passes p) t F list state)
+      × (s ++ drop (width (sites (length t))) state ≡ stateInto (Passes p) t F list state)
       × (b ++ drop (length list / 4) answers ≡ answersInto (Passes p) t F list answers)
   unfolding ran stateInto answersInto
   ran-passes {p} {s} {b} e W = (
     rw e (ap Passes (W .count)),
-    ap (λ (x : List ℕ). x ++ drop (size (sites (length t))) state) (W .state),
+    ap (λ (x : List ℕ). x ++ drop (width (sites (length t))) state) (W .state),
     ap (λ (x : List ℕ). x ++ drop (length list / 4) answers) (W .answers),
   )

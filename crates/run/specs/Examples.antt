@@ -13,7 +13,7 @@ use Rattle.sets.specs.Quorum.{quorum, round, left, dropping, largest, rounds}
 use Rattle.sets.specs.Slices.{slicesOf}
 use Rattle.verdicts.specs.Verdicts.{beside, apart, firstApart, meets, dispensable, isIntact, intact}
 use Rattle.rules.specs.Rules.{accepting, confirming, nowAccepts, nowConfirms, hears, taken, outOfRange, crooked, against, unsent, answer}
-use Rattle.rules.specs.State.{accepted, confirmed, size, get, add}
+use Rattle.rules.specs.State.{accepted, confirmed, width, get, add}
 use Rattle.rules.specs.Vote.{voteOf}
 use Rattle.votes.specs.Call.{call, propose}
 use Rattle.votes.specs.Passes.{pass, passes, run}
@@ -51,7 +51,7 @@ examples =
     let B = slicesOf tableB in
     let C = slicesOf tableApart in
     let oneEnd = runOf (voteOf tableOne 1 0) (propose 0 0 ∷ []) .state in
-    let heardEnd = pass (step (voteOf tableB 4 8)) (propose 0 0 ∷ propose 1 0 ∷ propose 2 0 ∷ call 1 1 0 0 ∷ call 1 2 0 0 ∷ []) (fresh (size 4)) in
+    let heardEnd = pass (step (voteOf tableB 4 8)) (propose 0 0 ∷ propose 1 0 ∷ propose 2 0 ∷ call 1 1 0 0 ∷ call 1 2 0 0 ∷ []) (fresh (width 4)) in
     -- A's quorums are 3, 7, 11, 15, 27, 31
     alike (those 32 (quorum (A .inside) 5)) (3 ∷ 7 ∷ 11 ∷ 15 ∷ 27 ∷ 31 ∷ [])
     -- A's dispensable sets are 0, 4, 16, 20, 24, 28, 31

@@ -13,25 +13,25 @@ use Rattle.run.specs.declared.Ran.{Ran}
 use Rattle.run.specs.declared.Ran.the-variants.{Passes}
 use Rattle.table.specs.Table.{sites, setCheck}
 use Rattle.pass.specs.Calls.{calls}
-use Rattle.rules.specs.State.{size}
+use Rattle.rules.specs.State.{width}
 use Rattle.rules.specs.Vote.{voteOf}
 use Rattle.votes.specs.Passes.{Run}
 use Rattle.votes.specs.Vote.{runOf}
 
 -- 17: "list not a multiple of 4 bytes, or over 16,384 bytes"
-unfoldable pub misshapen : ℕ → Bool
-misshapen length = not (eqb (length % 4) 0) || ltb 16384 length
+unfoldable pub listMisshapen : ℕ → Bool
+listMisshapen length = not (eqb (length % 4) 0) || ltb 16384 length
 
 -- 9: "room lent too short", of either room: 4n + 6 numbers for the state, one byte a call for the answers
 unfoldable pub roomless : ℕ → ℕ → ℕ → ℕ → Bool
-roomless n bytes state answers = ltb state (size n) || ltb answers (bytes / 4)
+roomless n bytes state answers = ltb state (width n) || ltb answers (bytes / 4)
 
 -- table, 10 ("a set names a site at or above n"), 17, 9, for a list of so many bytes, and rooms of so many numbers and bytes
 unfoldable pub runCheck : List ℕ → ℕ → ℕ → ℕ → ℕ → Check
-unfolding setCheck misshapen roomless
+unfolding setCheck listMisshapen roomless
 runCheck t F bytes state answers =
     orElse (setCheck t F)
-    (orElse (refuse (misshapen bytes) Refusal.Refusal.List)
+    (orElse (refuse (listMisshapen bytes) Refusal.Refusal.List)
     (refuse (roomless (sites (length t)) bytes state answers) Room))
 
 -- the run of this table, faulty set and list
@@ -54,7 +54,7 @@ front (Ran.Refused r) result n room = room
 
 unfoldable pub stateInto : Ran → List ℕ → ℕ → List ℕ → List ℕ → List ℕ
 unfolding runOf
-stateInto r t F list room = front r (theRun t F list .state) (size (sites (length t))) room
+stateInto r t F list room = front r (theRun t F list .state) (width (sites (length t))) room
 
 unfoldable pub answersInto : Ran → List ℕ → ℕ → List ℕ → List ℕ → List ℕ
 unfolding runOf

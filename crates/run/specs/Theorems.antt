@@ -5,7 +5,7 @@ use mathlib.Core.Path.{_≡_}
 use lib.ListN.{length, getD, take}
 use Rattle.masks.specs.Mask.{minus, allBelow, size as count}
 use Rattle.pass.specs.Calls.{calls, callAt}
-use Rattle.rules.specs.State.{size, Below}
+use Rattle.rules.specs.State.{width, Below}
 use Rattle.rules.specs.Vote.{voteOf}
 use Rattle.run.specs.Run.{ran, stateInto, answersInto}
 use Rattle.run.specs.declared.Ran.the-variants.{Passes}
@@ -21,7 +21,7 @@ pub record Taken (t : List ℕ) (F : ℕ) (list state answers : List ℕ) (passe
 
 -- what it leaves: the first 4n + 6 numbers of the state room, and one byte a call
 abbrev pub endState : List ℕ → ℕ → List ℕ → List ℕ → ℕ → List ℕ
-endState t F list state passes = take (size (sites (length t))) (stateInto (Passes passes) t F list state)
+endState t F list state passes = take (width (sites (length t))) (stateInto (Passes passes) t F list state)
 
 abbrev pub endAnswers : List ℕ → ℕ → List ℕ → List ℕ → ℕ → List ℕ
 endAnswers t F list answers passes = take (length list / 4) (answersInto (Passes passes) t F list answers)

@@ -20,7 +20,7 @@ use Rattle.run.proofs.RunWays.{Fits, fits}
 use Rattle.run.specs.Run.{runCheck, theRun, toRan, ran, stateInto, answersInto}
 use Rattle.run.specs.declared.Ran.{Ran}
 use Rattle.table.specs.Table.{sites}
-use Rattle.rules.specs.State.{size}
+use Rattle.rules.specs.State.{width}
 
 ran-taken : (s : Check) (q p : ℕ) → Ran.Passes p ≡ toRan s q → (s ≡ Sound) × (p ≡ q)
 ran-taken Sound q p h = (refl, cc)
@@ -57,7 +57,7 @@ module _ (t : List ℕ) (F : ℕ) (list : List ℕ) where
     unfolding ranText stateInto answersInto
     ran-ended n states answers s a en ls la ks ka es ea =
         let f = fitting in
-        let x = in-front (theRun t F list .state) states s (size (sites (length t))) (omega (arith, f .states)) es (ks ∙ sym ls) in
+        let x = in-front (theRun t F list .state) states s (width (sites (length t))) (omega (arith, f .states)) es (ks ∙ sym ls) in
         let y = in-front (theRun t F list .answers) answers a (length list / 4) (omega (arith, f .many)) ea (ka ∙ sym la) in
         rw (en, whole .0, whole .1, x, y) refl
 

@@ -7,14 +7,14 @@ use Rattle.outcome.specs.Outcome.{endLines}
 use Rattle.check_text.specs.Table.{tableOn, imageCheck, unless}
 use Rattle.run.specs.Run.{runCheck, theRun}
 use Rattle.table.specs.Table.{sites}
-use Rattle.rules.specs.State.{size}
+use Rattle.rules.specs.State.{width}
 
 -- of a table in memory: 10, then 17, then the lines. The rooms are for 64 sites and 4,096 calls, so that 9 does not arise.
 unfoldable pub ranText : ℕ → List ℕ → List ℕ → List ℕ
 unfolding runCheck explained endLines
 ranText F t list =
     let r = theRun t F list in
-    unless (runCheck t F (length list) (size 64) 4096) explained (endLines F (sites (length t)) (r .passes) (r .state) (r .answers))
+    unless (runCheck t F (length list) (width 64) 4096) explained (endLines F (sites (length t)) (r .passes) (r .state) (r .answers))
 
 -- "the table as in reading, 10, 17": the lines of the run, or the refusal and what it means
 unfoldable pub runText : ℕ → List ℕ → List ℕ → List ℕ

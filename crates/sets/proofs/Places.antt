@@ -12,7 +12,7 @@ use borrow.Author.Tests.{eqb-true, eqb-false, ltb-true, ltb-false}
 use Rattle.ground.proofs.Logic.{is-false, clash, cases}
 use Rattle.masks.proofs.Laws.Subsets.{within-⊆, ⊆-within, ⊆-trans}
 use Rattle.masks.specs.Mask.{within, _⊆_}
-use Rattle.sets.specs.Inner.Places.{Passed}
+use Rattle.sets.specs.Inner.Places.{PlacesPassed}
 use Rattle.sets.specs.Slices.{slicesOf}
 use Rattle.sets.proofs.Slices.{inside-of, inside-ex}
 use Rattle.table.specs.Table.{countOf, sliceOf}
@@ -33,23 +33,23 @@ place-le places v k =
 
 module _ (t : List ℕ) (n : ℕ) where
   -- before the first round no slice is passed
-  pub passed-none : (w : ℕ) → n ≤ 64 → Passed t n w (replicate 64 0)
+  pub passed-none : (w : ℕ) → n ≤ 64 → PlacesPassed t n w (replicate 64 0)
   passed-none w h v i l p =
       absurd (not-suc-le-zero (subst (λ (x : ℕ). i < x) (getD-replicate 64 v 0 0 (lt-of-lt-of-le l h)) p))
 
   -- what is passed stays so while the set shrinks
-  pub passed-less : {u w : ℕ} (places : List ℕ) → u ⊆ w → Passed t n w places → Passed t n u places
+  pub passed-less : {u w : ℕ} (places : List ℕ) → u ⊆ w → PlacesPassed t n w places → PlacesPassed t n u places
   passed-less {u} {w} places s p v i l h =
       is-false (within (sliceOf t v i) u) (λ e. clash (⊆-within (⊆-trans (within-⊆ (sliceOf t v i) u e) s)) (p v i l h))
 
   -- site v looks from its place on, and finds no slice before slice k
-  module _ (w : ℕ) (places : List ℕ) (v k : ℕ) (p : Passed t n w places)
+  module _ (w : ℕ) (places : List ℕ) (v k : ℕ) (p : PlacesPassed t n w places)
       (f : (i : ℕ) → getD places v 0 ≤ i → i < k → within (sliceOf t v i) w ≡ false) where
     pub passed-to : (i : ℕ) → v < n → i < k → within (sliceOf t v i) w ≡ false
     passed-to i m h = ⊎-elim (λ q. p v i m (ltb-true i (getD places v 0) q)) (λ q. f i (ltb-false i (getD places v 0) q) h) (cases (ltb i (getD places v 0)))
 
     -- its place is k then
-    pub passed-more : Passed t n w (set places v k)
+    pub passed-more : PlacesPassed t n w (set places v k)
     passed-more x i m h =
         ⊎-elim
         (λ e. let q = eqb-true x v e in

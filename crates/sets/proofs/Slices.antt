@@ -69,7 +69,7 @@ module _ {t : List ℕ} {n : ℕ} (table : Table t n) where
   -- who is no site has no slice
   pub no-slice : (v : ℕ) → n ≤ v → countOf t v ≡ 0
   no-slice v l =
-      ap (λ (l : List ℕ). getD (take 63 l) 0 0) (drop-of-length-le t (subst (λ (x : ℕ). x ≤ 63 * v) (sym (table .size)) (mul-le-mul-left 63 l)))
+      ap (λ (l : List ℕ). getD (take 63 l) 0 0) (drop-of-length-le t (subst (λ (x : ℕ). x ≤ 63 * v) (sym (table .long)) (mul-le-mul-left 63 l)))
 
   -- every slice is of the n sites
   pub slice-below : (v i : ℕ) → i < countOf t v → sliceOf t v i ⊆ allBelow n

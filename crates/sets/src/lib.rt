@@ -6,7 +6,7 @@ ghost use Rattle.masks.specs.Mask.{has, single, within, _∈_};
 ghost use Rattle.table.specs.Table.{countOf, sliceOf, Table};
 ghost use Rattle.sets.specs.Slices.{slicesOf};
 ghost use Rattle.sets.specs.Quorum.{quorum, round, largest, rounds};
-ghost use Rattle.sets.specs.Inner.Places.{Passed};
+ghost use Rattle.sets.specs.Inner.Places.{PlacesPassed};
 
 // The set w blocks site v: it meets every slice of v.
 pub fn blocks(table: &[u64], n: usize, w: u64, v: usize) -> bool
@@ -57,9 +57,9 @@ pub fn has_slice(table: &[u64], n: usize, v: usize, u: u64) -> bool
 fn stays(table: &[u64], n: usize, v: usize, w: u64, places: &mut [u8; 64]) -> u64
     requires { ⌜ Table (now table) n ⌝ }
     requires { ⌜ v < n ⌝ }
-    requires { ⌜ Passed (now table) n w (now places) ⌝ }
+    requires { ⌜ PlacesPassed (now table) n w (now places) ⌝ }
     ensures { λ r. ⌜ r ≡ cond (has w v && slicesOf (now (table .entry)) .inside v w) (single v) 0 ⌝ }
-    ensures { λ r. ⌜ Passed (now (table .entry)) n w (now (places .exit)) ⌝ }
+    ensures { λ r. ⌜ PlacesPassed (now (table .entry)) n w (now (places .exit)) ⌝ }
 {
     if !masks::has(w, v as u64) {
         return 0;
@@ -83,8 +83,8 @@ fn first_member(m: u64) -> usize
 // One round from w: the sites that stay, asked member by member. Each member's place moves on to its first slice that still holds.
 fn round_from(table: &[u64], n: usize, w: u64, places: &mut [u8; 64]) -> u64
     requires { ⌜ Table (now table) n ⌝ }
-    requires { ⌜ Passed (now table) n w (now places) ⌝ }
-    ensures { λ r. ⌜ (r ≡ round (slicesOf (now (table .entry)) .inside) n w) × Passed (now (table .entry)) n w (now (places .exit)) ⌝ }
+    requires { ⌜ PlacesPassed (now table) n w (now places) ⌝ }
+    ensures { λ r. ⌜ (r ≡ round (slicesOf (now (table .entry)) .inside) n w) × PlacesPassed (now (table .entry)) n w (now (places .exit)) ⌝ }
 {
     let mut stay = 0u64;
     let mut rest = w & masks::all_below(n as u64);

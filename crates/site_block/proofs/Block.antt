@@ -10,7 +10,7 @@ use borrow.Author.Tests.{eqb-true, eq-eqb, ne-eqb, not-false}
 use Rattle.block.specs.Block.{sealed}
 use Rattle.ground.proofs.Logic.{fail-alike, or-none}
 use Rattle.ground.proofs.Some.{none-each, each-none}
-use Rattle.site_block.specs.Block.{siteField, sitesField, countField, zeroField, sliceField, misheaded, unfilled, blockCheck, load}
+use Rattle.site_block.specs.Block.{siteField, sitesField, countField, zeroField, sliceField, misheaded, blockUnfilled, blockCheck, load}
 use Rattle.site_block.proofs.Load.{load-slice}
 use Rattle.le.proofs.Laws.{field-zeros, zeros-field}
 use Rattle.refusals.proofs.First.{missed, passed}
@@ -19,12 +19,12 @@ use Rattle.refusals.specs.declared.Refusal.the-variants.{Sums, Header}
 use Rattle.table.proofs.Row.{row-alike}
 use Rattle.table.proofs.Table.{zero-above, clean-above}
 use Rattle.table.specs.Row.{rowCheck}
-use Rattle.table.specs.Table.{slice, unclean, siteCheck}
+use Rattle.table.specs.Table.{slice, rowUnfilled, siteCheck}
 
 -- filler: the bytes behind the last slice are 0 exactly if the unused places are
 module _ (b : List ℕ) (l : countField b ≤ 62) where
-  filled-places : unfilled b ≡ false → (k : ℕ) → countField b ≤ k → k < 62 → sliceField b k ≡ 0
-  unfolding unfilled
+  filled-places : blockUnfilled b ≡ false → (k : ℕ) → countField b ≤ k → k < 62 → sliceField b k ≡ 0
+  unfolding blockUnfilled
   filled-places h k g s =
       let from = 8 + 8 * countField b in
       field-zeros 8 b (8 + 8 * k)
@@ -33,8 +33,8 @@ module _ (b : List ℕ) (l : countField b ≤ 62) where
       let e : from + (8 + 8 * k + j - from) ≡ 8 + 8 * k + j = omega arith in
       rw e at (eqb-true (getD b (from + (8 + 8 * k + j - from)) 0) 0 (not-false _ z)))
 
-  places-filled : ((k : ℕ) → countField b ≤ k → k < 62 → sliceField b k ≡ 0) → unfilled b ≡ false
-  unfolding unfilled
+  places-filled : ((k : ℕ) → countField b ≤ k → k < 62 → sliceField b k ≡ 0) → blockUnfilled b ≡ false
+  unfolding blockUnfilled
   places-filled f =
       let from = 8 + 8 * countField b in
       each-none (504 - from) (λ j. not (eqb (getD b (from + j) 0) 0))
@@ -43,18 +43,18 @@ module _ (b : List ℕ) (l : countField b ≤ 62) where
       let e : 8 + 8 * k + j % 8 ≡ from + j = omega arith in
       ap not (eq-eqb _ 0 (rw e at (zeros-field 8 b (8 + 8 * k) (f k (omega arith) (omega arith)) (j % 8) (omega arith)))))
 
-  same-filler : unfilled b ≡ unclean (load b)
+  same-filler : blockUnfilled b ≡ rowUnfilled (load b)
   unfolding load
   same-filler =
-      fail-alike (unfilled b) (unclean (load b))
+      fail-alike (blockUnfilled b) (rowUnfilled (load b))
       (λ h. clean-above (load b) (λ k g s. load-slice b k s ∙ filled-places h k g s))
       (λ h. places-filled (λ k g s. sym (load-slice b k s) ∙ zero-above (load b) h k g s))
 
 -- what a block holds is refused as its 63 numbers are
-row-site : (n i : ℕ) (b : List ℕ) → rowCheck n i (countField b) (sliceField b) (unfilled b) ≡ siteCheck n i (load b)
+row-site : (n i : ℕ) (b : List ℕ) → rowCheck n i (countField b) (sliceField b) (blockUnfilled b) ≡ siteCheck n i (load b)
 unfolding siteCheck load
 row-site n i b =
-    row-alike n i (countField b) (sliceField b) (slice (load b)) (unfilled b) (unclean (load b))
+    row-alike n i (countField b) (sliceField b) (slice (load b)) (blockUnfilled b) (rowUnfilled (load b))
     (λ k l. sym (load-slice b k l)) (λ l. same-filler b l)
 
 -- the ways out
@@ -85,7 +85,7 @@ module _ (n i : ℕ) (b : List ℕ) where
   unfolding blockCheck misheaded
   block-sound h =
       let p = passed (sealed b) (Sums i) _ h in
-      let q = missed (misheaded n i b) (Header i) (rowCheck n i (countField b) (sliceField b) (unfilled b)) (p .1) in
+      let q = missed (misheaded n i b) (Header i) (rowCheck n i (countField b) (sliceField b) (blockUnfilled b)) (p .1) in
       let u = or-none (not (eqb (siteField b) i)) (not (eqb (sitesField b) n) || not (eqb (zeroField b) 0)) (q .0) in
       let w = or-none (not (eqb (sitesField b) n)) (not (eqb (zeroField b) 0)) (u .1) in (
         p .0,

@@ -35,17 +35,17 @@ unfoldable pub misheaded : ℕ → ℕ → List ℕ → Bool
 misheaded n i b = not (eqb (siteField b) i) || (not (eqb (sitesField b) n) || not (eqb (zeroField b) 0))
 
 -- 8: "filler not zero": a byte behind the last slice, 8 + 8 * count to 503
-unfoldable pub unfilled : List ℕ → Bool
+unfoldable pub blockUnfilled : List ℕ → Bool
 unfolding some
-unfilled b = let from = 8 + 8 * countField b in some (504 - from) (λ j. not (eqb (getD b (from + j) 0) 0))
+blockUnfilled b = let from = 8 + 8 * countField b in some (504 - from) (λ j. not (eqb (getD b (from + j) 0) 0))
 
 -- "block by block 2, 3, 4, each slice 5 then 6, then 8": the block b at place i of an image of n blocks
 unfoldable pub blockCheck : ℕ → ℕ → List ℕ → Check
-unfolding misheaded unfilled rowCheck
+unfolding misheaded blockUnfilled rowCheck
 blockCheck n i b =
     orElse (refuse (not (sealed b)) (Sums i))
     (orElse (refuse (misheaded n i b) (Header i))
-    (rowCheck n i (countField b) (sliceField b) (unfilled b)))
+    (rowCheck n i (countField b) (sliceField b) (blockUnfilled b)))
 
 -- "Read into memory, a site takes 63 64-bit numbers: the count, then 62 places"
 unfoldable pub load : List ℕ → List ℕ

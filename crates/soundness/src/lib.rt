@@ -7,7 +7,7 @@ ghost use Rattle.ground.specs.Search.{some};
 ghost use Rattle.masks.specs.Mask.{within, allBelow};
 ghost use Rattle.table.specs.Table.{Table};
 ghost use Rattle.sets.specs.Promises.{questions};
-ghost use Rattle.rules.specs.State.{size, get};
+ghost use Rattle.rules.specs.State.{width, get};
 ghost use Rattle.rules.specs.Sound.{badSide, badSite, unsound};
 ghost use Rattle.asking.specs.Inner.{Asked};
 
@@ -22,7 +22,7 @@ fn is_bad_side(
     asked: &mut [u64; 2],
 ) -> bool
     requires { ⌜ Table (now table) n ⌝ }
-    requires { ⌜ length (now state) ≡ size n ⌝ }
+    requires { ⌜ length (now state) ≡ width n ⌝ }
     requires { ⌜ v < n ⌝ }
     requires { ⌜ side < 2 ⌝ }
     requires { ⌜ Asked (questions (now table)) n (now asked) ⌝ }
@@ -56,7 +56,7 @@ fn is_bad_site(
     asked: &mut [u64; 2],
 ) -> bool
     requires { ⌜ Table (now table) n ⌝ }
-    requires { ⌜ length (now state) ≡ size n ⌝ }
+    requires { ⌜ length (now state) ≡ width n ⌝ }
     requires { ⌜ v < n ⌝ }
     requires { ⌜ Asked (questions (now table)) n (now asked) ⌝ }
     ensures { λ r. ⌜ r ≡ badSite (questions (now (table .entry))) n faulty (now (state .entry)) v ⌝ }
@@ -71,7 +71,7 @@ fn is_bad_site(
 // Some site is bad.
 fn some_bad_site(table: &[u64], n: usize, faulty: u64, state: &[u64]) -> bool
     requires { ⌜ Table (now table) n ⌝ }
-    requires { ⌜ length (now state) ≡ size n ⌝ }
+    requires { ⌜ length (now state) ≡ width n ⌝ }
     ensures { λ r. ⌜ r ≡ some n (badSite (questions (now (table .entry))) n faulty (now (state .entry))) ⌝ }
 {
     let mut asked = [0u64; 2];

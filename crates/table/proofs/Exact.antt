@@ -7,8 +7,8 @@ use lib.ListN.{length}
 use Rattle.refusals.proofs.First.{first-all, first-sound, missed}
 use Rattle.refusals.specs.declared.Check.the-variants.{Sound}
 use Rattle.refusals.specs.declared.Refusal.the-variants.{Length}
-use Rattle.table.specs.Table.{slice, siteOf, countOf, sites, misshapen, unclean, siteCheck, sitesCheck, check, Table}
-use Rattle.table.specs.Theorems.{Exact}
+use Rattle.table.specs.Table.{slice, siteOf, countOf, sites, tableMisshapen, rowUnfilled, siteCheck, sitesCheck, check, Table}
+use Rattle.table.specs.Theorems.{CheckExact}
 use Rattle.table.proofs.Row.{Row, row-sound, sound-row}
 use Rattle.table.proofs.Table.{well-shaped, shape, sites-of, zero-above, clean-above, right-length}
 
@@ -16,10 +16,10 @@ use Rattle.table.proofs.Table.{well-shaped, shape, sites-of, zero-above
 pub checked-sites : (t : List ℕ) (n : ℕ) → length t ≡ 63 * n → 1 ≤ n → n ≤ 64 → sitesCheck n t ≡ Sound → Table t n
 unfolding sitesCheck siteCheck
 checked-sites t n e p q h =
-    let row : (v : ℕ) → v < n → Row n v (countOf t v) (slice (siteOf t v)) (unclean (siteOf t v)) =
-    λ v l. row-sound n v (countOf t v) (slice (siteOf t v)) (unclean (siteOf t v)) (first-all (λ w. siteCheck n w (siteOf t w)) n v h l) in
+    let row : (v : ℕ) → v < n → Row n v (countOf t v) (slice (siteOf t v)) (rowUnfilled (siteOf t v)) =
+    λ v l. row-sound n v (countOf t v) (slice (siteOf t v)) (rowUnfilled (siteOf t v)) (first-all (λ w. siteCheck n w (siteOf t w)) n v h l) in
     record {
-      size = e;
+      long = e;
       some-site = p;
       few-sites = q;
       some-slice = λ v l. row v l .some-slice;
@@ -34,7 +34,7 @@ pub sound-sites : {t : List ℕ} {n : ℕ} → Table t n → sitesCheck n t ≡ 
 unfolding sitesCheck siteCheck
 sound-sites {t} {n} s =
     first-sound (λ v. siteCheck n v (siteOf t v)) n
-    (λ v l. sound-row n v (countOf t v) (slice (siteOf t v)) (unclean (siteOf t v))
+    (λ v l. sound-row n v (countOf t v) (slice (siteOf t v)) (rowUnfilled (siteOf t v))
     (record {
       some-slice = s .some-slice v l;
       few-slices = s .few-slices v l;
@@ -48,7 +48,7 @@ sound-sites {t} {n} s =
 pub checked : (t : List ℕ) → check t ≡ Sound → Table t (sites (length t))
 unfolding check
 checked t h =
-    let p = missed (misshapen (length t)) Length (sitesCheck (sites (length t)) t) h in
+    let p = missed (tableMisshapen (length t)) Length (sitesCheck (sites (length t)) t) h in
     let q = shape (length t) (p .0) in
     checked-sites t (sites (length t)) (q .0) (q .1) (q .2) (p .1)
 
@@ -56,11 +56,11 @@ checked t h =
 pub sound : {t : List ℕ} {n : ℕ} → Table t n → check t ≡ Sound
 sound {t} {n} s =
     let e = sites-of s in
-    let z = s .size in
+    let z = s .long in
     let a = s .some-site in
     let b = s .few-sites in
     right-length t (well-shaped (length t) (omega arith) (λ k. omega arith) (omega arith))
     ∙ ap (λ (k : ℕ). sitesCheck k t) e ∙ sound-sites s
 
-pub exact : Exact
+pub exact : CheckExact
 exact t = (checked t, λ s. sound s)

@@ -121,37 +121,37 @@ module _ (slice : ℕ → ℕ) where
       (λ i b. ⊆-trans (g .together i (omega arith)) (within-⊆ some (allBelow n) below)) (λ i b. g .above up i (omega arith))
 
 -- What a sound site has.
-pub record Row (n v count : ℕ) (slice : ℕ → ℕ) (unclean : Bool) : Type 0 where
+pub record Row (n v count : ℕ) (slice : ℕ → ℕ) (unfilled : Bool) : Type 0 where
   pub some-slice : 1 ≤ count
   pub few-slices : count ≤ 62
   pub owner : (i : ℕ) → i < count → v ∈ slice i
   pub below : (i : ℕ) → i < count → slice i ⊆ allBelow n
   pub ascend : (i : ℕ) → suc i < count → slice i < slice (suc i)
-  pub clean : unclean ≡ false
+  pub clean : unfilled ≡ false
 
-module _ (n v count : ℕ) (slice : ℕ → ℕ) (unclean : Bool) where
-  pub no-slice : count ≡ 0 → rowCheck n v count slice unclean ≡ Refused (Count v)
+module _ (n v count : ℕ) (slice : ℕ → ℕ) (unfilled : Bool) where
+  pub no-slice : count ≡ 0 → rowCheck n v count slice unfilled ≡ Refused (Count v)
   unfolding rowCheck
   no-slice e = rw (eq-eqb count 0 e) refl
 
-  pub many-slices : 62 < count → rowCheck n v count slice unclean ≡ Refused (Count v)
+  pub many-slices : 62 < count → rowCheck n v count slice unfilled ≡ Refused (Count v)
   unfolding rowCheck
   many-slices l = rw (lt-ltb 62 count l, or-true) refl
 
   module _ (ne : count ≡ 0 → ⊥) (l : count ≤ 62) where
-    pub bad-slice : (r : Refusal) → first (sliceCheck n v slice) count ≡ Refused r → rowCheck n v count slice unclean ≡ Refused r
+    pub bad-slice : (r : Refusal) → first (sliceCheck n v slice) count ≡ Refused r → rowCheck n v count slice unfilled ≡ Refused r
     unfolding rowCheck
     bad-slice r e = rw (ne-eqb count 0 ne, le-ltb 62 count l, e) refl
 
-    pub good-slices : first (sliceCheck n v slice) count ≡ Sound → rowCheck n v count slice unclean ≡ refuse unclean (Filler v)
+    pub good-slices : first (sliceCheck n v slice) count ≡ Sound → rowCheck n v count slice unfilled ≡ refuse unfilled (Filler v)
     unfolding rowCheck
     good-slices e = rw (ne-eqb count 0 ne, le-ltb 62 count l, e) refl
 
-  pub row-sound : rowCheck n v count slice unclean ≡ Sound → Row n v count slice unclean
+  pub row-sound : rowCheck n v count slice unfilled ≡ Sound → Row n v count slice unfilled
   unfolding rowCheck
   row-sound h =
-      let p = missed (eqb count 0 || ltb 62 count) (Count v) (orElse (first (sliceCheck n v slice) count) (refuse unclean (Filler v))) h in
-      let q = orElse-sound (first (sliceCheck n v slice) count) (refuse unclean (Filler v)) (p .1) in
+      let p = missed (eqb count 0 || ltb 62 count) (Count v) (orElse (first (sliceCheck n v slice) count) (refuse unfilled (Filler v))) h in
+      let q = orElse-sound (first (sliceCheck n v slice) count) (refuse unfilled (Filler v)) (p .1) in
       let c = or-none (eqb count 0) (ltb 62 count) (p .0) in
       let ne = eqb-false count 0 (c .0) in
       let each : (i : ℕ) → i < count → sliceCheck n v slice i ≡ Sound = λ i l. first-all (sliceCheck n v slice) count i (q .0) l in
@@ -161,10 +161,10 @@ module _ (n v count : ℕ) (slice : ℕ → ℕ) (unclean : Bool) where
         owner = λ i l. slice-owner n v slice i (each i l);
         below = λ i l. slice-below n v slice i (each i l);
         ascend = λ i l. slice-ascends n v slice i (each (suc i) l);
-        clean = kept unclean (Filler v) (q .1);
+        clean = kept unfilled (Filler v) (q .1);
       }
 
-  pub sound-row : Row n v count slice unclean → rowCheck n v count slice unclean ≡ Sound
+  pub sound-row : Row n v count slice unfilled → rowCheck n v count slice unfilled ≡ Sound
   sound-row r =
       good-slices (λ e. not-suc-le-zero (subst (λ (k : ℕ). 1 ≤ k) e (r .some-slice))) (r .few-slices)
       (slices-sound n v count slice (r .owner) (r .below) (r .ascend))

@@ -16,7 +16,7 @@ use Rattle.ground.proofs.Some.{none-each, each-none}
 use Rattle.masks.proofs.Laws.Subsets.{⊆-le, or-⊆-l, or-⊆-r, below-⊆}
 use Rattle.refusals.specs.declared.Check.the-variants.{Refused}
 use Rattle.refusals.specs.declared.Refusal.the-variants.{Length}
-use Rattle.table.specs.Table.{count, slice, siteOf, countOf, sliceOf, sites, misshapen, unclean, sitesCheck, check, Table}
+use Rattle.table.specs.Table.{count, slice, siteOf, countOf, sliceOf, sites, tableMisshapen, rowUnfilled, sitesCheck, check, Table}
 
 -- where the numbers of site v stand
 
@@ -30,24 +30,24 @@ slice-at t v i l =
 -- the length
 
 module _ (many : ℕ) where
-  pub odd-length : (many % 63 ≡ 0 → ⊥) → misshapen many ≡ true
-  unfolding misshapen
+  pub odd-length : (many % 63 ≡ 0 → ⊥) → tableMisshapen many ≡ true
+  unfolding tableMisshapen
   odd-length ne = rw (ne-eqb (many % 63) 0 ne) refl
 
-  pub no-sites : sites many ≡ 0 → misshapen many ≡ true
-  unfolding misshapen
+  pub no-sites : sites many ≡ 0 → tableMisshapen many ≡ true
+  unfolding tableMisshapen
   no-sites e = rw (eq-eqb (sites many) 0 e, or-true) refl
 
-  pub too-many-sites : 64 < sites many → misshapen many ≡ true
-  unfolding misshapen
+  pub too-many-sites : 64 < sites many → tableMisshapen many ≡ true
+  unfolding tableMisshapen
   too-many-sites l = rw (lt-ltb 64 (sites many) l, or-true) (or-true (not (eqb (many % 63) 0)))
 
-  pub well-shaped : many % 63 ≡ 0 → (sites many ≡ 0 → ⊥) → sites many ≤ 64 → misshapen many ≡ false
-  unfolding misshapen
+  pub well-shaped : many % 63 ≡ 0 → (sites many ≡ 0 → ⊥) → sites many ≤ 64 → tableMisshapen many ≡ false
+  unfolding tableMisshapen
   well-shaped e ne l = rw (eq-eqb (many % 63) 0 e, ne-eqb (sites many) 0 ne, le-ltb 64 (sites many) l) refl
 
-  pub shape : misshapen many ≡ false → (many ≡ 63 * sites many) × (1 ≤ sites many) × (sites many ≤ 64)
-  unfolding misshapen
+  pub shape : tableMisshapen many ≡ false → (many ≡ 63 * sites many) × (1 ≤ sites many) × (sites many ≤ 64)
+  unfolding tableMisshapen
   shape h =
       let p = or-none (not (eqb (many % 63) 0)) (eqb (sites many) 0 || ltb 64 (sites many)) h in
       let q = or-none (eqb (sites many) 0) (ltb 64 (sites many)) (p .1) in
@@ -57,7 +57,7 @@ module _ (many : ℕ) where
 
 -- a table has as many sites as its length says
 pub sites-of : {t : List ℕ} {n : ℕ} → Table t n → sites (length t) ≡ n
-sites-of {t} {n} s = let e = s .size in omega arith
+sites-of {t} {n} s = let e = s .long in omega arith
 
 -- the unused places of a site's 63 numbers
 
@@ -74,24 +74,24 @@ some-bit a b =
     rw (eqb-true a 0 (not-false _ (p .0)), eqb-true b 0 (not-false _ (p .1))) refl)
 
 module _ (m : List ℕ) where
-  pub zero-above : unclean m ≡ false → (i : ℕ) → count m ≤ i → i < 62 → slice m i ≡ 0
-  unfolding unclean
+  pub zero-above : rowUnfilled m ≡ false → (i : ℕ) → count m ≤ i → i < 62 → slice m i ≡ 0
+  unfolding rowUnfilled
   zero-above h i l b =
       let z = none-each (62 - count m) (λ j. not (eqb (slice m (count m + j)) 0)) (i - count m) h (omega arith) in
       subst (λ (k : ℕ). slice m k ≡ 0) (omega arith) (eqb-true (slice m (count m + (i - count m))) 0 (not-false _ z))
 
-  pub clean-above : ((i : ℕ) → count m ≤ i → i < 62 → slice m i ≡ 0) → unclean m ≡ false
-  unfolding unclean
+  pub clean-above : ((i : ℕ) → count m ≤ i → i < 62 → slice m i ≡ 0) → rowUnfilled m ≡ false
+  unfolding rowUnfilled
   clean-above f =
       each-none (62 - count m) (λ j. not (eqb (slice m (count m + j)) 0)) (λ j l. ap not (eq-eqb _ 0 (f (count m + j) (omega arith) (omega arith))))
 
 -- the ways out of the check
 
-pub wrong-length : (t : List ℕ) → misshapen (length t) ≡ true → check t ≡ Refused Length
+pub wrong-length : (t : List ℕ) → tableMisshapen (length t) ≡ true → check t ≡ Refused Length
 unfolding check
 wrong-length t e = rw e refl
 
-pub right-length : (t : List ℕ) → misshapen (length t) ≡ false → check t ≡ sitesCheck (sites (length t)) t
+pub right-length : (t : List ℕ) → tableMisshapen (length t) ≡ false → check t ≡ sitesCheck (sites (length t)) t
 unfolding check
 right-length t e = rw e refl
 
@@ -116,4 +116,4 @@ slice-lt {t} {n} s v i =
     beside l = omega (arith, length-take 63 (drop (63 * v) t))
 
     behind : n ≤ v → length (siteOf t v) ≤ 1 + i
-    behind l = let e = s .size in omega (arith, length-take 63 (drop (63 * v) t), length-drop (63 * v) t)
+    behind l = let e = s .long in omega (arith, length-take 63 (drop (63 * v) t), length-drop (63 * v) t)

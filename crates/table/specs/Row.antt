@@ -24,7 +24,7 @@ sliceCheck n v slice k = orElse (refuse (strange n v (slice k)) (Slice v)) (refu
 -- "4, each slice 5 then 6, then 8": 4 is "slice count 0 or over 62", 8 "filler or an unused place not zero"
 unfoldable pub rowCheck : ℕ → ℕ → ℕ → (ℕ → ℕ) → Bool → Check
 unfolding first sliceCheck
-rowCheck n v count slice unclean =
+rowCheck n v count slice unfilled =
     orElse (refuse (eqb count 0 || ltb 62 count) (Count v))
     (orElse (first (sliceCheck n v slice) count)
-    (refuse unclean (Filler v)))
+    (refuse unfilled (Filler v)))

@@ -35,18 +35,18 @@ abbrev pub sites : ℕ → ℕ
 sites length = length / 63
 
 -- 1: "memory table not 63 numbers times 1 to 64"
-unfoldable pub misshapen : ℕ → Bool
-misshapen length = not (eqb (length % 63) 0) || (eqb (sites length) 0 || ltb 64 (sites length))
+unfoldable pub tableMisshapen : ℕ → Bool
+tableMisshapen length = not (eqb (length % 63) 0) || (eqb (sites length) 0 || ltb 64 (sites length))
 
 -- an unused place is not zero
-unfoldable pub unclean : List ℕ → Bool
+unfoldable pub rowUnfilled : List ℕ → Bool
 unfolding some
-unclean m = some (62 - count m) (λ j. not (eqb (slice m (count m + j)) 0))
+rowUnfilled m = some (62 - count m) (λ j. not (eqb (slice m (count m + j)) 0))
 
 -- the 63 numbers m of site v in a table of n sites
 unfoldable pub siteCheck : ℕ → ℕ → List ℕ → Check
-unfolding rowCheck unclean
-siteCheck n v m = rowCheck n v (count m) (slice m) (unclean m)
+unfolding rowCheck rowUnfilled
+siteCheck n v m = rowCheck n v (count m) (slice m) (rowUnfilled m)
 
 -- site by site, without the length
 unfoldable pub sitesCheck : ℕ → List ℕ → Check
@@ -55,8 +55,8 @@ sitesCheck n t = first (λ v. siteCheck n v (siteOf t v)) n
 
 -- "A table in memory is refused with 1, 4, 5, 6 or 8 by every public call that takes one."
 unfoldable pub check : List ℕ → Check
-unfolding misshapen sitesCheck
-check t = orElse (refuse (misshapen (length t)) Length) (sitesCheck (sites (length t)) t)
+unfolding tableMisshapen sitesCheck
+check t = orElse (refuse (tableMisshapen (length t)) Length) (sitesCheck (sites (length t)) t)
 
 -- the table, then 10: "a set names a site at or above n"
 unfoldable pub setCheck : List ℕ → ℕ → Check
@@ -66,7 +66,7 @@ setCheck t set = orElse (check t) (refuse (not (within set (allBelow (sites (len
 -- What a sound table promises: "A table has n sites, 1 to 64. Each site has 1 to 62 slices. Every slice contains its owner and names no site at
 -- or above n; a site's slices ascend strictly as numbers", and unused places are zero.
 pub record Table (t : List ℕ) (n : ℕ) : Type 0 where
-  pub size : length t ≡ 63 * n
+  pub long : length t ≡ 63 * n
   pub some-site : 1 ≤ n
   pub few-sites : n ≤ 64
   pub some-slice : (v : ℕ) → v < n → 1 ≤ countOf t v

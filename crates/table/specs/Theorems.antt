@@ -8,5 +8,5 @@ use Rattle.refusals.specs.declared.Check.the-variants.{Sound}
 use Rattle.table.specs.Table.{check, sites, Table}
 
 -- the check takes exactly the sound tables: it refuses nothing else, and nothing else gets through
-abbrev pub Exact : Type 0
-Exact = (t : List ℕ) → (check t ≡ Sound) ↔ Table t (sites (length t))
+abbrev pub CheckExact : Type 0
+CheckExact = (t : List ℕ) → (check t ≡ Sound) ↔ Table t (sites (length t))

@@ -6,7 +6,7 @@ ghost use lib.Dec.{ltb};
 ghost use lib.ListN.{length};
 ghost use Rattle.masks.specs.Mask.{has};
 ghost use Rattle.table.specs.Row.{sliceCheck};
-ghost use Rattle.table.specs.Table.{count, slice, unclean, siteCheck, sitesCheck, check, setCheck};
+ghost use Rattle.table.specs.Table.{count, slice, rowUnfilled, siteCheck, sitesCheck, check, setCheck};
 ghost use Rattle.refusals.specs.First.{first};
 use refusals::Check;
 use refusals::Refusal;
@@ -88,10 +88,10 @@ fn check_slices(m: &[u64], n: u64, v: u64, many: usize) -> Check
 }
 
 // An unused place is not zero.
-fn is_unclean(m: &[u64]) -> bool
+fn is_unfilled(m: &[u64]) -> bool
     requires { ⌜ length (now m) ≡ 63 ⌝ }
     requires { ⌜ count (now m) ≤ 62 ⌝ }
-    ensures { λ r. ⌜ r ≡ unclean (now (m .entry)) ⌝ }
+    ensures { λ r. ⌜ r ≡ rowUnfilled (now (m .entry)) ⌝ }
 {
     let many = m[0] as usize;
     let left = 62 - many;
@@ -122,7 +122,7 @@ pub fn check_site(m: &[u64], n: u64, v: u64) -> Check
     let Check::Sound = q else {
         return q;
     };
-    if is_unclean(m) {
+    if is_unfilled(m) {
         return Check::Refused(Refusal::Filler(v));
     }
     Check::Sound

@@ -4,7 +4,7 @@ ghost use Prim.Native.Nat.{_<_, _≤_};
 ghost use lib.ListN.{length};
 ghost use Rattle.table.specs.Table.{Table};
 ghost use Rattle.sets.specs.Promises.{questions};
-ghost use Rattle.rules.specs.State.{votes, accepts, size, get};
+ghost use Rattle.rules.specs.State.{votes, accepts, width, get};
 ghost use Rattle.rules.specs.Rules.{hears, taken};
 ghost use Rattle.rules.specs.Inner.{InRange, Since};
 ghost use Rattle.rules.specs.Sound.{Sound};
@@ -15,7 +15,7 @@ use refusals::Check;
 
 // The site votes, and hears its own vote.
 fn vote(n: usize, state: &mut [u64], v: usize, side: usize)
-    requires { ⌜ length (now state) ≡ size n ⌝ }
+    requires { ⌜ length (now state) ≡ width n ⌝ }
     requires { ⌜ n ≤ 64 ⌝ }
     requires { ⌜ v < n ⌝ }
     requires { ⌜ side < 2 ⌝ }
@@ -28,7 +28,7 @@ fn vote(n: usize, state: &mut [u64], v: usize, side: usize)
 
 // What the receiver hears, by the kind of the call.
 fn hear(n: usize, state: &mut [u64], kind: usize, from: usize, to: usize, side: usize)
-    requires { ⌜ length (now state) ≡ size n ⌝ }
+    requires { ⌜ length (now state) ≡ width n ⌝ }
     requires { ⌜ n ≤ 64 ⌝ }
     requires { ⌜ InRange n (call kind from to side) ⌝ }
     ensures { λ r. ⌜ now (state .exit) ≡ hears n (call kind from to side) (now (state .entry)) ⌝ }
@@ -56,7 +56,7 @@ fn take(
     side: usize,
 )
     requires { ⌜ Table (now table) n ⌝ }
-    requires { ⌜ length (now state) ≡ size n ⌝ }
+    requires { ⌜ length (now state) ≡ width n ⌝ }
     requires { ⌜ InRange n (call kind from to side) ⌝ }
     requires { ⌜ Since (questions (now table)) n from to side (get (now state) (votes side to)) (get (now state) (accepts side to)) (now state) ⌝ }
     ensures { λ r. ⌜ now (state .exit) ≡ taken (questions (now (table .entry))) n (call kind from to side) (now (state .entry)) ⌝ }

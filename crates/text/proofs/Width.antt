@@ -12,15 +12,15 @@ use borrow.Author.Tests.{lt-ltb, le-ltb}
 use Rattle.ground.specs.Search.{least}
 use Rattle.ground.proofs.Least.{least-le, least-fails, least-found}
 use Rattle.io.specs.Digits.{digits, Fewest}
-use Rattle.text.specs.Text.{width, decimal, mask}
+use Rattle.text.specs.Text.{digitCount, decimal, mask}
 
 pub length-digits : (b k n : ℕ) → length (digits b k n) ≡ k
 length-digits b zero n = refl
 length-digits b (suc k) n = length-append (digits b k (n / b)) _ ∙ rw (length-digits b k (n / b)) (omega arith)
 
--- the fewest digits are those of `width`
-fewest : (x j : ℕ) → j ≤ 19 → x < 10 ^ suc j → (0 < j → 10 ^ j ≤ x) → suc j ≡ width x
-unfolding width
+-- the fewest digits are those of `digitCount`
+fewest : (x j : ℕ) → j ≤ 19 → x < 10 ^ suc j → (0 < j → 10 ^ j ≤ x) → suc j ≡ digitCount x
+unfolding digitCount
 fewest x j le lt from =
     let before : (i : ℕ) → i < j → ltb x (10 ^ suc i) ≡ false =
     λ i l. le-ltb x (10 ^ suc i) (le-trans (pow-le-pow-right {n = 10} (omega arith) l) (from (omega arith))) in
@@ -48,17 +48,17 @@ few-decimal x k h f = few 10 20 x k (omega arith) (omega arith) h (λ l. f .2 (o
 pub few-hex : (m k : ℕ) → m < 2 ^ 64 → Fewest 16 16 m k → k ≤ 16
 few-hex m k h f = few 16 16 m k (omega arith) (omega arith) h (f .2)
 
-width-of : (x k : ℕ) → k ≤ 20 → Fewest 10 1 x k → k ≡ width x
+width-of : (x k : ℕ) → k ≤ 20 → Fewest 10 1 x k → k ≡ digitCount x
 width-of x zero le f = absurd (omega arith)
 width-of x (suc j) le f = fewest x j (le-of-suc-le-suc le) (f .1) (λ l. rw (one-less j) at (f .2 (omega arith)))
 
-width-le : (x : ℕ) → width x ≤ 20
-unfolding width
+width-le : (x : ℕ) → digitCount x ≤ 20
+unfolding digitCount
 width-le x = omega (arith, least-le 19 (λ k. ltb x (10 ^ suc k)))
 
 pub length-decimal : (x : ℕ) → length (decimal x) ≤ 20
 unfolding decimal
-length-decimal x = rw (length-digits 10 (width x) x) (width-le x)
+length-decimal x = rw (length-digits 10 (digitCount x) x) (width-le x)
 
 pub length-mask : (m : ℕ) → length (mask m) ≡ 16
 unfolding mask

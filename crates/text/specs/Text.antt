@@ -17,11 +17,11 @@ ascii [] = nothing
 ascii (c ∷ s) = code c then ascii s
 
 -- "numbers decimal": the fewest decimal digits that hold a 64-bit number, one at least
-unfoldable pub width : ℕ → ℕ
-width x = suc (least 19 (λ k. ltb x (10 ^ suc k)))
+unfoldable pub digitCount : ℕ → ℕ
+digitCount x = suc (least 19 (λ k. ltb x (10 ^ suc k)))
 
 unfoldable pub decimal : ℕ → List ℕ
-decimal x = digits 10 (width x) x
+decimal x = digits 10 (digitCount x) x
 
 -- "Masks are 16 lower-case hexadecimal digits"
 unfoldable pub mask : ℕ → List ℕ

@@ -8,7 +8,7 @@ use denote.Ref.{now}
 use Rattle.ground.proofs.Logic.{is-false, clash}
 use Rattle.masks.proofs.Laws.Subsets.{mem}
 use Rattle.masks.specs.Mask.{has, _⊆_}
-use Rattle.sets.specs.Inner.Places.{Passed}
+use Rattle.sets.specs.Inner.Places.{PlacesPassed}
 use Rattle.sets.specs.Quorum.{round, largest}
 use Rattle.sets.specs.Slices.{slicesOf}
 use Rattle.sets.proofs.Places.{passed-none, passed-less}
@@ -18,7 +18,7 @@ use Rattle.sets.proofs.in_largest.Tie as tie
 
 abbrev Inv-loop : tie.InvT-loop
 Inv-loop table n v w places₀ set₀ places set =
-    Passed table n set places × (largest (slicesOf table .inside) n set ≡ largest (slicesOf table .inside) n w) × (has set v ≡ true)
+    PlacesPassed table n set places × (largest (slicesOf table .inside) n set ≡ largest (slicesOf table .inside) n w) × (has set v ≡ true)
 
 abbrev μ-loop : tie.MeasureT-loop
 μ-loop table n v w places₀ set₀ places set = set

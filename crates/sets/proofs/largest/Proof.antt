@@ -6,7 +6,7 @@ use native.Mathlib.Omega.{arith}
 use lib.Count.{ones-le}
 use denote.Ref.{now}
 use Rattle.masks.specs.Mask.{_⊆_}
-use Rattle.sets.specs.Inner.Places.{Passed}
+use Rattle.sets.specs.Inner.Places.{PlacesPassed}
 use Rattle.sets.specs.Quorum.{round, largest, rounds}
 use Rattle.sets.specs.Slices.{slicesOf}
 use Rattle.sets.proofs.Places.{passed-none, passed-less}
@@ -16,7 +16,7 @@ use Rattle.sets.proofs.largest.Tie as tie
 
 abbrev Inv-loop : tie.InvT-loop
 Inv-loop table n w places₀ set₀ count₀ places set count =
-    Passed table n set places × (largest (slicesOf table .inside) n set ≡ largest (slicesOf table .inside) n w)
+    PlacesPassed table n set places × (largest (slicesOf table .inside) n set ≡ largest (slicesOf table .inside) n w)
     × (count + rounds (slicesOf table .inside) n set ≡ rounds (slicesOf table .inside) n w)
 
 abbrev μ-loop : tie.MeasureT-loop

@@ -8,7 +8,7 @@ use borrow.Author.Needs.{needs}
 use denote.Ref.{now}
 use Rattle.masks.proofs.Laws.Subsets.{⊆-trans, ∈-below, and-⊆-r, minus-⊆}
 use Rattle.masks.specs.Mask.{single, minus, allBelow, _∈_, _⊆_}
-use Rattle.sets.specs.Inner.Places.{Passed}
+use Rattle.sets.specs.Inner.Places.{PlacesPassed}
 use Rattle.sets.specs.Quorum.{round}
 use Rattle.sets.specs.Slices.{slicesOf}
 use Rattle.sets.proofs.Rounds.{fewer, asked-none, asked-more, asked-all}
@@ -17,7 +17,7 @@ use Rattle.sets.proofs.round_from.Tie as tie
 
 abbrev Inv-loop : tie.InvT-loop
 Inv-loop table n w places₀ stay₀ rest₀ places stay rest =
-    (rest ⊆ allBelow n) × (stay ≡ minus (round (slicesOf table .inside) n w) rest) × Passed table n w places
+    (rest ⊆ allBelow n) × (stay ≡ minus (round (slicesOf table .inside) n w) rest) × PlacesPassed table n w places
 
 abbrev μ-loop : tie.MeasureT-loop
 μ-loop table n w places₀ stay₀ rest₀ places stay rest = rest

@@ -8,5 +8,5 @@ use Rattle.masks.specs.Mask.{within}
 use Rattle.table.specs.Table.{sliceOf}
 
 -- in the table t each slice before its site's place is not inside w
-abbrev pub Passed : List ℕ → ℕ → ℕ → List ℕ → Type 0
-Passed t n w places = (v i : ℕ) → v < n → i < getD places v 0 → within (sliceOf t v i) w ≡ false
+abbrev pub PlacesPassed : List ℕ → ℕ → ℕ → List ℕ → Type 0
+PlacesPassed t n w places = (v i : ℕ) → v < n → i < getD places v 0 → within (sliceOf t v i) w ≡ false

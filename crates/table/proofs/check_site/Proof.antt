@@ -6,7 +6,7 @@ use borrow.Author.Needs.{needs}
 use denote.Ref.{now}
 use Rattle.refusals.specs.First.{refuse}
 use Rattle.refusals.specs.declared.Refusal.the-variants.{Filler}
-use Rattle.table.specs.Table.{count, slice, unclean, siteCheck}
+use Rattle.table.specs.Table.{count, slice, rowUnfilled, siteCheck}
 use Rattle.table.proofs.Row.{no-slice, many-slices, bad-slice, good-slices}
 use Rattle.table.proofs.check_site.Statement.{statement}
 use Rattle.table.proofs.check_site.Tie as tie
@@ -16,14 +16,14 @@ unfolding siteCheck
 returns c =
     let a = c .before .before .before .args in
     let m = now (a .m) in
-    sym (no-slice (a .n) (a .v) (count m) (slice m) (unclean m) (omega arith))
+    sym (no-slice (a .n) (a .v) (count m) (slice m) (rowUnfilled m) (omega arith))
 
 returns-2 : tie.Need-returns-2
 unfolding siteCheck
 returns-2 c =
     let a = c .before .before .before .before .args in
     let m = now (a .m) in
-    sym (many-slices (a .n) (a .v) (count m) (slice m) (unclean m) (omega arith))
+    sym (many-slices (a .n) (a .v) (count m) (slice m) (rowUnfilled m) (omega arith))
 
 returns-3 : tie.Need-returns-3
 unfolding siteCheck
@@ -33,7 +33,7 @@ returns-3 c =
     let b = c .before .before in
     let e = c .enum-told2 .given .1 in
     e
-    ∙ sym (bad-slice (a .n) (a .v) (count m) (slice m) (unclean m) (λ e. omega arith) (omega arith) _ (sym (b .check-slices .ensures) ∙ e))
+    ∙ sym (bad-slice (a .n) (a .v) (count m) (slice m) (rowUnfilled m) (λ e. omega arith) (omega arith) _ (sym (b .check-slices .ensures) ∙ e))
 
 returns-4 : tie.Need-returns-4
 unfolding siteCheck
@@ -41,8 +41,8 @@ returns-4 c =
     let a = c .before .before .before .before .before .before .before .before .before .args in
     let m = now (a .m) in
     let b = c .before .before .before .before in
-    sym (good-slices (a .n) (a .v) (count m) (slice m) (unclean m) (λ e. omega arith) (omega arith) (sym (b .check-slices .ensures) ∙ c .before .before .enum-told .given .1)
-    ∙ ap (λ (u : Bool). refuse u (Filler (a .v))) (sym (c .before .is-unclean .ensures) ∙ c .if3 .taken))
+    sym (good-slices (a .n) (a .v) (count m) (slice m) (rowUnfilled m) (λ e. omega arith) (omega arith) (sym (b .check-slices .ensures) ∙ c .before .before .enum-told .given .1)
+    ∙ ap (λ (u : Bool). refuse u (Filler (a .v))) (sym (c .before .is-unfilled .ensures) ∙ c .if3 .taken))
 
 returns-5 : tie.Need-returns-5
 unfolding siteCheck
@@ -50,8 +50,8 @@ returns-5 c =
     let a = c .before .before .before .before .before .before .before .before .before .args in
     let m = now (a .m) in
     let b = c .before .before .before .before in
-    sym (good-slices (a .n) (a .v) (count m) (slice m) (unclean m) (λ e. omega arith) (omega arith) (sym (b .check-slices .ensures) ∙ c .before .before .enum-told .given .1)
-    ∙ ap (λ (u : Bool). refuse u (Filler (a .v))) (sym (c .before .is-unclean .ensures) ∙ c .if3 .left))
+    sym (good-slices (a .n) (a .v) (count m) (slice m) (rowUnfilled m) (λ e. omega arith) (omega arith) (sym (b .check-slices .ensures) ∙ c .before .before .enum-told .given .1)
+    ∙ ap (λ (u : Bool). refuse u (Filler (a .v))) (sym (c .before .is-unfilled .ensures) ∙ c .if3 .left))
 
 pub check-site-spec : {M : Type 1} → statement M
 check-site-spec =

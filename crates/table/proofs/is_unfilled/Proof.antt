@@ -1,4 +1,4 @@
--- `is_unclean` meets its contract: one of the unused places before j is not zero just if all of them together are not.
+-- `is_unfilled` meets its contract: one of the unused places before j is not zero just if all of them together are not.
 use Prim.Native.Nat.{ℕ, _+_, _-_, _≤_}
 use mathlib.Core.Bool.{Bool, _||_, not}
 use mathlib.Core.Path.{_≡_, sym, ap, _∙_}
@@ -8,10 +8,10 @@ use borrow.Author.Needs.{needs}
 use denote.Ref.{now}
 use Rattle.ground.proofs.Some.{some-none, some-suc}
 use Rattle.ground.specs.Search.{some}
-use Rattle.table.specs.Table.{count, slice, unclean}
+use Rattle.table.specs.Table.{count, slice, rowUnfilled}
 use Rattle.table.proofs.Table.{some-bit}
-use Rattle.table.proofs.is_unclean.Statement.{statement}
-use Rattle.table.proofs.is_unclean.Tie as tie
+use Rattle.table.proofs.is_unfilled.Statement.{statement}
+use Rattle.table.proofs.is_unfilled.Tie as tie
 
 abbrev Inv-loop : tie.InvT-loop
 Inv-loop m many left any₀ j₀ any j = (j ≤ left) × (not (eqb any 0) ≡ some j (λ i. not (eqb (slice m (many + i)) 0)))
@@ -30,15 +30,15 @@ loop-again c =
     (search needs, some-bit (l .any) _ ∙ ap (λ (x : Bool). x || used (l .j)) (l .inv .1) ∙ sym (some-suc (l .j) used))
 
 returns : tie.Need-returns Inv-loop μ-loop
-unfolding unclean
+unfolding rowUnfilled
 returns c =
     let m = now (c .before .before .before .args .m) in
     let l = c .before .loop in
     let e : l .j ≡ 62 - count m = omega arith in
     l .inv .1 ∙ ap (λ (k : ℕ). some k (λ j. not (eqb (slice m (count m + j)) 0))) e
 
-pub is-unclean-spec : {M : Type 1} → statement M
-is-unclean-spec =
+pub is-unfilled-spec : {M : Type 1} → statement M
+is-unfilled-spec =
     tie.close
     (tie.spec
     Inv-loop
