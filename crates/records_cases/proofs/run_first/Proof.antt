@@ -196,13 +196,15 @@ module _ {M : Type 1} (𝓤 : URA M) (H : Heap 𝓤) (A : Atoms 𝓤) (W : Given
   Lasts-run = Unit {0} × (Unit {0} × (Unit {0} × (List ℕ × (List ℕ × Unit {0}))))
 
   abbrev Said : ℕ → GName → Ran → Lasts-run → SProp 𝓤
-  Said l γ r z = sep 𝓤 (fact 𝓤 (r ≡ ran (now t) F (bytesOf ys) (length (now s)) (length (now a)))) (sep 𝓤 (fact 𝓤 (z .1 .1 .1 .0 ≡ stateInto r (now t) F (bytesOf ys) (now s))) (fact 𝓤 (z .1 .1 .1 .1 .0 ≡ answersInto r (now t) F (bytesOf ys) (now a))))
+  Said l γ r z = sep 𝓤 (fact 𝓤 (r ≡ ran (now t) F (bytesOf ys) (length (now s)) (length (now a)))) (sep 𝓤 (fact 𝓤 (z .1 .1 .1 .0 ≡ stateInto r (now t) F (bytesOf ys) (now s)))
+      (fact 𝓤 (z .1 .1 .1 .1 .0 ≡ answersInto r (now t) F (bytesOf ys) (now a))))
 
   exits : (r : Ran) (w : Val) (s′ a′ : List ℕ) → length s′ ≡ length (now s) → length a′ ≡ length (now a)
       → ent 𝓤 (⋆ 𝓤 H A (Toks ∷ ‵ (R.the-row .own r (w ∷ [])) ∷ ‵ (finally u8 (a .name) a′) ∷ ‵ ftrue ∷ ‵ (finally u64 (s .name) s′) ∷ [])) (Post w)
   exits r w s′ a′ ls la =
       qed W (Toks ∷ ‵ (R.the-row .own r (w ∷ [])) ∷ ‵ (finally u8 (a .name) a′) ∷ ‵ ftrue ∷ ‵ (finally u64 (s .name) s′) ∷ []) ∵
-      suffices ! _ (ends-at 𝓤 H A run-first.ended stayed (run-first.clauses 𝓤 H A mem′ run) W (((κ₀, (κ₁, (κ₂, tt))), (q₀, (q₁, (q₂, tt))), tt, x, at-entry), tt) w r (tt, (tt, (tt, (tt, (s′, (a′, tt)))))) (tt, (tt, (tt, (tt, (ls, (la, tt))))))) $
+      suffices ! _ (ends-at 𝓤 H A run-first.ended stayed (run-first.clauses 𝓤 H A mem′ run) W (((κ₀, (κ₁, (κ₂, tt))), (q₀, (q₁, (q₂, tt))), tt, x, at-entry), tt) w r (tt, (tt, (tt, (tt, (s′, (a′, tt))))))
+      (tt, (tt, (tt, (tt, (ls, (la, tt))))))) $
       suffices ! _ (beside-nothing 𝓤 _) $ frame ! $
       -- [the result; the last answers; true; the last state]
       move ! (1 ∷ 2 ∷ []) $ fjoin ! $ move ! (2 ∷ 0 ∷ []) $ fjoin ! $ nothing ! $ fjoin ! $ nothing ! $ fjoin ! $ nothing ! $ fjoin ! $ nothing ! $ fjoin ! $ frame ! $ done !
@@ -212,17 +214,21 @@ module _ {M : Type 1} (𝓤 : URA M) (H : Heap 𝓤) (A : Atoms 𝓤) (W : Given
     walk =
         qed W (Toks ∷ ‵ (owns (ShrSlice (named 0) κ₀ u64 ∷ u64 ∷ Calls₁ ∷ usize ∷ MutSlice (named 1) κ₁ u64 ∷ MutSlice (named 2) κ₂ u8 ∷ []) x at-entry) ∷ []) ∵
         enter ! C Λ code.function (vt ∷ vF ∷ av cs ∷ vint w64 n ∷ vs ∷ va ∷ []) _ $
-        alloc1 ! (λ l₀. alloc1 ! (λ l₁. alloc1 ! (λ l₂. alloc1 ! (λ l₃. alloc1 ! (λ l₄. alloc1 ! (λ l₅. alloc1 ! (λ l₆. alloc1 ! (λ l₇. alloc1 ! (λ l₈. alloc1 ! (λ l₉. alloc1 ! (λ l₁₀. alloc1 ! (λ l₁₁. alloc1 ! (λ l₁₂. alloc1 ! (λ l₁₃. alloc0 ! $ params1 ! $
-        pass1 ! (init ! 24 refl (tt, (tt, (record { fits = gt .0 }, tt)))) $ pass1 ! (init ! 22 refl (tt, record { fits = gF })) $ pass1 ! (init ! 20 refl (array-lawful 𝓤 H A W C₁ (LL.lawful T.the-type T′.the-laws 𝓤 H A W) 4097 .typed cs _ gc .0)) $
+        alloc1 ! (λ l₀. alloc1 ! (λ l₁. alloc1 ! (λ l₂. alloc1 ! (λ l₃. alloc1 ! (λ l₄. alloc1 ! (λ l₅. alloc1 ! (λ l₆. alloc1 !
+        (λ l₇. alloc1 ! (λ l₈. alloc1 ! (λ l₉. alloc1 ! (λ l₁₀. alloc1 ! (λ l₁₁. alloc1 ! (λ l₁₂. alloc1 ! (λ l₁₃. alloc0 ! $ params1 ! $
+        pass1 ! (init ! 24 refl (tt, (tt, (record { fits = gt .0 }, tt)))) $ pass1 ! (init ! 22 refl (tt, record { fits = gF })) $
+        pass1 ! (init ! 20 refl (array-lawful 𝓤 H A W C₁ (LL.lawful T.the-type T′.the-laws 𝓤 H A W) 4097 .typed cs _ gc .0)) $
         pass1 ! (init ! 18 refl (tt, record { fits = gn })) $ pass1 ! (init ! 16 refl (tt, (tt, (record { fits = gs .0 }, tt)))) $ pass1 ! (init ! 14 refl (tt, (tt, (record { fits = ga .0 }, tt)))) $ pass0 ! $
         -- [_13; …; _0 at 26; …; the tokens at 28; what is owned]
         assigns ! (of-opd ! (load ! (from ! (stop !)) (look ! 20 refl))) (from ! (stop !)) (init ! 12 refl (array-lawful 𝓤 H A W C₁ (LL.lawful T.the-type T′.the-laws 𝓤 H A W) 4097 .typed cs _ gc .0)) $
         assigns ! (addr ! (from ! (stop !))) (from ! (stop !)) (init ! 10 refl (tt, tt)) $
         assigns ! (agg ! (and-then ! (load ! (from ! (stop !)) (look ! 10 refl)) (and-then ! (load ! (from ! (stop !)) (look ! 18 refl)) (no-more !)))) (from ! (stop !)) (init ! 8 refl (tt, (tt, (record { fits = gn }, tt)))) $
         assigns ! (addr ! (from ! (fld ! refl (hop ! (look-in ! 16 (sub ! 0 refl (whole !))) (stop !))))) (from ! (stop !)) (init ! 6 refl (tt, tt)) $
-        assigns ! (agg ! (and-then ! (load ! (from ! (stop !)) (look ! 6 refl)) (and-then ! (load ! (from ! (fld ! refl (stop !))) (look-in ! 16 (sub ! 1 refl (whole !)))) (no-more !)))) (from ! (stop !)) (init ! 4 refl (tt, (tt, (record { fits = gs .0 }, tt)))) $
+        assigns ! (agg ! (and-then ! (load ! (from ! (stop !)) (look ! 6 refl)) (and-then ! (load ! (from ! (fld ! refl (stop !))) (look-in ! 16 (sub ! 1 refl (whole !)))) (no-more !)))) (from ! (stop !))
+        (init ! 4 refl (tt, (tt, (record { fits = gs .0 }, tt)))) $
         assigns ! (addr ! (from ! (fld ! refl (hop ! (look-in ! 14 (sub ! 0 refl (whole !))) (stop !))))) (from ! (stop !)) (init ! 2 refl (tt, tt)) $
-        assigns ! (agg ! (and-then ! (load ! (from ! (stop !)) (look ! 2 refl)) (and-then ! (load ! (from ! (fld ! refl (stop !))) (look-in ! 14 (sub ! 1 refl (whole !)))) (no-more !)))) (from ! (stop !)) (init ! 0 refl (tt, (tt, (record { fits = ga .0 }, tt)))) $
+        assigns ! (agg ! (and-then ! (load ! (from ! (stop !)) (look ! 2 refl)) (and-then ! (load ! (from ! (fld ! refl (stop !))) (look-in ! 14 (sub ! 1 refl (whole !)))) (no-more !)))) (from ! (stop !))
+        (init ! 0 refl (tt, (tt, (record { fits = ga .0 }, tt)))) $
         move ! (29 ∷ []) $ fsplit ! $ move ! (1 ∷ []) $ fsplit ! $ drop ! $ fsplit ! $ drop ! $ fsplit ! $ drop ! $
         -- [the rooms; Ot; _13 at 2; …; _7 at 14; …; the tokens at 30]: the array is cut, and its front lent for a lifetime ν of the call
         move ! (14 ∷ []) $ owned ! Calls₁ (Is Calls₁) (array-makes 𝓤 H A W C₁ (LL.makes T.the-type T′.the-plain 𝓤 H A) 4097) cs (av cs ∷ []) gc $ move ! (1 ∷ 0 ∷ []) $
@@ -235,8 +241,11 @@ module _ {M : Type 1} (𝓤 : URA M) (H : Heap 𝓤) (A : Atoms 𝓤) (W : Given
         move ! (33 ∷ []) $ split ! $ move ! (4 ∷ 1 ∷ []) $ join ! $ move ! (1 ∷ 0 ∷ []) $ join ! $ move ! (1 ∷ 4 ∷ []) $ fjoin ! $ move ! (4 ∷ 0 ∷ []) $ fjoin ! $ move ! (1 ∷ 0 ∷ []) $
         use2 W (raw (Run 𝓤 H A mem′ run .pre (to-run l₇ ν γ))) (goes-run l₇ ν γ) $
         -- [what is asked; the lender's part; what is behind; _13 at 3; …]
-        calls-at ! fm (Run 𝓤 H A mem′ run) known (to-run l₇ ν γ) (and-then ! (load ! (from ! (stop !)) (look ! 26 refl)) (and-then ! (load ! (from ! (stop !)) (look ! 24 refl)) (and-then ! (load ! (from ! (stop !)) (look ! 11 refl)) (and-then ! (load ! (from ! (stop !)) (look ! 7 refl)) (and-then ! (load ! (from ! (stop !)) (look ! 3 refl)) (no-more !)))))) (λ u.
-        use1 W (later (some (λ (r : Ran). (Toks-run ν ⊛ ‵ (R.the-row .own r (u ∷ []))) ⊛ raw (ensured 𝓤 H A run-records.ended (run-records.clauses 𝓤 H A mem′ run) (κ₀, (ν ∷ [], (κ₁, (κ₂, tt)))) (given-run l₇ γ) tt r)))) (id⊢ 𝓤 _) $ await ! tt $ pick ! (λ r.
+        calls-at ! fm (Run 𝓤 H A mem′ run) known (to-run l₇ ν γ) (and-then ! (load ! (from ! (stop !)) (look ! 26 refl))
+        (and-then ! (load ! (from ! (stop !)) (look ! 24 refl)) (and-then ! (load ! (from ! (stop !)) (look ! 11 refl))
+        (and-then ! (load ! (from ! (stop !)) (look ! 7 refl)) (and-then ! (load ! (from ! (stop !)) (look ! 3 refl)) (no-more !)))))) (λ u.
+        use1 W (later (some (λ (r : Ran). (Toks-run ν ⊛ ‵ (R.the-row .own r (u ∷ []))) ⊛ raw (ensured 𝓤 H A run-records.ended (run-records.clauses 𝓤 H A mem′ run) (κ₀, (ν ∷ [], (κ₁, (κ₂, tt)))) (given-run l₇ γ) tt r)))) (id⊢ 𝓤 _) $
+        await ! tt $ pick ! (λ r.
         split ! $ move ! (1 ∷ []) $ use1 W (some (λ (z : Lasts-run). ‵ (lasts run-records.ended (κ₀, (ν ∷ [], (κ₁, (κ₂, tt)))) (given-run l₇ γ) z) ⊛ raw (Said l₇ γ r z))) (id⊢ 𝓤 _) $ pick ! (λ z. split ! $ move ! (1 ∷ []) $ drop ! $
         -- what is said of the last values: nothing of the first three
         fsplit ! $ drop ! $ fsplit ! $ drop ! $ fsplit ! $ drop ! $ fsplit ! $ fsplit ! $ move ! (1 ∷ []) $ feqL ! (λ ls. move ! (1 ∷ []) $ fsplit ! $ fsplit ! $ move ! (1 ∷ []) $ feqL ! (λ la.
@@ -248,8 +257,10 @@ module _ {M : Type 1} (𝓤 : URA M) (H : Heap 𝓤) (A : Atoms 𝓤) (W : Given
         use2 W (‵ (All cs l₇)) (joined 𝓤 H A W ys zs l₇ len) $ use1 W (‵ (partAt Calls₁ fullShare cs l₇ 0)) (array-whole 𝓤 H A W C₁ fullShare 4097 cs l₇ 0) $
         use1 W (some (λ (w : Val). ‵ (fat fullShare (tyArray T′.mir 4097) l₇ 0 w) ⊛ ‵ (Calls₁ .own cs (w ∷ [])))) (part-out-at 𝓤 H A W Calls₁ refl fullShare cs l₇ 0 (tyArray T′.mir 4097) refl) $ pick ! (λ w. split ! $
         -- [_7; what the array owns; the rooms' tokens; the table's; the result; the last answers; true; the last state; _13 at 8; …; that _7 dies at 20; …; _0 at 33]
-        returns ! (look ! 33 refl) $ forget ! 0 refl $ forget ! 8 refl $ forget ! 10 refl $ forget ! 12 refl $ forget ! 14 refl $ forget ! 16 refl $ forget ! 18 refl $ forget ! 21 refl $ forget ! 23 refl $ forget ! 25 refl $ forget ! 27 refl $ forget ! 29 refl $ forget ! 31 refl $ forget ! 33 refl $
-        move ! (33 ∷ 34 ∷ []) $ free1 ! $ move ! (31 ∷ 32 ∷ []) $ free1 ! $ move ! (29 ∷ 30 ∷ []) $ free1 ! $ move ! (27 ∷ 28 ∷ []) $ free1 ! $ move ! (25 ∷ 26 ∷ []) $ free1 ! $ move ! (23 ∷ 24 ∷ []) $ free1 ! $ move ! (21 ∷ 22 ∷ []) $ free1 ! $ move ! (0 ∷ 20 ∷ []) $ free1 ! $
+        returns ! (look ! 33 refl) $ forget ! 0 refl $ forget ! 8 refl $ forget ! 10 refl $ forget ! 12 refl $ forget ! 14 refl $ forget ! 16 refl $ forget ! 18 refl $ forget ! 21 refl $ forget ! 23 refl $ forget ! 25 refl $
+        forget ! 27 refl $ forget ! 29 refl $ forget ! 31 refl $ forget ! 33 refl $
+        move ! (33 ∷ 34 ∷ []) $ free1 ! $ move ! (31 ∷ 32 ∷ []) $ free1 ! $ move ! (29 ∷ 30 ∷ []) $ free1 ! $ move ! (27 ∷ 28 ∷ []) $ free1 ! $ move ! (25 ∷ 26 ∷ []) $ free1 ! $ move ! (23 ∷ 24 ∷ []) $ free1 ! $
+        move ! (21 ∷ 22 ∷ []) $ free1 ! $ move ! (0 ∷ 20 ∷ []) $ free1 ! $
         move ! (17 ∷ 18 ∷ []) $ free1 ! $ move ! (15 ∷ 16 ∷ []) $ free1 ! $ move ! (13 ∷ 14 ∷ []) $ free1 ! $ move ! (11 ∷ 12 ∷ []) $ free1 ! $ move ! (9 ∷ 10 ∷ []) $ free1 ! $ move ! (7 ∷ 8 ∷ []) $ free1 ! $ free0 ! $
         move ! (2 ∷ 1 ∷ []) $ join ! $ keep ! (0 ∷ 2 ∷ 3 ∷ 4 ∷ 5 ∷ []) $ by ! (exits r u (z .1 .1 .1 .0) (z .1 .1 .1 .1 .0) ls la))))))))))))))))))))))))
       where
@@ -284,7 +295,16 @@ module _ {M : Type 1} (𝓤 : URA M) (H : Heap 𝓤) (A : Atoms 𝓤) (W : Given
   run-first-walks : Walks 𝓤 H A run-first.ended stayed (WpFn 𝓤 H (𝓣 .C) (𝓣 .Λ) code.function) (run-first.clauses 𝓤 H A mem′ run)
   run-first-walks = walked 𝓤 H A run-first.ended stayed (run-first.clauses 𝓤 H A mem′ run) (WpFn 𝓤 H (𝓣 .C) (𝓣 .Λ) code.function)
       (λ κs. (slice-vals, (uint-vals w64, (array-vals (LL.vals T.the-type T′.the-laws), (uint-vals w64, (slice-vals, (slice-vals, tt)))))))
-      (λ κs. (shr-slice-tells (named 0) (κs .0) u64, (uint-tells w64, (array-tells C₁ (LL.vals T.the-type T′.the-laws) (LL.tells T.the-type T′.the-laws) 4097, (uint-tells w64, (mut-slice-tells (named 1) (κs .1 .0) u64, (mut-slice-tells (named 2) (κs .1 .1 .0) u8, tt)))))))
+      (λ κs. (
+        shr-slice-tells (named 0) (κs .0) u64,
+        (
+          uint-tells w64,
+          (
+            array-tells C₁ (LL.vals T.the-type T′.the-laws) (LL.tells T.the-type T′.the-laws) 4097,
+            (uint-tells w64, (mut-slice-tells (named 1) (κs .1 .0) u64, (mut-slice-tells (named 2) (κs .1 .1 .0) u8, tt))),
+          ),
+        ),
+      ))
       (λ κs qs bounds a g are. needs 𝓤 _ _ (λ h.
       walk-at (κs .0) (κs .1 .0) (κs .1 .1 .0) (qs .0) (qs .1 .0) (qs .1 .1 .0) (a .0) (a .1 .0) (a .1 .1 .1 .1 .0) (a .1 .1 .1 .1 .1 .0) (are .0 .0 .1) (are .1 .0 .1) (are .1 .1 .1 .1 .0 .0 .1) (are .1 .1 .1 .1 .1 .0 .0 .1)
       (a .1 .1 .0) (a .1 .1 .1 .0) (subst (λ (k : ℕ). a .1 .1 .1 .0 ≤ k) (sym (are .1 .1 .0 .1 .0 .1)) h) (are .1 .1 .0) (are .1 .1 .1 .0 .1)))
@@ -292,7 +312,13 @@ module _ {M : Type 1} (𝓤 : URA M) (H : Heap 𝓤) (A : Atoms 𝓤) (W : Given
   run-first-meets : Meets 𝓤 H A run-first.signature (WpFn 𝓤 H (𝓣 .C) (𝓣 .Λ) code.function) (run-first.spec 𝓤 H A mem′ run)
   run-first-meets = walk-meets 𝓤 H A run-first.ended stayed W (
     goes-dropped 𝓤 H A W 3 (shrSliceOf (0 ∷ []) tt (plain (λ _. u64))) yes (λ κs x f. refl),
-    (goes-dropped 𝓤 H A W 3 (plain (λ _. u64)) yes (λ κs x f. refl), (goes-dropped 𝓤 H A W 3 (arrayOf (plain (λ _. C₁)) 4097) yes (λ κs x f. refl), (goes-dropped 𝓤 H A W 3 (plain (λ _. usize)) yes (λ κs x f. refl), (goes-gave-slice 𝓤 H A W 3 1 tt (plain (λ _. u64)), (goes-gave-slice 𝓤 H A W 3 2 tt (plain (λ _. u8)), tt))))),
+    (
+      goes-dropped 𝓤 H A W 3 (plain (λ _. u64)) yes (λ κs x f. refl),
+      (
+        goes-dropped 𝓤 H A W 3 (arrayOf (plain (λ _. C₁)) 4097) yes (λ κs x f. refl),
+        (goes-dropped 𝓤 H A W 3 (plain (λ _. usize)) yes (λ κs x f. refl), (goes-gave-slice 𝓤 H A W 3 1 tt (plain (λ _. u64)), (goes-gave-slice 𝓤 H A W 3 2 tt (plain (λ _. u8)), tt))),
+      ),
+    ),
   ) (run-first.clauses 𝓤 H A mem′ run) (WpFn 𝓤 H (𝓣 .C) (𝓣 .Λ) code.function) (WpFn-mono 𝓤 H (W .laws) 𝓣 code.function) run-first-walks
 
 pub run-first-spec : {M : Type 1} → stated.statement M
