@@ -41,7 +41,7 @@ module _ (k : ℕ) where
   sound-avoids r e h = let z : _≡_ {A = ℕ} 0 1 = cc in omega (arith, z)
 
   refuse-avoids : (b : Bool) (s : Refusal) → (number s ≡ k → ⊥) → Avoids k (refuse b s)
-  refuse-avoids true s f r e h = f (ap number (refused-inj e) ∙ h)
+  refuse-avoids true s f = λ r e h. f (ap number (refused-inj e) ∙ h)
   refuse-avoids false s f = sound-avoids
 
   orElse-avoids : (a b : Check) → Avoids k a → Avoids k b → Avoids k (orElse a b)

@@ -23,7 +23,8 @@ use Rattle.sets.specs.Slices.{fbqsOf}
 use Rattle.site_block.specs.Block.{countField, sliceField}
 use Rattle.table.specs.Table.{Table}
 use Rattle.text.specs.Text.{ascii, decimal}
-use Rattle.verdict_text.specs.Verdict.{sevenLines, verdictText}
+use Rattle.verdict_lines.specs.Verdict.{sevenLines}
+use Rattle.verdict_text.specs.Verdict.{verdictText}
 use Rattle.published.specs.Sets.{LargestInside, IntactSites}
 use Rattle.published.specs.Voting.{Confirms}
 
