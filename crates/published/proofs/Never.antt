@@ -3,17 +3,20 @@ use Prim.Native.Nat.{ℕ, zero, suc, _*_, _/_, _%_, _≤_, _<_}
 use mathlib.Core.Bool.{Bool, true, false, _||_, not}
 use mathlib.Core.List.{List}
 use mathlib.Core.Logic.{_⊎_, inl, inr, ⊎-elim}
-use mathlib.Core.Path.{_≡_, refl, ap, _∙_}
+use mathlib.Core.Path.{_≡_, refl, sym, ap, _∙_, subst}
 use native.Mathlib.Omega.{arith}
 use borrow.Author.Tests.{le-ltb, lt-ltb}
 use lib.Dec.{eqb, ltb}
 use lib.ListN.{length}
+use Rattle.block.specs.Block.{sealed}
 use Rattle.check_text.specs.Table.{imageCheck}
 use Rattle.ground.proofs.Logic.{clash}
+use Rattle.ground.specs.Pieces.{part}
 use Rattle.image.proofs.ReadLaws.{blocks-shape, loads-table, some-quorum}
-use Rattle.image.specs.Image.{blocksCheck, loads}
-use Rattle.image.specs.Read.{read, readCheck, toReading}
+use Rattle.image.specs.Image.{imageMisshapen, blocksCheck, loads}
+use Rattle.image.specs.Read.{read, readCheck, quorumless, toReading}
 use Rattle.image.specs.declared.Reading as Reading
+use Rattle.masks.specs.Mask.{within, allBelow}
 use Rattle.refusals.specs.First.{orElse, refuse, first}
 use Rattle.refusals.specs.Refusal.{number}
 use Rattle.refusals.specs.declared.Check.{Check}
@@ -23,10 +26,10 @@ use Rattle.refusals.specs.declared.Refusal.the-variants.{Length, NoQuorum, Room
 use Rattle.refusals.specs.declared.Refusal as Refusals
 use Rattle.rules.specs.State.{width}
 use Rattle.run.specs.Run.{runCheck, roomless, listMisshapen}
-use Rattle.site_block.specs.Block.{blockCheck}
+use Rattle.site_block.specs.Block.{countField, sliceField, misheaded, blockUnfilled, blockCheck}
 use Rattle.table.proofs.SetCheck.{set-table}
-use Rattle.table.specs.Row.{sliceCheck, rowCheck}
-use Rattle.table.specs.Table.{sites, check, setCheck, sitesCheck, siteCheck}
+use Rattle.table.specs.Row.{strange, unordered, sliceCheck, rowCheck}
+use Rattle.table.specs.Table.{count, slice, siteOf, sites, tableMisshapen, rowUnfilled, check, setCheck, sitesCheck, siteCheck}
 use Rattle.published.specs.Files.{SevenNever, NineNever}
 
 -- a check whose refusals have other numbers than k
@@ -58,30 +61,45 @@ module _ (k : ℕ) where
     other : (m : ℕ) → (m ≡ 7 → ⊥) → (m ≡ 9 → ⊥) → m ≡ k → ⊥
     other m f g e = ⊎-elim (λ p. f (e ∙ p)) (λ p. g (e ∙ p)) o
 
+    slice-avoids : (n v : ℕ) (slice : ℕ → ℕ) (i : ℕ) → Avoids k (sliceCheck n v slice i)
+    unfolding sliceCheck
+    slice-avoids n v slice i =
+        orElse-avoids (refuse (strange n v (slice i)) (Slice v)) (refuse (unordered slice i) (Order v))
+        (refuse-avoids (strange n v (slice i)) (Slice v) (other 5 (λ z. omega (arith, z)) (λ z. omega (arith, z))))
+        (refuse-avoids (unordered slice i) (Order v) (other 6 (λ z. omega (arith, z)) (λ z. omega (arith, z))))
+
     row-avoids : (n v many : ℕ) (slice : ℕ → ℕ) (bad : Bool) → Avoids k (rowCheck n v many slice bad)
-    unfolding rowCheck sliceCheck
+    unfolding rowCheck
     row-avoids n v many slice bad =
-        orElse-avoids _ _ (refuse-avoids _ (Count v) (other 4 (λ z. omega (arith, z)) (λ z. omega (arith, z))))
-        (orElse-avoids _ _
-        (first-avoids (sliceCheck n v slice) many
-        (λ i. orElse-avoids _ _ (refuse-avoids _ (Slice v) (other 5 (λ z. omega (arith, z)) (λ z. omega (arith, z))))
-        (refuse-avoids _ (Order v) (other 6 (λ z. omega (arith, z)) (λ z. omega (arith, z))))))
+        let counted = eqb many 0 || ltb 62 many in
+        let rest = orElse (first (sliceCheck n v slice) many) (refuse bad (Filler v)) in
+        orElse-avoids (refuse counted (Count v)) rest (refuse-avoids counted (Count v) (other 4 (λ z. omega (arith, z)) (λ z. omega (arith, z))))
+        (orElse-avoids (first (sliceCheck n v slice) many) (refuse bad (Filler v)) (first-avoids (sliceCheck n v slice) many (slice-avoids n v slice))
         (refuse-avoids bad (Filler v) (other 8 (λ z. omega (arith, z)) (λ z. omega (arith, z)))))
 
+    block-avoids : (n i : ℕ) (b : List ℕ) → Avoids k (blockCheck n i b)
+    unfolding blockCheck
+    block-avoids n i b =
+        let row = rowCheck n i (countField b) (sliceField b) (blockUnfilled b) in
+        orElse-avoids (refuse (not (sealed b)) (Sums i)) (orElse (refuse (misheaded n i b) (Header i)) row)
+        (refuse-avoids (not (sealed b)) (Sums i) (other 2 (λ z. omega (arith, z)) (λ z. omega (arith, z))))
+        (orElse-avoids (refuse (misheaded n i b) (Header i)) row (refuse-avoids (misheaded n i b) (Header i) (other 3 (λ z. omega (arith, z)) (λ z. omega (arith, z))))
+        (row-avoids n i (countField b) (sliceField b) (blockUnfilled b)))
+
     blocks-avoid : (n : ℕ) (image : List ℕ) → Avoids k (blocksCheck n image)
-    unfolding blocksCheck blockCheck
+    unfolding blocksCheck
     blocks-avoid n image =
-        first-avoids _ n
-        (λ i. orElse-avoids _ _ (refuse-avoids _ (Sums i) (other 2 (λ z. omega (arith, z)) (λ z. omega (arith, z))))
-        (orElse-avoids _ _ (refuse-avoids _ (Header i) (other 3 (λ z. omega (arith, z)) (λ z. omega (arith, z)))) (row-avoids n i _ _ _)))
+        first-avoids (λ i. blockCheck n i (part 512 i image)) n (λ i. block-avoids n i (part 512 i image))
 
     table-avoids : (t : List ℕ) (F : ℕ) → Avoids k (setCheck t F)
     unfolding setCheck check sitesCheck siteCheck
     table-avoids t F =
-        orElse-avoids _ _
-        (orElse-avoids _ _ (refuse-avoids _ Length (other 1 (λ z. omega (arith, z)) (λ z. omega (arith, z))))
-        (first-avoids _ (sites (length t)) (λ v. row-avoids (sites (length t)) v _ _ _)))
-        (refuse-avoids _ Set (other 10 (λ z. omega (arith, z)) (λ z. omega (arith, z))))
+        let n = sites (length t) in
+        orElse-avoids (check t) (refuse (not (within F (allBelow n))) Set)
+        (orElse-avoids (refuse (tableMisshapen (length t)) Length) (sitesCheck n t) (refuse-avoids (tableMisshapen (length t)) Length (other 1 (λ z. omega (arith, z)) (λ z. omega (arith, z))))
+        (first-avoids (λ v. siteCheck n v (siteOf t v)) n
+        (λ v. row-avoids n v (count (siteOf t v)) (slice (siteOf t v)) (rowUnfilled (siteOf t v)))))
+        (refuse-avoids (not (within F (allBelow n))) Set (other 10 (λ z. omega (arith, z)) (λ z. omega (arith, z))))
 
 -- the reader: 7
 reading-inv : (n : ℕ) (c : Check) (r : Refusal) → toReading n c ≡ Reading.Reading.Refused r → c ≡ Refused r
@@ -104,12 +122,15 @@ reader-avoids : (image : List ℕ) (room : ℕ) → Avoids 7 (readCheck image ro
 unfolding readCheck
 reader-avoids image room =
     let n = length image / 512 in
-    behind 7 _ _ (refuse-avoids 7 _ Length (λ z. omega (arith, z)))
-    (λ a. behind 7 _ _ (refuse-avoids 7 _ Room (λ z. omega (arith, z)))
-    (λ b. behind 7 _ _ (blocks-avoid 7 (inl refl) n image)
-    (λ c. let s = blocks-shape (length image) (unrefused _ Length a) in
+    let last = refuse (quorumless n (loads n image)) NoQuorum in
+    let blocks = orElse (blocksCheck n image) last in
+    behind 7 (refuse (imageMisshapen (length image)) Length) (orElse (refuse (ltb room (63 * n)) Room) blocks)
+    (refuse-avoids 7 (imageMisshapen (length image)) Length (λ z. omega (arith, z)))
+    (λ a. behind 7 (refuse (ltb room (63 * n)) Room) blocks (refuse-avoids 7 (ltb room (63 * n)) Room (λ z. omega (arith, z)))
+    (λ b. behind 7 (blocksCheck n image) last (blocks-avoid 7 (inl refl) n image)
+    (λ c. let s = blocks-shape (length image) (unrefused (imageMisshapen (length image)) Length a) in
     let q = some-quorum n (loads n image) (loads-table n image (s .1) (s .2) c) in
-    rw q (sound-avoids 7))))
+    subst (λ (x : Bool). Avoids 7 (refuse x NoQuorum)) (sym q) (sound-avoids 7))))
 
 pub seven-never : SevenNever
 unfolding read
@@ -120,10 +141,13 @@ nine-image : (image : List ℕ) → Avoids 9 (readCheck image (63 * 64))
 unfolding readCheck
 nine-image image =
     let n = length image / 512 in
-    behind 9 _ _ (refuse-avoids 9 _ Length (λ z. omega (arith, z)))
-    (λ a. let s = blocks-shape (length image) (unrefused _ Length a) in
-    rw (le-ltb (63 * 64) (63 * n) (omega (arith, s .2)))
-    (orElse-avoids 9 _ _ (blocks-avoid 9 (inr refl) n image) (refuse-avoids 9 _ NoQuorum (λ z. omega (arith, z)))))
+    let blocks = orElse (blocksCheck n image) (refuse (quorumless n (loads n image)) NoQuorum) in
+    behind 9 (refuse (imageMisshapen (length image)) Length) (orElse (refuse (ltb (63 * 64) (63 * n)) Room) blocks)
+    (refuse-avoids 9 (imageMisshapen (length image)) Length (λ z. omega (arith, z)))
+    (λ a. let s = blocks-shape (length image) (unrefused (imageMisshapen (length image)) Length a) in
+    subst (λ (b : Bool). Avoids 9 (orElse (refuse b Room) blocks)) (sym (le-ltb (63 * 64) (63 * n) (omega (arith, s .2))))
+    (orElse-avoids 9 (blocksCheck n image) (refuse (quorumless n (loads n image)) NoQuorum) (blocks-avoid 9 (inr refl) n image)
+    (refuse-avoids 9 (quorumless n (loads n image)) NoQuorum (λ z. omega (arith, z)))))
 
 few-bytes : (many : ℕ) → listMisshapen many ≡ false → many ≤ 16384
 unfolding listMisshapen
@@ -142,14 +166,22 @@ few-bytes many e = le-of-not-lt (λ h. absurd (over h))
         false-or true b p q = clash refl p
         false-or false b p q = clash q p
 
+enough : (n many : ℕ) → n ≤ 64 → many ≤ 16384 → roomless n many (width 64) 4096 ≡ false
+unfolding roomless
+enough n many few short = rw (le-ltb (width 64) (width n) (omega arith), le-ltb 4096 (many / 4) (omega arith)) refl
+
 nine-list : (t : List ℕ) (F : ℕ) (list : List ℕ) → Avoids 9 (runCheck t F (length list) (width 64) 4096)
-unfolding runCheck roomless
+unfolding runCheck
 nine-list t F list =
-    behind 9 _ _ (table-avoids 9 (inr refl) t F)
-    (λ a. behind 9 _ _ (refuse-avoids 9 _ Refusals.Refusal.List (λ z. omega (arith, z)))
+    let n = sites (length t) in
+    let many = length list in
+    let room = refuse (roomless n many (width 64) 4096) Room in
+    behind 9 (setCheck t F) (orElse (refuse (listMisshapen many) Refusals.Refusal.List) room) (table-avoids 9 (inr refl) t F)
+    (λ a. behind 9 (refuse (listMisshapen many) Refusals.Refusal.List) room
+    (refuse-avoids 9 (listMisshapen many) Refusals.Refusal.List (λ z. omega (arith, z)))
     (λ b. let few = set-table t F a .few-sites in
-    let short = few-bytes (length list) (unrefused _ Refusals.Refusal.List b) in
-    rw (le-ltb (width 64) (width (sites (length t))) (omega (arith, few)), le-ltb 4096 (length list / 4) (omega (arith, short))) (sound-avoids 9)))
+    let short = few-bytes many (unrefused (listMisshapen many) Refusals.Refusal.List b) in
+    subst (λ (x : Bool). Avoids 9 (refuse x Room)) (sym (enough n many few short)) (sound-avoids 9)))
 
 pub nine-never : NineNever
 unfolding imageCheck
