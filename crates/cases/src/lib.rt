@@ -86,11 +86,21 @@ pub fn number(x: u64) {
     io::print_decimal(1, x);
 }
 
-// Writes a refusal: its number, and the block or site that it carries.
+// Writes two numbers.
+pub fn pair(x: u64, y: u64) {
+    number(x);
+    number(y);
+}
+
+// Writes the number of a refusal, and the block or site that it carries.
+pub fn reason(r: Refusal) {
+    pair(refusals::number(r), refusals::place(r));
+}
+
+// Writes a refusal as such.
 pub fn refused(r: Refusal) {
     io::write_all(1, b" refused");
-    number(refusals::number(r));
-    number(refusals::place(r));
+    reason(r);
 }
 
 // Writes the numbers of a row, from one place to another.
@@ -130,6 +140,19 @@ pub fn show(line: &[u8], ran: Ran, state: &[u64; 27], answers: &[u8; 4097]) {
     numbers(state, word(line, 5) as usize, word(line, 3) as usize);
     io::write_all(1, b" answers");
     bytes(answers, word(line, 6) as usize, word(line, 4) as usize);
+}
+
+// How many of the first n numbers of a row are x.
+pub fn count(row: &[u64], n: usize, x: u64) -> u64 {
+    let mut many = 0;
+    for i in 0..n {
+        if i < row.len() {
+            if row[i] == x {
+                many = std::num::wrapping_add_u64(many, 1);
+            }
+        }
+    }
+    many
 }
 
 // Changes a number of a row: word 1 of the line is its place, word 2 what stands there then.

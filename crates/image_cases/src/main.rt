@@ -22,18 +22,12 @@ use cases::word;
 use image::Reading;
 use image::Writing;
 
-// Writes the number of an answer, and what it carries.
-fn answer(kind: u64, carried: u64) {
-    number(kind);
-    number(carried);
-}
-
 // Reads an image into a table.
 fn read(image: &[u8], table: &mut [u64]) {
     let reading = image::read(image, table);
     match reading {
-        Reading::Sites(n) => answer(0, n),
-        Reading::Refused(r) => answer(refusals::number(r), refusals::place(r)),
+        Reading::Sites(n) => cases::pair(0, n),
+        Reading::Refused(r) => cases::reason(r),
     }
 }
 
@@ -44,8 +38,8 @@ fn write(letter: u8, table: &[u64], image: &mut [u8]) {
         return;
     }
     match writing {
-        Writing::Sites(n) => answer(0, n),
-        Writing::Refused(r) => answer(refusals::number(r), refusals::place(r)),
+        Writing::Sites(n) => cases::pair(0, n),
+        Writing::Refused(r) => cases::reason(r),
     }
 }
 
@@ -61,19 +55,14 @@ fn mend(block: &mut [u8]) {
     le::put32(block, 508, t);
 }
 
-// Reads or writes so many bytes and numbers.
+// Reads or writes so many bytes and numbers, of those that there are.
 fn exchange(letter: u8, bytes: usize, numbers: usize, table: &mut [u64], image: &mut [u8]) {
-    if image.len() < bytes {
-        return;
+    let b = cases::least(bytes, image.len());
+    let n = cases::least(numbers, table.len());
+    match letter {
+        b'r' => read(&image[0..b], &mut table[0..n]),
+        _ => write(letter, &table[0..n], &mut image[0..b]),
     }
-    if table.len() < numbers {
-        return;
-    }
-    if letter == b'r' {
-        read(&image[0..bytes], &mut table[0..numbers]);
-        return;
-    }
-    write(letter, &table[0..numbers], &mut image[0..bytes]);
 }
 
 // Changes the table and the image as a whole.
@@ -115,35 +104,27 @@ fn change(letter: u8, at: usize, x: u64, table: &mut [u64], image: &mut [u8]) {
     }
 }
 
-// How many of the first n numbers of a table are x.
-fn count(table: &[u64], n: usize, x: u64) -> u64 {
-    let mut many = 0;
-    for i in 0..n {
-        if i < table.len() {
-            if table[i] == x {
-                many = std::num::wrapping_add_u64(many, 1);
-            }
-        }
-    }
-    many
-}
-
 // Writes what is asked of the table and the image.
-fn tell(letter: u8, at: usize, x: u64, table: &[u64], image: &[u8], kept: &[u8]) {
+fn tell(
+    letter: u8,
+    at: usize,
+    x: u64,
+    table: &[u64; 4095],
+    image: &[u8; 33280],
+    kept: &[u8; 33280],
+) {
     match letter {
         b'n' => {
-            if at < table.len() {
+            if at < 4095 {
                 number(table[at]);
             }
         }
         b's' => {
             if at < 33277 {
-                if image.len() == 33280 {
-                    number(le::get32(image, at) as u64);
-                }
+                number(le::get32(image, at) as u64);
             }
         }
-        b'c' => number(count(table, at, x)),
+        b'c' => number(cases::count(table, at, x)),
         _ => number(check::same(image, kept) as u64),
     }
 }
@@ -169,22 +150,18 @@ fn command(
     }
 }
 
-// Does what each line of the text says.
-fn lines(text: &[u8], table: &mut [u64; 4095], image: &mut [u8; 33280], kept: &mut [u8; 33280]) {
-    let mut at = 0;
-    while at < text.len() {
-        let end = cases::line_end(text, at);
-        command(&text[at..end], text[at], table, image, kept);
-        at = end + 1;
-    }
-}
-
-// Runs the lines of standard input.
+// Does what each line of standard input says.
 fn main() {
     let mut text = [0u8; 16384];
     let n = io::read_full(0, &mut text);
     let mut table = [0u64; 4095];
     let mut image = [0u8; 33280];
     let mut kept = [0u8; 33280];
-    lines(&text[0..n], &mut table, &mut image, &mut kept);
+    let mut at = 0;
+    while at < n {
+        let letter = text[at];
+        let end = cases::line_end(&text[0..n], at);
+        command(&text[at..end], letter, &mut table, &mut image, &mut kept);
+        at = end + 1;
+    }
 }

@@ -32,10 +32,7 @@ fn holds(answer: Holds) {
 // Writes a largest quorum.
 fn greatest(answer: Greatest) {
     match answer {
-        Greatest::Set { set, rounds } => {
-            number(set);
-            number(rounds);
-        }
+        Greatest::Set { set, rounds } => cases::pair(set, rounds),
         Greatest::Refused(r) => refused(r),
     }
 }
@@ -46,10 +43,7 @@ fn sharing(answer: Sharing) {
         Sharing::Meet => {
             io::write_all(1, b" meet");
         }
-        Sharing::Apart { first, second } => {
-            number(first);
-            number(second);
-        }
+        Sharing::Apart { first, second } => cases::pair(first, second),
         Sharing::Refused(r) => refused(r),
     }
 }

@@ -38,12 +38,13 @@ fn records_of(list: &[u8]) -> [Call; 4097] {
     };
     let mut calls = [none; 4097];
     for i in 0..4097 {
-        if 4 * i + 3 < list.len() {
+        let at = 4 * i;
+        if at + 3 < list.len() {
             calls[i] = Call {
-                kind: list[4 * i],
-                from: list[4 * i + 1],
-                to: list[4 * i + 2],
-                side: list[4 * i + 3],
+                kind: list[at],
+                from: list[at + 1],
+                to: list[at + 2],
+                side: list[at + 3],
             };
         }
     }
@@ -59,11 +60,13 @@ fn run(
     state: &mut [u64],
     answers: &mut [u8],
 ) -> Ran {
-    if letter == b'b' {
-        return run::run(table, faulty, list, state, answers);
+    match letter {
+        b'b' => run::run(table, faulty, list, state, answers),
+        _ => {
+            let n = cases::least(list.len() / 4, 4097);
+            run_first(table, faulty, records_of(list), n, state, answers)
+        }
     }
-    let n = cases::least(list.len() / 4, 4097);
-    run_first(table, faulty, records_of(list), n, state, answers)
 }
 
 // The run of a line, in rooms of nines.
@@ -95,21 +98,17 @@ fn command(line: &[u8], letter: u8, table: &mut [u64; 315], list: &mut [u8; 1638
     }
 }
 
-// Does what each line of the text says.
-fn lines(text: &[u8], table: &mut [u64; 315], list: &mut [u8; 16388]) {
-    let mut at = 0;
-    while at < text.len() {
-        let end = cases::line_end(text, at);
-        command(&text[at..end], text[at], table, list);
-        at = end + 1;
-    }
-}
-
-// Runs the lines of standard input.
+// Does what each line of standard input says.
 fn main() {
     let mut text = [0u8; 8192];
     let n = io::read_full(0, &mut text);
     let mut table = [0u64; 315];
     let mut list = [0u8; 16388];
-    lines(&text[0..n], &mut table, &mut list);
+    let mut at = 0;
+    while at < n {
+        let letter = text[at];
+        let end = cases::line_end(&text[0..n], at);
+        command(&text[at..end], letter, &mut table, &mut list);
+        at = end + 1;
+    }
 }

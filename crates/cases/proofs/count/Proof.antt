@@ -1,14 +1,14 @@
 -- `count` ends: what is left to do falls at each turn.
 use Prim.Native.Nat.{_-_}
 use borrow.Author.Needs.{needs}
-use Rattle.image_cases.proofs.count.Statement.{statement}
-use Rattle.image_cases.proofs.count.Tie as tie
+use Rattle.cases.proofs.count.Statement.{statement}
+use Rattle.cases.proofs.count.Tie as tie
 
 abbrev Inv-loop : tie.InvT-loop
-Inv-loop table n x many₀ i₀ many i = Unit {0}
+Inv-loop row n x many₀ i₀ many i = Unit {0}
 
 abbrev μ-loop : tie.MeasureT-loop
-μ-loop table n x many₀ i₀ many i = n - i
+μ-loop row n x many₀ i₀ many i = n - i
 
 pub count-spec : {M : Type 1} → statement M
 count-spec =
