@@ -3,3 +3,4 @@ pub mod Voting
 pub mod Runs
 pub mod Files
 pub mod Never
+pub mod Witnesses

@@ -1,3 +1,4 @@
 pub mod Sets
 pub mod Voting
 pub mod Files
+pub mod Witnesses
