@@ -114,7 +114,7 @@ def laws(files):
     theorems = set()
     for path, lines in files.items():
         if path.relative_to(TOP).parts[2] == "specs":
-            theorems |= {m[1] for m in (re.match(r" *abbrev pub (\S+) : Type", line) for line in lines) if m}
+            theorems |= {m[1] for m in (re.match(r" *(?:abbrev pub|pub record) (\S+) : Type", line) for line in lines) if m}
     said = collections.Counter()
     words = {}
     for path, lines in files.items():
