@@ -2,10 +2,11 @@
 ghost use mathlib.Core.Path.{_≡_};
 ghost use Prim.Native.Nat.{_<_, _≤_};
 ghost use lib.ListN.{length};
+ghost use Rattle.refusals.specs.declared.Check as Answer;
 ghost use Rattle.table.specs.Table.{Table};
 ghost use Rattle.sets.specs.Promises.{questions};
 ghost use Rattle.rules.specs.State.{votes, accepts, width, get};
-ghost use Rattle.rules.specs.Rules.{hears, taken};
+ghost use Rattle.rules.specs.Rules.{answer, hears, taken};
 ghost use Rattle.rules.specs.Inner.{InRange, Since};
 ghost use Rattle.rules.specs.Sound.{Sound};
 ghost use Rattle.rules.specs.Vote.{voteOf};
@@ -77,13 +78,36 @@ fn take(
     accepting::now_confirms(table, n, state, from, to, side, accepts_before);
 }
 
+// A call that is answered 0, on a sound state: whether it changes the state. A call whose bit is heard already changes nothing and is not worked out again.
+pub fn change(
+    table: &[u64],
+    n: usize,
+    faulty: u64,
+    state: &mut [u64],
+    kind: usize,
+    from: usize,
+    to: usize,
+    side: usize,
+) -> bool
+    requires { ⌜ Table (now table) n ⌝ }
+    requires { ⌜ Sound (questions (now table)) n faulty (now state) ⌝ }
+    requires { ⌜ answer n faulty (call kind from to side) (now state) ≡ Answer.Check.Sound ⌝ }
+    ensures { λ r. ⌜ Works (voteOf (now (table .entry)) n faulty) (call kind from to side) (now (state .entry)) Answer.Check.Sound r (now (state .exit)) ⌝ }
+{
+    if answers::is_heard(n, state, kind, from, to, side) {
+        return false;
+    }
+    take(table, n, state, kind, from, to, side);
+    true
+}
+
 // The answer of a call, and whether it changed the state.
 pub struct Worked {
     pub answer: Check,
     pub changed: bool,
 }
 
-// One call on a sound state. A call whose bit is heard already changes nothing and is not worked out again.
+// One call on a sound state.
 pub fn work(
     table: &[u64],
     n: usize,
@@ -105,15 +129,6 @@ pub fn work(
             changed: false,
         };
     };
-    if answers::is_heard(n, state, kind, from, to, side) {
-        return Worked {
-            answer: a,
-            changed: false,
-        };
-    }
-    take(table, n, state, kind, from, to, side);
-    Worked {
-        answer: a,
-        changed: true,
-    }
+    let changed = change(table, n, faulty, state, kind, from, to, side);
+    Worked { answer: a, changed }
 }
