@@ -1,6 +1,7 @@
--- `check` meets its contract: the bytes that were fetched stand in the room.
+-- `check` meets its contract: the bytes that were fetched stand in the room, and what is printed is the text that `check_text` wrote for them.
 use Rattle.files.proofs.Fetching.{counts}
 use borrow.Author.Needs.{needs}
+use Rattle.shell.proofs.Told.{told}
 use Rattle.shell.proofs.check.Statement.{statement}
 use Rattle.shell.proofs.check.Tie as tie
 
@@ -20,5 +21,5 @@ check-spec =
     (λ c κs. search needs)
     (λ c. search needs)
     (λ c. search needs)
-    (λ c κs. search needs)
+    (λ c κs. told (c .before .check .ensures .0))
     (λ c. search needs))

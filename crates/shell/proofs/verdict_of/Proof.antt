@@ -1,6 +1,7 @@
--- `verdict_of` meets its contract: the bytes that were fetched stand in the room.
+-- `verdict_of` meets its contract: the bytes that were fetched stand in the room, and what is printed is the text that `verdict_text` wrote for them.
 use Rattle.files.proofs.Fetching.{counts}
 use borrow.Author.Needs.{needs}
+use Rattle.shell.proofs.Told.{told}
 use Rattle.shell.proofs.verdict_of.Statement.{statement}
 use Rattle.shell.proofs.verdict_of.Tie as tie
 
@@ -15,17 +16,15 @@ verdict-of-spec =
     (λ c. search needs)
     (λ c. search needs)
     (λ c. search needs)
+    (λ c. counts (c .before .before .before .before .fetch .last .1 .1 .0) (c .before .whole .given .1) (c .before .before .before .before .fetch .ensures) .0)
+    (λ c. counts (c .before .before .before .before .before .fetch .last .1 .1 .0) (c .before .before .whole .given .1) (c .before .before .before .before .before .fetch .ensures) .1)
     (λ c. search needs)
     (λ c κs. search needs)
     (λ c. search needs)
     (λ c. search needs)
     (λ c. search needs)
-    (λ c. counts (c .before .before .before .before .before .before .before .before .before .fetch .last .1 .1 .0)
-    (c .before .before .before .before .before .before .whole .given .1) (c .before .before .before .before .before .before .before .before .before .fetch .ensures) .0)
-    (λ c. counts (c .before .before .before .before .before .before .before .before .before .before .fetch .last .1 .1 .0)
-    (c .before .before .before .before .before .before .before .whole .given .1) (c .before .before .before .before .before .before .before .before .before .before .fetch .ensures) .1)
     (λ c κs. search needs)
     (λ c. search needs)
     (λ c. search needs)
-    (λ c κs. search needs)
+    (λ c κs. told (c .before .verdict .ensures .0))
     (λ c. search needs))

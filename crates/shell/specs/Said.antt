@@ -1,0 +1,13 @@
+-- What may be printed: a text that the bytes of an input, or of files, have.
+use Prim.Native.Nat.{ℕ}
+use mathlib.Core.List.{List}
+use mathlib.Core.Path.{_≡_}
+use Rattle.check_text.specs.Table.{checkText}
+use Rattle.verdict_text.specs.Verdict.{verdictText, inputText}
+use Rattle.run_text.specs.Run.{runText}
+
+pub data Said (text : List ℕ) : Type 0 where
+  ofInput : (input : List ℕ) → text ≡ inputText input → Said text
+  ofCheck : (image : List ℕ) → text ≡ checkText image → Said text
+  ofVerdict : (faulty : ℕ) (image : List ℕ) → text ≡ verdictText faulty image → Said text
+  ofRun : (faulty : ℕ) (image list : List ℕ) → text ≡ runText faulty image list → Said text
