@@ -8,6 +8,7 @@ ghost use Rattle.rules.specs.Vote.{voteOf};
 ghost use Rattle.pass.specs.Calls.{calls, callAt};
 ghost use Rattle.pass.specs.Inner.{Passed, Listed, Again, Waiting, PassedAgain};
 ghost use Rattle.votes.specs.Inner.{Works};
+use refusals::Check;
 
 // A kept place as a number that can be an index.
 fn place(x: u16) -> usize
@@ -44,7 +45,15 @@ fn work_at(
     let from = le::wide(list[at + 1]);
     let to = le::wide(list[at + 2]);
     let side = le::wide(list[at + 3]);
-    taking::work(table, n, faulty, state, kind, from, to, side)
+    let a = answers::answer(n, faulty, state, kind, from, to, side);
+    let Check::Sound = a else {
+        return taking::Worked {
+            answer: a,
+            changed: false,
+        };
+    };
+    let changed = taking::change(table, n, faulty, state, kind, from, to, side);
+    taking::Worked { answer: a, changed }
 }
 
 // One pass over the list, from the first call to the last: whether it changed the state. One answer a call.
