@@ -85,11 +85,11 @@ by-places : (n : ℕ) (s : List ℕ) (a b c d e f : ℕ) → a ≡ voted n 0 →
 unfolding stateLines
 by-places n s a b c d e f ea eb ec ed ee ef = rw (ea, eb, ec, ed, ee, ef) refl
 
-pub state-lines : (n : ℕ) (s : List ℕ)
-    → sides (ascii "voted ") (get s (4 * n)) (get s (4 * n + 1))
-    ++ (sides (ascii "accepted ") (get s (4 * n + 2)) (get s (4 * n + 3))
-    ++ (sides (ascii "confirmed ") (get s (4 * n + 4)) (get s (4 * n + 5)) ++ cat (siteLine (get s (4 * n + 4)) (get s (4 * n + 5))) n))
+pub state-lines : (n b : ℕ) (s : List ℕ) → b ≡ voted n 0
+    → sides (ascii "voted ") (get s b) (get s (b + 1))
+    ++ (sides (ascii "accepted ") (get s (b + 2)) (get s (b + 3))
+    ++ (sides (ascii "confirmed ") (get s (b + 4)) (get s (b + 5)) ++ cat (siteLine (get s (b + 4)) (get s (b + 5))) n))
     ≡ stateLines n s
-state-lines n s =
-    by-places n s (4 * n) (4 * n + 1) (4 * n + 2) (4 * n + 3) (4 * n + 4) (4 * n + 5)
-    (omega arith) (omega arith) (omega arith) (omega arith) (omega arith) (omega arith)
+state-lines n b s e =
+    by-places n s b (b + 1) (b + 2) (b + 3) (b + 4) (b + 5)
+    (omega (arith, e)) (omega (arith, e)) (omega (arith, e)) (omega (arith, e)) (omega (arith, e)) (omega (arith, e))

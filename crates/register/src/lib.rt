@@ -41,7 +41,7 @@ pub fn put_state(room: &mut [u8], at: usize, n: usize, state: &[u64]) -> usize
     requires { ⌜ n ≤ 64 ⌝ }
     ensures { λ r. ⌜ Writes (stateLines n (now (state .entry))) (now (room .entry)) at r (now (room .exit)) ⌝ }
 {
-    let base = 4 * n;
+    let base = places::voted(n, 0);
     let drill = state[base + 4];
     let live = state[base + 5];
     let at = lines::line_sides(room, at, b"voted ", state[base], state[base + 1]);

@@ -2,7 +2,7 @@
 use Prim.Native.Nat.{ℕ, _+_, _*_, _/_, _%_, _≤_, _<_}
 use mathlib.Core.Bool.{not}
 use mathlib.Core.List.{List, _++_}
-use mathlib.Core.Path.{_≡_, refl, ap}
+use mathlib.Core.Path.{_≡_, refl, ap, _∙_}
 use native.Mathlib.Omega.{arith}
 use lib.Dec.{eqb, ltb}
 use lib.ListN.{length, drop}
@@ -15,7 +15,7 @@ use Rattle.refusals.specs.declared.Refusal as Refusal
 use Rattle.refusals.specs.declared.Refusal.the-variants.{Room}
 use Rattle.pass.specs.Calls.{calls}
 use Rattle.passes.specs.Inner.{Whole}
-use Rattle.run.specs.Run.{listMisshapen, roomless, runCheck, ran, stateInto, answersInto}
+use Rattle.run.specs.Run.{listMisshapen, roomless, runCheck, theRun, ran, stateInto, answersInto}
 use Rattle.run.specs.declared.Ran.{Ran}
 use Rattle.run.specs.declared.Ran.the-variants.{Passes}
 use Rattle.table.proofs.SetCheck.{set-table}
@@ -94,14 +94,14 @@ module _ (t : List ℕ) (F : ℕ) (list state answers : List ℕ) where
   unfolding ran stateInto answersInto
   ran-refused r e = (rw e refl, refl, refl)
 
-  pub ran-passes : {p : ℕ} {s b : List ℕ} → runCheck t F (length list) (length state) (length answers) ≡ Sound →
+  pub ran-passes : {p k : ℕ} {s b : List ℕ} → k ≡ width (sites (length t)) → runCheck t F (length list) (length state) (length answers) ≡ Sound →
       Whole (voteOf t (sites (length t)) F) (calls list) p s b →
       (Passes p ≡ ran t F list (length state) (length answers))
-      × (s ++ drop (width (sites (length t))) state ≡ stateInto (Passes p) t F list state)
+      × (s ++ drop k state ≡ stateInto (Passes p) t F list state)
       × (b ++ drop (length list / 4) answers ≡ answersInto (Passes p) t F list answers)
   unfolding ran stateInto answersInto
-  ran-passes {p} {s} {b} e W = (
+  ran-passes {p} {k} {s} {b} w e W = (
     rw e (ap Passes (W .count)),
-    ap (λ (x : List ℕ). x ++ drop (width (sites (length t))) state) (W .state),
+    ap (λ (x : List ℕ). x ++ drop k state) (W .state) ∙ ap (λ (j : ℕ). theRun t F list .state ++ drop j state) w,
     ap (λ (x : List ℕ). x ++ drop (length list / 4) answers) (W .answers),
   )

@@ -26,7 +26,7 @@ pub fn check(table: &[u64], faulty: u64, bytes: usize, state: usize, answers: us
     if 16384 < bytes {
         return Check::Refused(Refusal::List);
     }
-    if state < 4 * n + 6 {
+    if state < places::width(n) {
         return Check::Refused(Refusal::Room);
     }
     if answers < bytes / 4 {
@@ -46,7 +46,7 @@ pub fn run(table: &[u64], faulty: u64, list: &[u8], state: &mut [u64], answers: 
         return Ran::Refused(r);
     }
     let n = table.len() / 63;
-    let size = 4 * n + 6;
+    let size = places::width(n);
     let many = list.len() / 4;
     let passes = passes::run_fresh(
         table,

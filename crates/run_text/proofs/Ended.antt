@@ -50,16 +50,16 @@ module _ (t : List ℕ) (F : ℕ) (list : List ℕ) where
     pub fitting : Fits t (length list) 262 4096
     fitting = fits t F (length list) 262 4096 (whole .0)
 
-    pub ran-ended : (n : ℕ) (states answers s a : List ℕ) → n ≡ sites (length t) → length states ≡ 262 → length answers ≡ 4096
+    pub ran-ended : (n k : ℕ) (states answers s a : List ℕ) → n ≡ sites (length t) → k ≡ width n → length states ≡ 262 → length answers ≡ 4096
         → length s ≡ 262 → length a ≡ 4096
         → s ≡ stateInto (Ran.Passes p) t F list states → a ≡ answersInto (Ran.Passes p) t F list answers
-        → endLines F n p (take (4 * n + 6) s) (take (length list / 4) a) ≡ ranText F t list
+        → endLines F n p (take k s) (take (length list / 4) a) ≡ ranText F t list
     unfolding ranText stateInto answersInto
-    ran-ended n states answers s a en ls la ks ka es ea =
+    ran-ended n k states answers s a en ek ls la ks ka es ea =
         let f = fitting in
         let x = in-front (theRun t F list .state) states s (width (sites (length t))) (omega (arith, f .states)) es (ks ∙ sym ls) in
         let y = in-front (theRun t F list .answers) answers a (length list / 4) (omega (arith, f .many)) ea (ka ∙ sym la) in
-        rw (en, whole .0, whole .1, x, y) refl
+        rw (ek, en, whole .0, whole .1, x, y) refl
 
 -- on an image
 module _ (F : ℕ) (image list : List ℕ) where

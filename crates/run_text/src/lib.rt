@@ -21,14 +21,17 @@ fn run_read(table: &[u64], n: usize, faulty: u64, list: &[u8], room: &mut [u8]) 
     let ran = run::run(table, faulty, list, &mut state, &mut answers);
     match ran {
         Ran::Refused(r) => lines::put_explained(room, 0, r),
-        Ran::Passes(passes) => outcome::put_run(
-            room,
-            faulty,
-            n,
-            passes,
-            &state[..4 * n + 6],
-            &answers[..list.len() / 4],
-        ),
+        Ran::Passes(passes) => {
+            let end = places::width(n);
+            outcome::put_run(
+                room,
+                faulty,
+                n,
+                passes,
+                &state[..end],
+                &answers[..list.len() / 4],
+            )
+        }
     }
 }
 

@@ -1,5 +1,5 @@
 -- `put_state` meets its contract: three lines of two masks, and the lines of the sites.
-use Prim.Native.Nat.{_+_, _*_}
+use Prim.Native.Nat.{_+_}
 use native.Mathlib.Omega.{arith}
 use lib.ListN.{getD}
 use borrow.Author.Needs.{needs}
@@ -14,40 +14,39 @@ use Rattle.register.proofs.put_state.Tie as tie
 
 line-sides-requires-2 : tie.Need-line-sides-requires-2
 line-sides-requires-2 c κs =
-    let a = c .before .before .before .before .before .before .before .before .before .before .before .before .before .before .before .args in
-    omega (arith, length-sides (ascii "voted ") (getD (now (a .state)) (4 * a .n) 0) (getD (now (a .state)) (4 * a .n + 1) 0))
+    let v = c .before .before .before .before .before .before .before .before .before .before .before .before .before in
+    let a = v .before .before .before .args in
+    let b = v .voted .result in
+    omega (arith, length-sides (ascii "voted ") (getD (now (a .state)) b 0) (getD (now (a .state)) (b + 1) 0))
 
 line-sides-requires-3 : tie.Need-line-sides-requires-3
 line-sides-requires-3 c κs =
-    let a = c .before .before .before .before .before .before .before .before .before .before .before .before .before .before .before .before .before .before .before .before .args in
-    omega (
-      arith,
-      length-sides (ascii "voted ") (getD (now (a .state)) (4 * a .n) 0) (getD (now (a .state)) (4 * a .n + 1) 0),
-      length-sides (ascii "accepted ") (getD (now (a .state)) (4 * a .n + 2) 0) (getD (now (a .state)) (4 * a .n + 3) 0),
-    )
+    let v = c .before .before .before .before .before .before .before .before .before .before .before .before .before .before .before .before .before .before in
+    let a = v .before .before .before .args in
+    let b = v .voted .result in
+    omega (arith, length-sides (ascii "voted ") (getD (now (a .state)) b 0) (getD (now (a .state)) (b + 1) 0), length-sides (ascii "accepted ") (getD (now (a .state)) (b + 2) 0) (getD (now (a .state)) (b + 3) 0))
 
 put-sites-requires : tie.Need-put-sites-requires
 put-sites-requires c κs =
-    let a = c .before .before .before .before .before .before .before .before .before .before .before .before .before .before .before .before .before .before .before .before .before .before .before .before .args in
+    let v = c .before .before .before .before .before .before .before .before .before .before .before .before .before .before .before .before .before .before .before .before .before .before in
+    let a = v .before .before .before .args in
+    let b = v .voted .result in
     omega (
       arith,
-      length-sides (ascii "voted ") (getD (now (a .state)) (4 * a .n) 0) (getD (now (a .state)) (4 * a .n + 1) 0),
-      length-sides (ascii "accepted ") (getD (now (a .state)) (4 * a .n + 2) 0) (getD (now (a .state)) (4 * a .n + 3) 0),
-      length-sides (ascii "confirmed ") (getD (now (a .state)) (4 * a .n + 4) 0) (getD (now (a .state)) (4 * a .n + 5) 0),
+      length-sides (ascii "voted ") (getD (now (a .state)) b 0) (getD (now (a .state)) (b + 1) 0),
+      length-sides (ascii "accepted ") (getD (now (a .state)) (b + 2) 0) (getD (now (a .state)) (b + 3) 0),
+      length-sides (ascii "confirmed ") (getD (now (a .state)) (b + 4) 0) (getD (now (a .state)) (b + 5) 0),
     )
 
 returns : tie.Need-returns
 returns c =
-    let a = c .before .before .before .before .before .before .before .before .before .before .before .before .before .before .before .before .before .before .before .before .before .before .before .before .before .before .before .args in
-    as-text (state-lines (a .n) (now (a .state)))
-    (three (c .before .before .before .before .before .before .before .before .before .before .before .before .before .before .before .before .before .before .line-sides .ensures)
-    (c .before .before .before .before .before .before .before .before .before .before .before .line-sides2 .ensures)
+    let v = c .before .before .before .before .before .before .before .before .before .before .before .before .before .before .before .before .before .before .before .before .before .before .before .before .before in
+    let a = v .before .before .before .args in
+    let b = v .voted .result in
+    as-text (state-lines (a .n) b (now (a .state)) (v .voted .ensures))
+    (three (c .before .before .before .before .before .before .before .before .before .before .before .before .before .before .before .before .before .before .line-sides .ensures) (c .before .before .before .before .before .before .before .before .before .before .before .line-sides2 .ensures)
     (then (c .before .before .before .before .before .before .line-sides3 .ensures) (c .before .before .put-sites .ensures)
-    (omega (
-      arith,
-      length-sides (ascii "voted ") (getD (now (a .state)) (4 * a .n) 0) (getD (now (a .state)) (4 * a .n + 1) 0),
-      length-sides (ascii "accepted ") (getD (now (a .state)) (4 * a .n + 2) 0) (getD (now (a .state)) (4 * a .n + 3) 0),
-    )))
+    (omega (arith, length-sides (ascii "voted ") (getD (now (a .state)) b 0) (getD (now (a .state)) (b + 1) 0), length-sides (ascii "accepted ") (getD (now (a .state)) (b + 2) 0) (getD (now (a .state)) (b + 3) 0))))
     (omega arith))
 
 pub put-state-spec : {M : Type 1} → statement M

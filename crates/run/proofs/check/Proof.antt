@@ -1,5 +1,6 @@
 -- `check` meets its contract: one law for each way out.
-use mathlib.Core.Path.{sym, _∙_}
+use Prim.Native.Nat.{ℕ, _≤_, _<_}
+use mathlib.Core.Path.{sym, subst, _∙_}
 use native.Mathlib.Omega.{arith}
 use borrow.Author.Needs.{needs}
 use denote.Ref.{now}
@@ -25,37 +26,34 @@ returns-3 c =
     let a = d .before .before .before .before .args in
     long-refused (now (a .table)) (a .faulty) (a .bytes) (a .state) (a .answers) (sym (d .before .before .check-set .ensures) ∙ d .enum-told .given .1) (c .before .if1 .left) (c .if2 .taken)
 
-mul-if3 : tie.Need-mul-if3
-mul-if3 c =
-    let d = c .before .before in
-    let a = d .before .before .before .before .args in
-    omega (arith, set-table (now (a .table)) (a .faulty) (sym (d .before .before .check-set .ensures) ∙ d .enum-told .given .1) .few-sites)
-
-add-if3 : tie.Need-add-if3
-add-if3 c =
+width-requires : tie.Need-width-requires
+width-requires c κs =
     let d = c .before .before in
     let a = d .before .before .before .before .args in
     omega (arith, set-table (now (a .table)) (a .faulty) (sym (d .before .before .check-set .ensures) ∙ d .enum-told .given .1) .few-sites)
 
 returns-4 : tie.Need-returns-4
 returns-4 c =
-    let d = c .before .before .before in
+    let d = c .before .before .before .before in
     let a = d .before .before .before .before .args in
-    state-refused (now (a .table)) (a .faulty) (a .bytes) (a .state) (a .answers) (sym (d .before .before .check-set .ensures) ∙ d .enum-told .given .1) (c .before .before .if1 .left) (c .before .if2 .left) (c .if3 .taken)
+    state-refused (now (a .table)) (a .faulty) (a .bytes) (a .state) (a .answers) (sym (d .before .before .check-set .ensures) ∙ d .enum-told .given .1) (c .before .before .before .if1 .left)
+    (c .before .before .if2 .left) (subst (λ (k : ℕ). a .state < k) (c .before .width .ensures) (c .if3 .taken))
 
 returns-5 : tie.Need-returns-5
 returns-5 c =
-    let d = c .before .before .before .before in
+    let d = c .before .before .before .before .before in
     let a = d .before .before .before .before .args in
-    answers-refused (now (a .table)) (a .faulty) (a .bytes) (a .state) (a .answers) (sym (d .before .before .check-set .ensures) ∙ d .enum-told .given .1) (c .before .before .before .if1 .left)
-    (c .before .before .if2 .left) (c .before .if3 .left) (c .if4 .taken)
+    let w = c .before .before .width .ensures in
+    answers-refused (now (a .table)) (a .faulty) (a .bytes) (a .state) (a .answers) (sym (d .before .before .check-set .ensures) ∙ d .enum-told .given .1) (c .before .before .before .before .if1 .left)
+    (c .before .before .before .if2 .left) (subst (λ (k : ℕ). k ≤ a .state) w (c .before .if3 .left)) (c .if4 .taken)
 
 returns-6 : tie.Need-returns-6
 returns-6 c =
-    let d = c .before .before .before .before in
+    let d = c .before .before .before .before .before in
     let a = d .before .before .before .before .args in
-    none-refused (now (a .table)) (a .faulty) (a .bytes) (a .state) (a .answers) (sym (d .before .before .check-set .ensures) ∙ d .enum-told .given .1) (c .before .before .before .if1 .left)
-    (c .before .before .if2 .left) (c .before .if3 .left) (c .if4 .left)
+    let w = c .before .before .width .ensures in
+    none-refused (now (a .table)) (a .faulty) (a .bytes) (a .state) (a .answers) (sym (d .before .before .check-set .ensures) ∙ d .enum-told .given .1) (c .before .before .before .before .if1 .left)
+    (c .before .before .before .if2 .left) (subst (λ (k : ℕ). k ≤ a .state) w (c .before .if3 .left)) (c .if4 .left)
 
 pub check-spec : {M : Type 1} → statement M
 check-spec =
@@ -67,8 +65,7 @@ check-spec =
     returns
     returns-2
     returns-3
-    mul-if3
-    add-if3
+    width-requires
     returns-4
     returns-5
     returns-6)

@@ -1,5 +1,5 @@
 -- `run` meets its contract: the refusal leaves both rooms; else the run stands in front of each.
-use Prim.Native.Nat.{ℕ, _+_, _*_, _/_, _≤_}
+use Prim.Native.Nat.{ℕ, _*_, _/_, _≤_}
 use mathlib.Core.Path.{sym, ap, subst, _∙_}
 use native.Mathlib.Omega.{arith}
 use borrow.Author.Needs.{needs}
@@ -7,7 +7,6 @@ use denote.Ref.{now}
 use lib.ListN.{length}
 use lib.Seq.{length-take-le, length-front}
 use Rattle.run.proofs.RunWays.{fits, ran-refused, ran-passes}
-use Rattle.table.specs.Table.{sites}
 use Rattle.run.proofs.run.Statement.{statement}
 use Rattle.run.proofs.run.Tie as tie
 
@@ -18,45 +17,30 @@ returns c =
     let x = ran-refused (now (a .table)) (a .faulty) (now (a .list)) (now (a .state)) (now (a .answers)) _ (sym (q .check .ensures) ∙ c .before .q .given .1) in
     (x .0, (x .1, x .2))
 
-mul-size : tie.Need-mul-size
-mul-size c =
+width-requires : tie.Need-width-requires
+width-requires c κs =
     let d = c in
     let q = d .before .before in
     let a = q .before .before .before .before .before .args in
     let f = fits (now (a .table)) (a .faulty) (length (now (a .list))) (length (now (a .state))) (length (now (a .answers)))
     (sym (q .check .ensures) ∙ d .enum-told .given .1) in
-    omega (arith, f .table .few-sites)
-
-add-size : tie.Need-add-size
-add-size c =
-    let d = c in
-    let q = d .before .before in
-    let a = q .before .before .before .before .before .args in
-    let f = fits (now (a .table)) (a .faulty) (length (now (a .list))) (length (now (a .state))) (length (now (a .answers)))
-    (sym (q .check .ensures) ∙ d .enum-told .given .1) in
-    omega (arith, f .table .few-sites)
+    f .table .few-sites
 
 slice-relend-prefix-run-fresh : tie.Need-slice-relend-prefix-run-fresh
 slice-relend-prefix-run-fresh c =
-    let d = c in
-    let q = d .before .before in
-    let a = q .before .before .before .before .before .args in
-    let f = fits (now (a .table)) (a .faulty) (length (now (a .list))) (length (now (a .state))) (length (now (a .answers)))
-    (sym (q .check .ensures) ∙ d .enum-told .given .1) in
-    omega (arith, f .states)
-
-slice-aggregate-run-fresh : tie.Need-slice-aggregate-run-fresh
-slice-aggregate-run-fresh c =
     let d = c .before in
     let q = d .before .before in
     let a = q .before .before .before .before .before .args in
     let f = fits (now (a .table)) (a .faulty) (length (now (a .list))) (length (now (a .state))) (length (now (a .answers)))
     (sym (q .check .ensures) ∙ d .enum-told .given .1) in
-    sym (length-take-le (4 * sites (length (now (a .table))) + 6) (now (a .state)) (f .states))
+    subst (λ (k : ℕ). k ≤ length (now (a .state))) (sym (c .width .ensures)) (f .states)
+
+slice-aggregate-run-fresh : tie.Need-slice-aggregate-run-fresh
+slice-aggregate-run-fresh c = sym (length-take-le _ _ (slice-relend-prefix-run-fresh (c .before)))
 
 slice-relend-prefix-run-fresh-2 : tie.Need-slice-relend-prefix-run-fresh-2
 slice-relend-prefix-run-fresh-2 c =
-    let d = c .before in
+    let d = c .before .before in
     let q = d .before .before in
     let a = q .before .before .before .before .before .args in
     let f = fits (now (a .table)) (a .faulty) (length (now (a .list))) (length (now (a .state))) (length (now (a .answers)))
@@ -65,7 +49,7 @@ slice-relend-prefix-run-fresh-2 c =
 
 slice-aggregate-run-fresh-2 : tie.Need-slice-aggregate-run-fresh-2
 slice-aggregate-run-fresh-2 c =
-    let d = c .before .before in
+    let d = c .before .before .before in
     let q = d .before .before in
     let a = q .before .before .before .before .before .args in
     let f = fits (now (a .table)) (a .faulty) (length (now (a .list))) (length (now (a .state))) (length (now (a .answers)))
@@ -74,7 +58,7 @@ slice-aggregate-run-fresh-2 c =
 
 run-fresh-requires : tie.Need-run-fresh-requires
 run-fresh-requires c κs =
-    let d = c .before .before in
+    let d = c .before .before .before in
     let q = d .before .before in
     let a = q .before .before .before .before .before .args in
     let f = fits (now (a .table)) (a .faulty) (length (now (a .list))) (length (now (a .state))) (length (now (a .answers)))
@@ -82,7 +66,7 @@ run-fresh-requires c κs =
     let e = length-take-le (length (now (a .list)) / 4) (now (a .answers)) (f .many) in (
       f .table,
       (
-        length-take-le (4 * sites (length (now (a .table))) + 6) (now (a .state)) (f .states),
+        length-take-le _ _ (slice-relend-prefix-run-fresh (c .before .before)) ∙ c .before .before .width .ensures,
         (f .four ∙ ap (λ (k : ℕ). 4 * k) (sym e), subst (λ (k : ℕ). k ≤ 4096) (sym e) (f .few)),
       ),
     )
@@ -90,22 +74,24 @@ run-fresh-requires c κs =
 same-length : tie.Need-same-length
 same-length c =
     let r = c .before .before .before .before in
-    let a = r .before .before .before .before .before .before .before .before .before .before .args in
-    length-front (now (a .state)) (r .run-fresh .last .1 .1 .1 .1 .0) (4 * sites (length (now (a .table))) + 6) (r .run-fresh .kept .1 .1 .1 .1 .0)
+    let w = r .before .before .before in
+    let a = w .before .before .before .before .before .before .before .before .args in
+    length-front (now (a .state)) (r .run-fresh .last .1 .1 .1 .1 .0) (w .width .result) (r .run-fresh .kept .1 .1 .1 .1 .0)
 
 same-length-2 : tie.Need-same-length-2
 same-length-2 c =
     let r = c .before .before .before .before in
-    let a = r .before .before .before .before .before .before .before .before .before .before .args in
+    let a = r .before .before .before .before .before .before .before .before .before .before .before .args in
     length-front (now (a .answers)) (r .run-fresh .last .1 .1 .1 .1 .1 .0) (length (now (a .list)) / 4) (r .run-fresh .kept .1 .1 .1 .1 .1 .0)
 
 returns-2 : tie.Need-returns-2
 returns-2 c =
     let r = c .before .before .before .before in
-    let d = r .before .before .before in
+    let w = r .before .before .before in
+    let d = w .before in
     let q = d .before .before in
     let a = q .before .before .before .before .before .args in
-    let x = ran-passes (now (a .table)) (a .faulty) (now (a .list)) (now (a .state)) (now (a .answers)) (sym (q .check .ensures) ∙ d .enum-told .given .1)
+    let x = ran-passes (now (a .table)) (a .faulty) (now (a .list)) (now (a .state)) (now (a .answers)) (w .width .ensures) (sym (q .check .ensures) ∙ d .enum-told .given .1)
     (r .run-fresh .ensures) in
     (x .0, (x .1, x .2))
 
@@ -117,8 +103,7 @@ run-spec =
     (λ c. search needs)
     returns
     (λ c. search needs)
-    mul-size
-    add-size
+    width-requires
     slice-relend-prefix-run-fresh
     slice-aggregate-run-fresh
     slice-relend-prefix-run-fresh-2
