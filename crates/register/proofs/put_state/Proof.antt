@@ -44,7 +44,8 @@ returns c =
     let a = v .before .before .before .args in
     let b = v .voted .result in
     as-text (state-lines (a .n) b (now (a .state)) (v .voted .ensures))
-    (three (c .before .before .before .before .before .before .before .before .before .before .before .before .before .before .before .before .before .before .line-sides .ensures) (c .before .before .before .before .before .before .before .before .before .before .before .line-sides2 .ensures)
+    (three (c .before .before .before .before .before .before .before .before .before .before .before .before .before .before .before .before .before .before .line-sides .ensures)
+    (c .before .before .before .before .before .before .before .before .before .before .before .line-sides2 .ensures)
     (then (c .before .before .before .before .before .before .line-sides3 .ensures) (c .before .before .put-sites .ensures)
     (omega (arith, length-sides (ascii "voted ") (getD (now (a .state)) b 0) (getD (now (a .state)) (b + 1) 0), length-sides (ascii "accepted ") (getD (now (a .state)) (b + 2) 0) (getD (now (a .state)) (b + 3) 0))))
     (omega arith))
