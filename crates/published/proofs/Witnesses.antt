@@ -1,16 +1,20 @@
 -- The witnesses: answers, state and run by computation; the image by the round trip of writing and reading.
-use Prim.Native.Nat.{ℕ, zero, suc, _+_, _<_}
+use Prim.Native.Nat.{ℕ, zero, suc, _+_, _<_, _/_}
 use mathlib.Core.Bool.{Bool, true, _&&_}
 use mathlib.Core.List.{List, [], _∷_, _++_}
-use mathlib.Core.Path.{_≡_, refl}
+use mathlib.Core.Path.{_≡_, refl, sym, ap, _∙_}
 use native.Mathlib.Omega.{arith}
 use borrow.Author.Tests.{ltb-true}
 use lib.Dec.{ltb}
-use lib.ListN.{length, getD, drop, replicate}
-use Rattle.check_text.specs.Table.{imageCheck}
+use lib.ListN.{length, getD, take, drop, replicate}
+use lib.Seq.{take-at}
+use Rattle.check_text.specs.Table.{tableOn, imageCheck}
 use Rattle.ground.proofs.Logic.{and-l, and-r}
 use Rattle.ground.specs.Search.{some, every, least}
+use Rattle.image.proofs.Load.{length-loads}
+use Rattle.image.proofs.ReadLaws.{read-taken}
 use Rattle.image.proofs.RoundTrip.{write-then-read}
+use Rattle.image.specs.Image.{loads}
 use Rattle.image.specs.Read.{read, readInto, readCheck, toReading}
 use Rattle.image.specs.RoundTrip.{Words}
 use Rattle.image.specs.Write.{write, writeCheck}
@@ -95,9 +99,9 @@ unfolding ran runCheck roomless listMisshapen setCheck check tableMisshapen site
     gather Quorum.round Quorum.left Quorum.largest slicesOf questionsOf accepting confirming nowAccepts nowConfirms hears taken outOfRange crooked against unsent answer fresh add passes run runOf
 b-run = record { took = refl }
 
-b-list : runCheck tableB 0 (length late) (width 64) 4096 ≡ Sound
+b-runs : runCheck tableB 0 (length late) (width 64) 4096 ≡ Sound
 unfolding runCheck roomless listMisshapen setCheck check tableMisshapen sitesCheck siteCheck rowCheck sliceCheck strange unordered rowUnfilled some first has within
-b-list = refl
+b-runs = refl
 
 -- the numbers of table B are below 64
 below : List ℕ → Bool
@@ -131,6 +135,22 @@ reads-sound n (Refused r) m e = let z : _≡_ {A = ℕ} 0 1 = cc in absurd (omeg
 b-image : imageCheck imageB ≡ Sound
 unfolding imageCheck read
 b-image = reads-sound _ (readCheck imageB 4032) 4 (read-back .0)
+
+-- the table that is read from the image is table B
+b-blocks : length imageB / 512 ≡ 4
+b-blocks = read-taken imageB 4032 4 (read-back .0) .1
+
+b-loads : loads 4 imageB ≡ tableB
+unfolding readInto
+b-loads =
+    sym (take-at (loads 4 imageB) (drop 252 (replicate 4032 0)) 252 (length-loads 4 imageB)) ∙ ap (take 252) (read-back .1)
+    ∙ take-at tableB (drop 252 (replicate 4032 0)) 252 refl
+
+b-table : tableOn imageB ≡ tableB
+b-table = ap (λ (k : ℕ). loads k imageB) b-blocks ∙ b-loads
+
+b-list : runCheck (tableOn imageB) 0 (length late) (width 64) 4096 ≡ Sound
+b-list = ap (λ (t : List ℕ). runCheck t 0 (length late) (width 64) 4096) b-table ∙ b-runs
 
 pub witnesses : Witnesses
 witnesses = record {

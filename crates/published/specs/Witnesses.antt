@@ -3,7 +3,7 @@ use Prim.Native.Nat.{ℕ, _*_}
 use mathlib.Core.List.{List, [], _∷_}
 use mathlib.Core.Path.{_≡_}
 use lib.ListN.{length, take, replicate}
-use Rattle.check_text.specs.Table.{imageCheck}
+use Rattle.check_text.specs.Table.{tableOn, imageCheck}
 use Rattle.image.specs.Write.{writeInto}
 use Rattle.image.specs.declared.Writing as Writing
 use Rattle.questions.specs.Answers.{quorum, largest, blocks, shared, intact}
@@ -44,6 +44,6 @@ pub record Witnesses : Type 0 where
   -- a state that is not 18, and a run that is taken
   pub b-state : soundCheck tableB 8 (fresh (width 4)) ≡ Sound
   pub b-run : Taken tableB 0 late (replicate 22 7) (replicate 2 7) 3
-  -- an image that is sound, and a list that runs on the table that it holds
+  -- an image that is sound, and a list that runs on the table that is read from it
   pub b-image : imageCheck imageB ≡ Sound
-  pub b-list : runCheck tableB 0 (length late) (width 64) 4096 ≡ Sound
+  pub b-list : runCheck (tableOn imageB) 0 (length late) (width 64) 4096 ≡ Sound
