@@ -1,0 +1,4 @@
+pub mod Journal
+pub mod Keep
+pub mod Next
+pub mod Theorems
