@@ -2,7 +2,7 @@
 use Prim.Native.Nat.{ℕ}
 use mathlib.Core.List.{List}
 use mathlib.Core.Path.{_≡_, ap, _∙_}
-use Rattle.said.specs.Said.{Said}
+use Rattle.telling.specs.Telling.{Said}
 
 -- what is said of an answer is said of an equal one
 pub said : {A : Type 0} (of : A → Said) {x y : A} {number : ℕ} {out : List ℕ} → x ≡ y →
