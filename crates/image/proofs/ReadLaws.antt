@@ -26,8 +26,9 @@ use Rattle.sets.specs.Quorum.{largest}
 use Rattle.sets.specs.Slices.{slicesOf}
 use Rattle.site_block.proofs.Block.{block-sound}
 use Rattle.site_block.specs.Block.{blockCheck}
+use Rattle.rows.specs.Site.{siteCheck}
 use Rattle.table.proofs.Exact.{checked-sites}
-use Rattle.table.specs.Table.{siteOf, siteCheck, sitesCheck, Table}
+use Rattle.table.specs.Table.{siteOf, sitesCheck, Table}
 
 -- the length
 

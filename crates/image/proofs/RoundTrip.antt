@@ -22,9 +22,10 @@ use Rattle.refusals.specs.declared.Check.the-variants.{Sound}
 use Rattle.site_block.proofs.Block.{block-sound}
 use Rattle.site_block.proofs.OneSite.{load-store, store-check, store-load}
 use Rattle.site_block.specs.Block.{blockCheck, load, store}
+use Rattle.rows.specs.Site.{siteCheck}
 use Rattle.table.proofs.Exact.{checked-sites}
 use Rattle.table.proofs.Table.{shape}
-use Rattle.table.specs.Table.{siteOf, countOf, siteCheck, sitesCheck}
+use Rattle.table.specs.Table.{siteOf, countOf, sitesCheck}
 
 -- a table whose sites pass
 module _ (n : ℕ) (t : List ℕ) (len : length t ≡ 63 * n) (w : Words t) (fine : sitesCheck n t ≡ Sound) (small : n ≤ 64) where

@@ -83,7 +83,7 @@ pub fn read(image: &[u8], room: &mut [u64]) -> Reading
         return Reading::Refused(r);
     }
     load_blocks(image, n, room);
-    let l = sets::largest(&room[..63 * n], n, masks::all_below(n as u64));
+    let l = rounds::largest(&room[..63 * n], n, masks::all_below(n as u64));
     if l.set == 0 {
         return Reading::Refused(Refusal::NoQuorum);
     }

@@ -35,10 +35,11 @@ use Rattle.sets.specs.Quorum.{largest, rounds}
 use Rattle.sets.specs.Slices.{fbqsOf, slicesOf}
 use Rattle.site_block.proofs.Load.{load-count, load-slice}
 use Rattle.site_block.specs.Block.{countField, sliceField}
+use Rattle.rows.specs.Site.{count, slice}
 use Rattle.table.proofs.Exact.{exact}
 use Rattle.table.proofs.SetCheck.{set-sound}
 use Rattle.table.proofs.Table.{sites-of}
-use Rattle.table.specs.Table.{count, slice, countOf, sliceOf, sites, Table}
+use Rattle.table.specs.Table.{countOf, sliceOf, sites, Table}
 use Rattle.text.specs.Text.{ascii, decimal}
 use Rattle.verdict_text.specs.Verdict.{judgedText, verdictText}
 use Rattle.verdicts.proofs.Decides.{table-verdicts}

@@ -37,8 +37,9 @@ use Rattle.run.specs.Theorems.{Taken}
 use Rattle.sets.specs.Promises.{questionsOf}
 use Rattle.sets.specs.Quorum as Quorum
 use Rattle.sets.specs.Slices.{slicesOf}
-use Rattle.table.specs.Row.{strange, unordered, sliceCheck, rowCheck}
-use Rattle.table.specs.Table.{tableMisshapen, rowUnfilled, siteCheck, sitesCheck, check, setCheck}
+use Rattle.rows.specs.Row.{strange, unordered, sliceCheck, rowCheck}
+use Rattle.rows.specs.Site.{rowUnfilled, siteCheck}
+use Rattle.table.specs.Table.{tableMisshapen, sitesCheck, check, setCheck}
 use Rattle.verdicts.specs.Verdicts as Verdicts
 use Rattle.votes.specs.Passes.{passes, run}
 use Rattle.votes.specs.Vote.{fresh, runOf}
