@@ -4,8 +4,8 @@ use borrow.Author.Needs.{needs}
 use borrow.Author.Tests.{not-true, not-false}
 use denote.Ref.{now}
 use lib.ListN.{set}
-use Rattle.pass.proofs.keep.Statement.{statement}
-use Rattle.pass.proofs.keep.Tie as tie
+use Rattle.waiting.proofs.keep.Statement.{statement}
+use Rattle.waiting.proofs.keep.Tie as tie
 
 returns : tie.Need-returns
 returns c = rw (not-true (c .before .before .args .waits) (c .if1 .taken)) (refl, refl)

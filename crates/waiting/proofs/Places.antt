@@ -10,7 +10,7 @@ use lib.ListN.{length, getD, set}
 use lib.Seq.{getD-set-same, getD-set-other}
 use borrow.Author.Tests.{eqb-true, eqb-false}
 use Rattle.ground.proofs.Numbers.{same?}
-use Rattle.pass.specs.Inner.{Listed}
+use Rattle.waiting.specs.Inner.{Listed}
 
 -- none yet
 pub listed-none : (out w : List ℕ) (p a : ℕ) → Listed out p p w a a

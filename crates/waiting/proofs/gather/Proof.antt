@@ -6,10 +6,10 @@ use borrow.Author.Needs.{needs}
 use denote.Ref.{now}
 use lib.Dec.{eqb}
 use lib.ListN.{length, getD}
-use Rattle.pass.proofs.Places.{listed-none, listed-turn, kept-few}
-use Rattle.pass.specs.Inner.{Listed}
-use Rattle.pass.proofs.gather.Statement.{statement}
-use Rattle.pass.proofs.gather.Tie as tie
+use Rattle.waiting.proofs.Places.{listed-none, listed-turn, kept-few}
+use Rattle.waiting.specs.Inner.{Listed}
+use Rattle.waiting.proofs.gather.Statement.{statement}
+use Rattle.waiting.proofs.gather.Tie as tie
 
 abbrev Inv-loop : tie.InvT-loop
 Inv-loop answers waiting₀ count₀ i₀ waiting count i =
