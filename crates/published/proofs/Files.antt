@@ -11,9 +11,9 @@ use lib.ListN.{length, length-append}
 use Rattle.check_text.specs.Table.{sitesOn, tableOn, imageCheck}
 use Rattle.ground.proofs.Logic.{cases, and-l, and-r, and-i, clash, is-false, not-t}
 use Rattle.ground.specs.Pieces.{part}
-use Rattle.image.proofs.Load.{loads-site}
+use Rattle.image_blocks.proofs.Load.{loads-site}
 use Rattle.image.proofs.ReadLaws.{read-taken, blocks-shape, loads-table}
-use Rattle.image.specs.Image.{loads}
+use Rattle.image_blocks.specs.Image.{loads}
 use Rattle.image.specs.Read.{read}
 use Rattle.image.specs.declared.Reading as Reading
 use Rattle.lines.proofs.Lengths.{length-line}

@@ -13,7 +13,7 @@ use Rattle.check_text.specs.Table.{imageCheck}
 use Rattle.ground.proofs.Logic.{clash}
 use Rattle.ground.specs.Pieces.{part}
 use Rattle.image.proofs.ReadLaws.{blocks-shape, loads-table, some-quorum}
-use Rattle.image.specs.Image.{imageMisshapen, blocksCheck, loads}
+use Rattle.image_blocks.specs.Image.{imageMisshapen, blocksCheck, loads}
 use Rattle.image.specs.Read.{read, readCheck, quorumless, toReading}
 use Rattle.image.specs.declared.Reading as Reading
 use Rattle.masks.specs.Mask.{within, allBelow}

@@ -11,10 +11,10 @@ use lib.Seq.{take-at}
 use Rattle.check_text.specs.Table.{tableOn, imageCheck}
 use Rattle.ground.proofs.Logic.{and-l, and-r}
 use Rattle.ground.specs.Search.{some, every, least}
-use Rattle.image.proofs.Load.{length-loads}
+use Rattle.image_blocks.proofs.Load.{length-loads}
 use Rattle.image.proofs.ReadLaws.{read-taken}
 use Rattle.image.proofs.RoundTrip.{write-then-read}
-use Rattle.image.specs.Image.{loads}
+use Rattle.image_blocks.specs.Image.{loads}
 use Rattle.image.specs.Read.{read, readInto, readCheck, toReading}
 use Rattle.image.specs.RoundTrip.{Words}
 use Rattle.image.specs.Write.{write, writeCheck}

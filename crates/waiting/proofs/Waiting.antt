@@ -48,7 +48,7 @@ module _ {X : Vote} (L : Lawful X) where
         let few : i < length (calls list) = omega (arith, l, length-answers X (calls list) s) in
         subst (λ (c : Call). Settled X c (getD (answersFrom X (calls list) s) i 0) (pass (step X) (calls list) s))
         (calls-at list i (callAt list i) (omega (arith, h, few, calls-length list k h)))
-        (pass-settles L (calls list) s S i (callAt list i) few w);
+        (pass-settles (calls list) s S i (callAt list i) few w);
   })
 
   module _ (list s₀ out₀ : List ℕ) (fits : length list ≡ 4 * length out₀) where

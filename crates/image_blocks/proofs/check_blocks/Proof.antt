@@ -7,13 +7,13 @@ use borrow.Author.Needs.{needs}
 use denote.Ref.{now}
 use Rattle.ground.proofs.Pieces.{part-cut}
 use Rattle.ground.specs.Pieces.{part}
-use Rattle.image.specs.Image.{blocksCheck}
+use Rattle.image_blocks.specs.Image.{blocksCheck}
 use Rattle.site_block.specs.Block.{blockCheck}
-use Rattle.image.proofs.check_blocks.Statement.{statement}
+use Rattle.image_blocks.proofs.check_blocks.Statement.{statement}
 use Rattle.refusals.proofs.First.{first-more, first-stop}
 use Rattle.refusals.specs.First.{first}
 use mathlib.Core.List.{List}
-use Rattle.image.proofs.check_blocks.Tie as tie
+use Rattle.image_blocks.proofs.check_blocks.Tie as tie
 
 abbrev Inv-loop : tie.InvT-loop
 Inv-loop image n place₀ place = (place ≤ n) × (first (λ j. blockCheck n j (part 512 j image)) place ≡ Sound)

@@ -2,12 +2,13 @@
 use mathlib.Core.Path.{ap}
 use native.Mathlib.Omega.{arith}
 use borrow.Author.Needs.{needs}
 use Rattle.lines.proofs.Chain.{as-text, five}
-use Rattle.lines.specs.Lines.{line, refused}
+use Rattle.lines.specs.Lines.{line}
+use Rattle.refusal_lines.specs.Refused.{refused}
 use Rattle.text.proofs.Width.{length-decimal}
 use Rattle.text.specs.Text.{decimal}
-use Rattle.lines.proofs.put_refused.Statement.{statement}
-use Rattle.lines.proofs.put_refused.Tie as tie
+use Rattle.refusal_lines.proofs.put_refused.Statement.{statement}
+use Rattle.refusal_lines.proofs.put_refused.Tie as tie
 
 put-requires-2 : tie.Need-put-requires-2
 put-requires-2 c κs = omega (arith, length-decimal (c .before .before .before .before .before .number .result))

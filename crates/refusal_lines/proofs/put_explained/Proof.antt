@@ -2,11 +2,12 @@
 use native.Mathlib.Omega.{arith}
 use borrow.Author.Needs.{needs}
 use Rattle.leaflet.proofs.Lengths.{length-meaning}
 use Rattle.lines.proofs.Chain.{three}
-use Rattle.lines.proofs.Lengths.{length-refused}
-use Rattle.lines.specs.Lines.{line, explained}
-use Rattle.lines.proofs.put_explained.Statement.{statement}
-use Rattle.lines.proofs.put_explained.Tie as tie
+use Rattle.refusal_lines.proofs.Lengths.{length-refused}
+use Rattle.lines.specs.Lines.{line}
+use Rattle.refusal_lines.specs.Refused.{explained}
+use Rattle.refusal_lines.proofs.put_explained.Statement.{statement}
+use Rattle.refusal_lines.proofs.put_explained.Tie as tie
 
 put-meaning-requires : tie.Need-put-meaning-requires
 put-meaning-requires c κs = omega (arith, length-refused (c .before .before .before .before .before .before .args .r))

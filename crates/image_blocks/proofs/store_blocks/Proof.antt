@@ -9,10 +9,10 @@ use borrow.Rule.Slice.PartMut.{same-len-mid}
 use denote.Ref.{now}
 use Rattle.ground.proofs.Pieces.{part-cut}
 use Rattle.site_block.specs.Block.{store}
-use Rattle.image.proofs.Store.{storesTo, stores-holds, stores-again, stores-done}
-use Rattle.image.proofs.store_blocks.Statement.{statement}
+use Rattle.image_blocks.proofs.Store.{storesTo, stores-holds, stores-again, stores-done}
+use Rattle.image_blocks.proofs.store_blocks.Statement.{statement}
 use Rattle.table.proofs.Exact.{checked-sites}
-use Rattle.image.proofs.store_blocks.Tie as tie
+use Rattle.image_blocks.proofs.store_blocks.Tie as tie
 
 abbrev Inv-loop : tie.InvT-loop
 Inv-loop table n room₀ i₀ room i = (i ≤ n) × (length room ≡ length room₀) × (room ≡ storesTo n table i ++ drop (512 * i) room₀)

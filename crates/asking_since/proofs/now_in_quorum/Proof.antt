@@ -5,8 +5,8 @@ use denote.Ref.{now}
 use Rattle.rules.proofs.Since.{sender-without}
 use Rattle.rules.proofs.WorkWays.{table-rests}
 use Rattle.sets.specs.Promises.{questions}
-use Rattle.accepting.proofs.now_in_quorum.Statement.{statement}
-use Rattle.accepting.proofs.now_in_quorum.Tie as tie
+use Rattle.asking_since.proofs.now_in_quorum.Statement.{statement}
+use Rattle.asking_since.proofs.now_in_quorum.Tie as tie
 
 returns : tie.Need-returns
 returns c =

@@ -8,11 +8,11 @@ use borrow.Author.Needs.{needs}
 use borrow.Rule.Slice.PartMut.{same-len-mid}
 use denote.Ref.{now}
 use Rattle.ground.proofs.Pieces.{part-cut}
-use Rattle.image.specs.Image.{loads}
+use Rattle.image_blocks.specs.Image.{loads}
 use Rattle.site_block.specs.Block.{load}
-use Rattle.image.proofs.Load.{loads-zero, loads-again}
-use Rattle.image.proofs.load_blocks.Statement.{statement}
-use Rattle.image.proofs.load_blocks.Tie as tie
+use Rattle.image_blocks.proofs.Load.{loads-zero, loads-again}
+use Rattle.image_blocks.proofs.load_blocks.Statement.{statement}
+use Rattle.image_blocks.proofs.load_blocks.Tie as tie
 
 abbrev Inv-loop : tie.InvT-loop
 Inv-loop image n room₀ i₀ room i = (i ≤ n) × (length room ≡ length room₀) × (room ≡ loads i image ++ drop (63 * i) room₀)

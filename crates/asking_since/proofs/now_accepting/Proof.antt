@@ -1,12 +1,11 @@
 -- `now_accepting` meets its contract: blocked now, or else by a quorum now.
-use mathlib.Core.Path.{sym, _∙_}
 use borrow.Author.Needs.{needs}
 use denote.Ref.{now}
 use Rattle.rules.proofs.Since.{unblocked-then, no-quorum-then, new-either}
 use Rattle.rules.proofs.WorkWays.{accepts-by-blocking, accepts-by-quorum}
 use Rattle.sets.specs.Promises.{questions}
-use Rattle.accepting.proofs.now_accepting.Statement.{statement}
-use Rattle.accepting.proofs.now_accepting.Tie as tie
+use Rattle.asking_since.proofs.now_accepting.Statement.{statement}
+use Rattle.asking_since.proofs.now_accepting.Tie as tie
 
 now-blocked-requires : tie.Need-now-blocked-requires
 now-blocked-requires c κs =

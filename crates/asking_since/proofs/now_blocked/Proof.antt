@@ -1,11 +1,10 @@
 -- `now_blocked` meets its contract: the same set blocks as little as before.
-use Prim.Native.Nat.{ℕ}
 use mathlib.Core.Path.{sym, ap, _∙_}
 use borrow.Author.Needs.{needs}
 use denote.Ref.{now}
 use Rattle.sets.specs.Promises.{questions}
-use Rattle.accepting.proofs.now_blocked.Statement.{statement}
-use Rattle.accepting.proofs.now_blocked.Tie as tie
+use Rattle.asking_since.proofs.now_blocked.Statement.{statement}
+use Rattle.asking_since.proofs.now_blocked.Tie as tie
 
 returns : tie.Need-returns
 returns c =
