@@ -24,7 +24,16 @@ fn run_on(
     let mut count = waiting::gather(answers, waiting);
     let mut passes = 1u64;
     loop {
-        let round = waiting::over_waiting(table, n, faulty, list, state, answers, waiting, count);
+        let round = pass_again::over_waiting(
+            table,
+            n,
+            faulty,
+            list,
+            state,
+            answers,
+            waiting,
+            count,
+        );
         passes += 1;
         if !round.changed {
             return passes;

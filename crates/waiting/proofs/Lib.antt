@@ -1,3 +1,2 @@
 pub mod Places
-pub mod Waiting
-pub mod Rounds
+pub mod Coincide

@@ -8,7 +8,7 @@ use denote.Ref.{now}
 use lib.ListN.{length, replicate, length-replicate}
 use Rattle.pass.proofs.Lawful.{lawful}
 use Rattle.pass.proofs.Turns.{passed-long}
-use Rattle.waiting.proofs.Waiting.{passed-told}
+use Rattle.pass_again.proofs.Settled.{passed-told}
 use Rattle.pass.specs.Calls.{calls}
 use Rattle.passes.proofs.Going.{going-none, going-more, going-done}
 use Rattle.passes.proofs.run_fresh.Statement.{statement}

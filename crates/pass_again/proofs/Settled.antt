@@ -12,7 +12,7 @@ use Rattle.pass.proofs.Calls.{calls-at, calls-length}
 use Rattle.pass.proofs.Turns.{length-answers, after-more, after-byte}
 use Rattle.pass.specs.Calls.{calls, callAt}
 use Rattle.pass.specs.Inner.{answersFrom, After, Passed}
-use Rattle.waiting.specs.Inner.{Settled, Told}
+use Rattle.pass_again.specs.Inner.{Settled, Told}
 use Rattle.refusals.specs.Refusal.{code}
 use Rattle.votes.proofs.AnyVote.{spends}
 use Rattle.votes.proofs.Passes.{pass-up}

@@ -1,10 +1,10 @@
 -- `standing` meets its contract: one case for each way that the answer goes.
 use borrow.Author.Needs.{needs}
 use mathlib.Core.Path.{sym}
-use Rattle.said.specs.Said.{ofStanding}
+use Rattle.said_sets.specs.Said.{ofStanding}
 use Rattle.telling.proofs.Laws.{said}
-use Rattle.said.proofs.standing.Statement.{statement}
-use Rattle.said.proofs.standing.Tie as tie
+use Rattle.said_sets.proofs.standing.Statement.{statement}
+use Rattle.said_sets.proofs.standing.Tie as tie
 
 pub standing-spec : {M : Type 1} → statement M
 standing-spec =

@@ -6,11 +6,11 @@ use borrow.Author.Needs.{needs}
 use denote.Ref.{now}
 use lib.ListN.{length, getD}
 use Rattle.pass.proofs.Lawful.{lawful}
-use Rattle.waiting.proofs.Rounds.{amid-none, amid-below, amid-waits, amid-more, amid-all}
-use Rattle.waiting.specs.Inner.{Amid}
+use Rattle.pass_again.proofs.Rounds.{amid-none, amid-below, amid-waits, amid-more, amid-all}
+use Rattle.pass_again.specs.Inner.{Amid}
 use Rattle.rules.specs.Vote.{voteOf}
-use Rattle.waiting.proofs.over_waiting.Statement.{statement}
-use Rattle.waiting.proofs.over_waiting.Tie as tie
+use Rattle.pass_again.proofs.over_waiting.Statement.{statement}
+use Rattle.pass_again.proofs.over_waiting.Tie as tie
 
 abbrev Inv-loop : tie.InvT-loop
 Inv-loop table n faulty list state₀ answers₀ waiting₀ count changed₀ left₀ k₀ state answers waiting changed left k =

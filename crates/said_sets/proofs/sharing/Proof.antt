@@ -1,10 +1,10 @@
 -- `sharing` meets its contract: one case for each way that the answer goes.
 use borrow.Author.Needs.{needs}
 use mathlib.Core.Path.{sym}
-use Rattle.said.specs.Said.{ofSharing}
+use Rattle.said_sets.specs.Said.{ofSharing}
 use Rattle.telling.proofs.Laws.{said}
-use Rattle.said.proofs.sharing.Statement.{statement}
-use Rattle.said.proofs.sharing.Tie as tie
+use Rattle.said_sets.proofs.sharing.Statement.{statement}
+use Rattle.said_sets.proofs.sharing.Tie as tie
 
 pub sharing-spec : {M : Type 1} → statement M
 sharing-spec =

@@ -10,12 +10,13 @@ use lib.Seq.{getD-set-same, getD-set-other, set-getD}
 use borrow.Author.Tests.{eq-eqb, ne-eqb}
 use Rattle.refusals.specs.Refusal.{code}
 use Rattle.refusals.specs.declared.Check.{Check}
 use Rattle.waiting.proofs.Places.{listed-none, listed-past, listed-same, listed-gap, listed-end, listed-rest, listed-turn, listed-ahead, kept-few}
 use Rattle.pass.proofs.Turns.{after-none, after-more, after-byte, after-all}
-use Rattle.waiting.proofs.Waiting.{after-skip}
+use Rattle.pass_again.proofs.Settled.{after-skip}
 use Rattle.pass.specs.Calls.{calls, callAt}
 use Rattle.pass.specs.Inner.{After}
-use Rattle.waiting.specs.Inner.{Listed, Again, Amid, Waiting, PassedAgain}
+use Rattle.waiting.specs.Inner.{Listed}
+use Rattle.pass_again.specs.Inner.{Again, Amid, Waiting, PassedAgain}
 use Rattle.votes.specs.Call.{Call}
 use Rattle.votes.specs.Inner.{Lawful, Works}
 use Rattle.votes.specs.Vote.{Vote}

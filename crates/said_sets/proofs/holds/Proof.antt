@@ -1,10 +1,10 @@
 -- `holds` meets its contract: one case for each way that the answer goes.
 use borrow.Author.Needs.{needs}
 use mathlib.Core.Path.{sym}
-use Rattle.said.specs.Said.{ofHolds}
+use Rattle.said_sets.specs.Said.{ofHolds}
 use Rattle.telling.proofs.Laws.{said}
-use Rattle.said.proofs.holds.Statement.{statement}
-use Rattle.said.proofs.holds.Tie as tie
+use Rattle.said_sets.proofs.holds.Statement.{statement}
+use Rattle.said_sets.proofs.holds.Tie as tie
 
 pub holds-spec : {M : Type 1} → statement M
 holds-spec =

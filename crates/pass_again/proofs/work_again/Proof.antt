@@ -1,9 +1,9 @@
 -- `work_again` meets its contract: the byte of a call that waits still is 15 already.
 use borrow.Author.Needs.{needs}
 use denote.Ref.{now}
-use Rattle.waiting.proofs.Rounds.{again-waits, again-settled}
-use Rattle.waiting.proofs.work_again.Statement.{statement}
-use Rattle.waiting.proofs.work_again.Tie as tie
+use Rattle.pass_again.proofs.Rounds.{again-waits, again-settled}
+use Rattle.pass_again.proofs.work_again.Statement.{statement}
+use Rattle.pass_again.proofs.work_again.Tie as tie
 
 returns : tie.Need-returns
 returns c =

@@ -1,10 +1,10 @@
 -- `greatest` meets its contract: one case for each way that the answer goes.
 use borrow.Author.Needs.{needs}
 use mathlib.Core.Path.{sym}
-use Rattle.said.specs.Said.{ofGreatest}
+use Rattle.said_sets.specs.Said.{ofGreatest}
 use Rattle.telling.proofs.Laws.{said}
-use Rattle.said.proofs.greatest.Statement.{statement}
-use Rattle.said.proofs.greatest.Tie as tie
+use Rattle.said_sets.proofs.greatest.Statement.{statement}
+use Rattle.said_sets.proofs.greatest.Tie as tie
 
 pub greatest-spec : {M : Type 1} → statement M
 greatest-spec =
