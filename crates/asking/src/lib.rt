@@ -11,7 +11,7 @@ pub fn in_quorum(table: &[u64], n: usize, receiver: usize, w: u64) -> bool
     requires { ⌜ receiver < n ⌝ }
     ensures { λ r. ⌜ r ≡ questions (now (table .entry)) .inQuorum receiver w ⌝ }
 {
-    sets::in_largest(table, n, receiver, w)
+    rounds::in_largest(table, n, receiver, w)
 }
 
 // The set w blocks the receiver.
@@ -49,7 +49,7 @@ pub fn belongs(table: &[u64], n: usize, receiver: usize, w: u64, asked: &mut [u6
     if !sets::has_slice(table, n, receiver, w) {
         return false;
     }
-    let l = sets::largest(table, n, w);
+    let l = rounds::largest(table, n, w);
     asked[0] = w;
     asked[1] = l.set;
     masks::has(l.set, receiver as u64)

@@ -6,7 +6,7 @@ use lib.ListN.{length}
 use Rattle.capi.specs.Run.{runSays, runState, runAnswers}
 use Rattle.run.specs.Run.{ran, stateInto, answersInto}
 use Rattle.run.specs.declared.Ran.{Ran}
-use Rattle.said.proofs.Laws.{said}
+use Rattle.telling.proofs.Laws.{said}
 use Rattle.said.specs.Said.{ofRan}
 
 -- a run that answers as the rules say, and whose answer is said

@@ -3,7 +3,8 @@ use Prim.Native.Nat.{ℕ}
 use mathlib.Core.List.{List}
 use lib.ListN.{length}
 use Rattle.run.specs.Run.{ran, stateInto, answersInto}
-use Rattle.said.specs.Said.{Said, ofRan}
+use Rattle.said.specs.Said.{ofRan}
+use Rattle.telling.specs.Telling.{Said}
 
 abbrev pub runSays : List ℕ → ℕ → List ℕ → List ℕ → List ℕ → Said
 runSays t F list state answers = ofRan (ran t F list (length state) (length answers))

@@ -6,7 +6,8 @@ ghost use Rattle.image.specs.Read.{read, readInto};
 ghost use Rattle.image.specs.Write.{write, writeInto};
 ghost use Rattle.questions.specs.Answers.{quorum, largest, blocks, shared, intact};
 ghost use Rattle.records.specs.Pack.{bytesOf};
-ghost use Rattle.said.specs.Said.{ofCheck, ofReading, ofWriting, ofHolds, ofGreatest, ofSharing, ofStanding, ofStepped};
+ghost use Rattle.said.specs.Said.{ofCheck, ofReading, ofWriting, ofStepped};
+ghost use Rattle.said_sets.specs.Said.{ofHolds, ofGreatest, ofSharing, ofStanding};
 ghost use Rattle.table.specs.Table.{check};
 ghost use Rattle.voting.specs.Step.{soundCheck, stepCheck, stepInto, toStepped};
 ghost use Rattle.votes.specs.Call.{call};
@@ -47,7 +48,7 @@ pub extern "C" fn siren_quorum(table: &[u64], set: u64, out: &mut [u64; 4]) -> u
     ensures answer { λ r. ⌜ r ≡ ofHolds (quorum (now (table .entry)) set) .number ⌝ }
     ensures told { λ r. ⌜ now (out .exit) ≡ ofHolds (quorum (now (table .entry)) set) .out ⌝ }
 {
-    said::holds(questions::quorum(table, set), out)
+    said_sets::holds(questions::quorum(table, set), out)
 }
 
 // The largest quorum inside the set, and its rounds.
@@ -56,7 +57,7 @@ pub extern "C" fn siren_largest(table: &[u64], set: u64, out: &mut [u64; 4]) -> 
     ensures answer { λ r. ⌜ r ≡ ofGreatest (largest (now (table .entry)) set) .number ⌝ }
     ensures told { λ r. ⌜ now (out .exit) ≡ ofGreatest (largest (now (table .entry)) set) .out ⌝ }
 {
-    said::greatest(questions::largest(table, set), out)
+    said_sets::greatest(questions::largest(table, set), out)
 }
 
 // Does the set block the site?
@@ -65,7 +66,7 @@ pub extern "C" fn siren_blocks(table: &[u64], set: u64, site: u64, out: &mut [u6
     ensures answer { λ r. ⌜ r ≡ ofHolds (blocks (now (table .entry)) set site) .number ⌝ }
     ensures told { λ r. ⌜ now (out .exit) ≡ ofHolds (blocks (now (table .entry)) set site) .out ⌝ }
 {
-    said::holds(questions::blocks(table, set, site), out)
+    said_sets::holds(questions::blocks(table, set, site), out)
 }
 
 // Do every two quorums have a common site?
@@ -74,7 +75,7 @@ pub extern "C" fn siren_shared(table: &[u64], out: &mut [u64; 4]) -> u64
     ensures answer { λ r. ⌜ r ≡ ofSharing (shared (now (table .entry))) .number ⌝ }
     ensures told { λ r. ⌜ now (out .exit) ≡ ofSharing (shared (now (table .entry))) .out ⌝ }
 {
-    said::sharing(questions::shared(table), out)
+    said_sets::sharing(questions::shared(table), out)
 }
 
 // Which sites are intact when those of the set are faulty?
@@ -83,7 +84,7 @@ pub extern "C" fn siren_intact(table: &[u64], faulty: u64, out: &mut [u64; 4]) -
     ensures answer { λ r. ⌜ r ≡ ofStanding (intact (now (table .entry)) faulty) .number ⌝ }
     ensures told { λ r. ⌜ now (out .exit) ≡ ofStanding (intact (now (table .entry)) faulty) .out ⌝ }
 {
-    said::standing(questions::intact(table, faulty), out)
+    said_sets::standing(questions::intact(table, faulty), out)
 }
 
 // Is the state sound?

@@ -7,7 +7,8 @@ use lib.ListN.{length}
 use Rattle.image.proofs.ReadLaws.{read-taken, blocks-shape}
 use Rattle.image.specs.Read.{read, readCheck, toReading}
 use Rattle.image.specs.declared.Reading.{Reading}
-use Rattle.lines.specs.Lines.{line, explained}
+use Rattle.lines.specs.Lines.{line}
+use Rattle.refusal_lines.specs.Refused.{explained}
 use Rattle.refusals.specs.declared.Check.{Check}
 use Rattle.refusals.specs.declared.Check.the-variants.{Sound, Refused}
 use Rattle.refusals.specs.declared.Refusal.{Refusal}

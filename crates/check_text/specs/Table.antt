@@ -2,9 +2,10 @@
 use Prim.Native.Nat.{ℕ, _*_, _/_}
 use mathlib.Core.List.{List}
 use lib.ListN.{length}
-use Rattle.image.specs.Image.{loads}
+use Rattle.image_blocks.specs.Image.{loads}
 use Rattle.image.specs.Read.{readCheck}
-use Rattle.lines.specs.Lines.{line, explained}
+use Rattle.lines.specs.Lines.{line}
+use Rattle.refusal_lines.specs.Refused.{explained}
 use Rattle.refusals.specs.declared.Check.{Check}
 use Rattle.refusals.specs.declared.Check.the-variants.{Sound, Refused}
 use Rattle.refusals.specs.declared.Refusal.{Refusal}

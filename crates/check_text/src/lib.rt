@@ -16,6 +16,6 @@ pub fn check(image: &[u8], room: &mut [u8; ROOM]) -> usize
     let q = image::read(image, &mut table);
     match q {
         Reading::Sites(n) => lines::line_decimal(room, 0, b"sound ", n),
-        Reading::Refused(r) => lines::put_explained(room, 0, r),
+        Reading::Refused(r) => refusal_lines::put_explained(room, 0, r),
     }
 }

@@ -1,5 +1,3 @@
-pub mod Load
-pub mod Store
 pub mod ReadLaws
 pub mod WriteLaws
 pub mod RoundTrip

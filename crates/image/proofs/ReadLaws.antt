@@ -10,11 +10,11 @@ use lib.ListN.{length, take}
 use borrow.Author.Tests.{eqb-true, eqb-false, eq-eqb, ne-eqb, ltb-false, lt-ltb, le-ltb, not-false}
 use Rattle.ground.proofs.Logic.{cases, or-none}
 use Rattle.ground.specs.Pieces.{part}
-use Rattle.image.specs.Image.{imageMisshapen, blocksCheck, loads}
+use Rattle.image_blocks.specs.Image.{imageMisshapen, blocksCheck, loads}
 use Rattle.image.specs.Read.{quorumless, readCheck, toReading, read}
 use Rattle.image.specs.declared.Reading.{Reading}
 use Rattle.image.specs.declared.Reading.the-variants.{Sites}
-use Rattle.image.proofs.Load.{length-loads, loads-site, loads-front}
+use Rattle.image_blocks.proofs.Load.{length-loads, loads-site, loads-front}
 use Rattle.masks.specs.Mask.{allBelow}
 use Rattle.refusals.proofs.First.{orElse-sound, first-all, first-sound, missed}
 use Rattle.refusals.specs.declared.Check.{Check}
@@ -26,8 +26,9 @@ use Rattle.sets.specs.Quorum.{largest}
 use Rattle.sets.specs.Slices.{slicesOf}
 use Rattle.site_block.proofs.Block.{block-sound}
 use Rattle.site_block.specs.Block.{blockCheck}
+use Rattle.rows.specs.Site.{siteCheck}
 use Rattle.table.proofs.Exact.{checked-sites}
-use Rattle.table.specs.Table.{siteOf, siteCheck, sitesCheck, Table}
+use Rattle.table.specs.Table.{siteOf, sitesCheck, Table}
 
 -- the length
 

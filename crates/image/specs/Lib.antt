@@ -1,4 +1,3 @@
-pub mod Image
 pub mod Read
 pub mod Write
 pub mod RoundTrip

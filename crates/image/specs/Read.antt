@@ -4,7 +4,7 @@ use mathlib.Core.Bool.{Bool}
 use mathlib.Core.List.{List, _++_}
 use lib.Dec.{eqb, ltb}
 use lib.ListN.{length, drop}
-use Rattle.image.specs.Image.{imageMisshapen, blocksCheck, loads}
+use Rattle.image_blocks.specs.Image.{imageMisshapen, blocksCheck, loads}
 use Rattle.image.specs.declared.Reading.{Reading}
 use Rattle.image.specs.declared.Reading.the-variants.{Sites}
 use Rattle.masks.specs.Mask.{allBelow}

@@ -3,7 +3,7 @@ use Prim.Native.Nat.{ℕ, _*_}
 use mathlib.Core.List.{List, _++_}
 use lib.Dec.{ltb}
 use lib.ListN.{length, drop}
-use Rattle.image.specs.Image.{stores}
+use Rattle.image_blocks.specs.Image.{stores}
 use Rattle.image.specs.declared.Writing.{Writing}
 use Rattle.image.specs.declared.Writing.the-variants.{Sites}
 use Rattle.refusals.specs.First.{orElse, refuse}

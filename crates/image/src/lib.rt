@@ -1,12 +1,8 @@
 // The table of groups on file: reading an image into a table in memory, and writing it back.
 ghost use mathlib.Core.Path.{_≡_};
-ghost use mathlib.Core.List.{_++_};
-ghost use Prim.Native.Nat.{_*_, _≤_};
-ghost use lib.ListN.{length, drop};
-ghost use Rattle.image.specs.Image.{loads, stores, blocksCheck};
+ghost use lib.ListN.{length};
 ghost use Rattle.image.specs.Read.{read, readInto};
 ghost use Rattle.image.specs.Write.{write, writeInto};
-ghost use Rattle.table.specs.Table.{sitesCheck};
 use refusals::Check;
 use refusals::Refusal;
 
@@ -20,44 +16,6 @@ pub enum Reading {
 pub enum Writing {
     Sites(u64),
     Refused(Refusal),
-}
-
-// All blocks, in order.
-fn check_blocks(image: &[u8], n: usize) -> Check
-    requires { ⌜ length (now image) ≡ 512 * n ⌝ }
-    requires { ⌜ n ≤ 64 ⌝ }
-    ensures { λ r. ⌜ r ≡ blocksCheck n (now (image .entry)) ⌝ }
-{
-    let mut place: usize = 0;
-    while place < n {
-        let q = site_block::check_block(
-            &image[512 * place..512 * place + 512],
-            n as u64,
-            place as u64,
-        );
-        let Check::Sound = q else {
-            return q;
-        };
-        place += 1;
-    }
-    Check::Sound
-}
-
-// All blocks into the room's first 63 n numbers.
-fn load_blocks(image: &[u8], n: usize, room: &mut [u64])
-    requires { ⌜ length (now image) ≡ 512 * n ⌝ }
-    requires { ⌜ n ≤ 64 ⌝ }
-    requires { ⌜ 63 * n ≤ length (now room) ⌝ }
-    ensures { λ r. ⌜ now (room .exit) ≡ loads n (now (image .entry)) ++ drop (63 * n) (now (room .entry)) ⌝ }
-{
-    let mut i: usize = 0;
-    while i < n {
-        site_block::load_block(
-            &image[512 * i..512 * i + 512],
-            &mut room[63 * i..63 * i + 63],
-        );
-        i += 1;
-    }
 }
 
 // Reads an image into the room. All blocks are checked before a number of the room changes.
@@ -78,36 +36,16 @@ pub fn read(image: &[u8], room: &mut [u64]) -> Reading
     if room.len() < 63 * n {
         return Reading::Refused(Refusal::Room);
     }
-    let q = check_blocks(image, n);
+    let q = image_blocks::check_blocks(image, n);
     if let Check::Refused(r) = q {
         return Reading::Refused(r);
     }
-    load_blocks(image, n, room);
-    let l = sets::largest(&room[..63 * n], n, masks::all_below(n as u64));
+    image_blocks::load_blocks(image, n, room);
+    let l = rounds::largest(&room[..63 * n], n, masks::all_below(n as u64));
     if l.set == 0 {
         return Reading::Refused(Refusal::NoQuorum);
     }
     Reading::Sites(n as u64)
-}
-
-// All sites into the room's first 512 n bytes.
-fn store_blocks(table: &[u64], n: usize, room: &mut [u8])
-    requires { ⌜ length (now table) ≡ 63 * n ⌝ }
-    requires { ⌜ n ≤ 64 ⌝ }
-    requires { ⌜ 512 * n ≤ length (now room) ⌝ }
-    requires { ⌜ sitesCheck n (now table) ≡ Check.Sound ⌝ }
-    ensures { λ r. ⌜ now (room .exit) ≡ stores n (now (table .entry)) ++ drop (512 * n) (now (room .entry)) ⌝ }
-{
-    let mut i: usize = 0;
-    while i < n {
-        site_block::store_block(
-            &table[63 * i..63 * i + 63],
-            n as u64,
-            i as u64,
-            &mut room[512 * i..512 * i + 512],
-        );
-        i += 1;
-    }
 }
 
 // Writes a table as an image into the room. The whole table is checked before a byte of the room changes.
@@ -132,6 +70,6 @@ pub fn write(table: &[u64], room: &mut [u8]) -> Writing
     if let Check::Refused(r) = q {
         return Writing::Refused(r);
     }
-    store_blocks(table, n, room);
+    image_blocks::store_blocks(table, n, room);
     Writing::Sites(n as u64)
 }

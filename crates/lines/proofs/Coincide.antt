@@ -13,10 +13,6 @@ use Rattle.lines.proofs.line_mask.Kinds as line-mask-kinds
 use Rattle.lines.proofs.line_mask.Reads as line-mask-reads
 use Rattle.lines.proofs.line_sides.Kinds as line-sides-kinds
 use Rattle.lines.proofs.line_sides.Reads as line-sides-reads
-use Rattle.lines.proofs.put_refused.Kinds as put-refused-kinds
-use Rattle.lines.proofs.put_refused.Reads as put-refused-reads
-use Rattle.lines.proofs.put_explained.Kinds as put-explained-kinds
-use Rattle.lines.proofs.put_explained.Reads as put-explained-reads
 use Rattle.text.proofs.Written.{once}
 
 pub line-text-coincide : All line-text-kinds.ps line-text-kinds.r (List ℕ) (λ κs s. now (s .0)) line-text-reads.Post
@@ -33,9 +29,3 @@ line-mask-coincide κs a x y s t p q = once p q
 
 pub line-sides-coincide : All line-sides-kinds.ps line-sides-kinds.r (List ℕ) (λ κs s. now (s .0)) line-sides-reads.Post
 line-sides-coincide κs a x y s t p q = once p q
-
-pub put-refused-coincide : All put-refused-kinds.ps put-refused-kinds.r (List ℕ) (λ κs s. now (s .0)) put-refused-reads.Post
-put-refused-coincide κs a x y s t p q = once p q
-
-pub put-explained-coincide : All put-explained-kinds.ps put-explained-kinds.r (List ℕ) (λ κs s. now (s .0)) put-explained-reads.Post
-put-explained-coincide κs a x y s t p q = once p q

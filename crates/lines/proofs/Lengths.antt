@@ -5,9 +5,7 @@ use mathlib.Core.List.{List, _++_}
 use mathlib.Core.Path.{_≡_, _∙_}
 use native.Mathlib.Omega.{arith}
 use lib.ListN.{length, length-append}
-use Rattle.lines.specs.Lines.{newline, line, sides, refused}
-use Rattle.refusals.specs.Refusal.{number, place}
-use Rattle.refusals.specs.declared.Refusal.{Refusal}
+use Rattle.lines.specs.Lines.{newline, line, sides}
 use Rattle.text.proofs.Width.{length-decimal, length-mask}
 use Rattle.text.specs.Text.{ascii, decimal, mask}
 
@@ -30,10 +28,3 @@ unfolding sides
 length-sides word drill live =
     rw (length-line word (mask drill ++ (ascii " " ++ mask live)))
     (omega (arith, length-append (mask drill) (ascii " " ++ mask live), length-mask drill, length-mask live))
-
-pub length-refused : (r : Refusal) → length (refused r) ≤ 50
-unfolding refused line
-length-refused r = of (decimal (number r)) (decimal (place r)) (length-decimal (number r)) (length-decimal (place r))
-  where
-    of : (n k : List ℕ) → length n ≤ 20 → length k ≤ 20 → length (ascii "refused " ++ ((n ++ (ascii " " ++ k)) ++ newline)) ≤ 50
-    of n k h g = omega (arith, length-append (n ++ (ascii " " ++ k)) newline, length-append n (ascii " " ++ k))

@@ -1,4 +1,4 @@
--- Two results that meet the contract of `over_all` coincide: whether the state changed, the state and the answers at exit.
+-- Two results that meet the contract of `over_all`, or of `work_at`, coincide: the answer, whether the state changed, the state and the answers at exit.
 use Prim.Native.Nat.{ℕ}
 use mathlib.Core.List.{List}
 use mathlib.Core.Path.{sym, _∙_}
@@ -6,6 +6,14 @@ use denote.Ref.{now}
 use Rattle.ground.specs.Coincide.{All}
 use Rattle.pass.proofs.over_all.Kinds as over-all-kinds
 use Rattle.pass.proofs.over_all.Reads as over-all-reads
+use Rattle.pass.proofs.work_at.Kinds as work-at-kinds
+use Rattle.pass.proofs.work_at.Reads as work-at-reads
+
+pub work-at-coincide : All work-at-kinds.ps work-at-kinds.r (List ℕ) (λ κs s. now (s .1 .1 .1 .1 .1 .0)) work-at-reads.Post
+work-at-coincide κs a x y s t p q = (
+  λ i. record { answer = (p .answers-so ∙ sym (q .answers-so)) i; changed = (p .changes ∙ sym (q .changes)) i },
+  p .state ∙ sym (q .state),
+)
 
 pub over-all-states-coincide : All over-all-kinds.ps over-all-kinds.r (List ℕ) (λ κs s. now (s .1 .1 .1 .1 .0)) over-all-reads.Post
 over-all-states-coincide κs a x y s t p q = (p .flag ∙ sym (q .flag), p .state ∙ sym (q .state))

@@ -2,22 +2,19 @@
 use Prim.Native.Nat.{ℕ, suc, _+_, _-_, _*_, _≤_, _<_}
 use mathlib.Core.Bool.{Bool, true, false, _&&_, _||_, not}
 use mathlib.Core.List.{List, [], _∷_, _++_, append-nil}
-use mathlib.Core.Path.{_≡_, refl, sym, ap, ap₂, subst, subst₂, _∙_}
+use mathlib.Core.Path.{_≡_, refl, sym, ap, ap₂, subst, _∙_}
 use native.Mathlib.Numerals.{add-one}
 use native.Mathlib.Omega.{arith}
 use lib.ListN.{length, getD, take, drop, set, length-set, drop-of-length-le}
-use lib.Seq.{take-suc, length-take-le, take-all, getD-append-add, getD-drop, set-getD}
-use Rattle.ground.proofs.Alike.{eq-alike}
+use lib.Seq.{take-suc, length-take-le, take-all, getD-append-add, getD-drop}
 use Rattle.ground.proofs.Pieces.{fill-one}
 use Rattle.ground.specs.Alike.{alike}
 use Rattle.refusals.specs.Refusal.{code}
 use Rattle.refusals.specs.declared.Check.{Check}
 use Rattle.pass.proofs.Calls.{calls-at, calls-length}
-use Rattle.votes.proofs.Passes.{pass-more, answers-more, pass-up}
-use Rattle.pass.proofs.Waiting.{pass-settles}
+use Rattle.votes.proofs.Passes.{pass-more, answers-more}
 use Rattle.pass.specs.Calls.{calls, callAt}
-use Rattle.pass.specs.Inner.{answersFrom, After, Passed, Settled, Told}
-use Rattle.votes.proofs.AnyVote.{spends}
+use Rattle.pass.specs.Inner.{answersFrom, After, Passed}
 use Rattle.votes.specs.Call.{Call, call}
 use Rattle.votes.specs.Inner.{Lawful, Works, quiet}
 use Rattle.votes.specs.Passes.{pass}
@@ -36,10 +33,6 @@ and-assoc false b c = refl
 and-t : (a : Bool) → a && true ≡ a
 and-t true = refl
 and-t false = refl
-
-or-f : (a : Bool) → a ≡ a || false
-or-f true = refl
-or-f false = refl
 
 not-and : (a b : Bool) → not a || not b ≡ not (a && b)
 not-and true b = refl
@@ -116,20 +109,6 @@ module _ {X : Vote} (L : Lawful X) where
         ap (λ (l : List ℕ). getD l j 0) (A .answers) ∙ ap (λ (k : ℕ). getD (p ++ drop i out₀) k 0) (sym at)
         ∙ getD-append-add p (drop i out₀) (j - i) 0 ∙ getD-drop i out₀ (j - i) 0 ∙ ap (λ (k : ℕ). getD out₀ k 0) up
 
-    -- a settled call can be passed over
-    pub after-skip : (i : ℕ) {s out : List ℕ} {changed : Bool} → X .Sound s₀ → Told X list s₀ out₀ → After X list s₀ out₀ i changed s out →
-        i < length out₀ → (getD out₀ i 0 ≡ 15 → ⊥) → After X list s₀ out₀ (i + 1) changed s out
-    after-skip i {s} {out} {changed} S T A h w =
-        let c = callAt list i in
-        let Z = T .settled i h w in
-        let b : X .Below s₀ s = subst (X .Below s₀) (sym (A .state)) (pass-up (step X) alike (spends X L) (take i (calls list)) s₀ S) in
-        let e : s ≡ step X c s = sym (Z .still b (A .sound)) in
-        let kept : set out i (code (X .answer c s)) ≡ out =
-        ap (set out i) (Z .answers-so b (A .sound) ∙ sym (after-byte i i A (omega arith))) ∙ set-getD out i 0 in
-        subst (After X list s₀ out₀ (i + 1) changed s) kept
-        (after-more i (code (X .answer c s)) changed s out A h
-        (record { answers-so = refl; changes = sym (ap not (eq-alike s (step X c s) e)); state = e }) refl (or-f changed))
-
     pub after-all : (i : ℕ) (s out : List ℕ) {changed : Bool} → After X list s₀ out₀ i changed s out → length out₀ ≤ i →
         Passed X (calls list) s₀ changed s out
     after-all i s out A h =
@@ -144,14 +123,3 @@ module _ {X : Vote} (L : Lawful X) where
   pub passed-long : (list : List ℕ) (k : ℕ) {s s₁ out : List ℕ} {changed : Bool} → length list ≡ 4 * k → Passed X (calls list) s changed s₁ out →
       length out ≡ k
   passed-long list k {s} h Z = ap length (Z .answers) ∙ length-answers X (calls list) s ∙ calls-length list k h
-
-  -- after a pass each call waits or is settled
-  pub passed-told : (list : List ℕ) (k : ℕ) {s s₁ out : List ℕ} {changed : Bool} → length list ≡ 4 * k → X .Sound s →
-      Passed X (calls list) s changed s₁ out → Told X list s₁ out
-  passed-told list k {s} h S Z = subst₂ (Told X list) (sym (Z .state)) (sym (Z .answers)) (record {
-    settled = λ i l w.
-        let few : i < length (calls list) = omega (arith, l, length-answers X (calls list) s) in
-        subst (λ (c : Call). Settled X c (getD (answersFrom X (calls list) s) i 0) (pass (step X) (calls list) s))
-        (calls-at list i (callAt list i) (omega (arith, h, few, calls-length list k h)))
-        (pass-settles L (calls list) s S i (callAt list i) few w);
-  })

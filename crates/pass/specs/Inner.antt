@@ -1,25 +1,16 @@
 -- What the loops over the calls of one pass carry, of any vote.
-use Prim.Native.Nat.{ℕ, _*_, _≤_, _<_}
+use Prim.Native.Nat.{ℕ, _≤_}
 use mathlib.Core.Bool.{Bool, not}
 use mathlib.Core.List.{List, _++_}
 use mathlib.Core.Path.{_≡_}
-use lib.Dec.{eqb}
-use lib.ListN.{length, getD, take, drop, set}
+use lib.ListN.{length, take, drop}
 use Rattle.ground.specs.Alike.{alike}
-use Rattle.pass.specs.Calls.{calls, callAt}
+use Rattle.pass.specs.Calls.{calls}
 use Rattle.refusals.specs.Refusal.{code}
 use Rattle.votes.specs.Call.{Call}
-use Rattle.votes.specs.Inner.{quiet, Works}
+use Rattle.votes.specs.Inner.{quiet}
 use Rattle.votes.specs.Passes.{pass, answersOf}
 use Rattle.votes.specs.Vote.{Vote, step}
-
--- of w the numbers from a on and before b are the places from p on and before q where the answer byte is 15, in order
-pub record Listed (out : List ℕ) (p q : ℕ) (w : List ℕ) (a b : ℕ) : Type 0 where
-  pub from : (k : ℕ) → a ≤ k → k < b → p ≤ getD w k 0
-  pub below : (k : ℕ) → a ≤ k → k < b → getD w k 0 < q
-  pub waits : (k : ℕ) → a ≤ k → k < b → getD out (getD w k 0) 0 ≡ 15
-  pub rises : (j k : ℕ) → a ≤ j → j < k → k < b → getD w j 0 < getD w k 0
-  pub all : (i : ℕ) → p ≤ i → i < q → getD out i 0 ≡ 15 → (k : ℕ) × (a ≤ k) × (k < b) × (getD w k 0 ≡ i)
 
 module _ (X : Vote) where
   -- the answers of a pass
@@ -40,42 +31,3 @@ module _ (X : Vote) where
     pub state : s ≡ pass (step X) l s₀
     pub answers : out ≡ answersFrom l s₀
     pub flag : changed ≡ not (quiet (step X) alike l s₀)
-
-  -- a call that waits for nothing: it answers with this byte and changes nothing, in this state and in each later one
-  pub record Settled (c : Call) (a : ℕ) (s : List ℕ) : Type 0 where
-    pub answers-so : {t : List ℕ} → X .Below s t → X .Sound t → code (X .answer c t) ≡ a
-    pub still : {t : List ℕ} → X .Below s t → X .Sound t → step X c t ≡ t
-
-  -- each call of the list is settled with its answer byte, or waits: its byte is 15
-  pub record Told (list s out : List ℕ) : Type 0 where
-    pub settled : (i : ℕ) → i < length out → (getD out i 0 ≡ 15 → ⊥) → Settled (callAt list i) (getD out i 0) s
-
-  -- one call again, that has waited: its byte is written, and whether it waits still
-  pub record Again (c : Call) (i : ℕ) (s out : List ℕ) (changed waits : Bool) (s₁ out₁ : List ℕ) : Type 0 where
-    pub works : Works X c s (X .answer c s) changed s₁
-    pub byte : out₁ ≡ set out i (code (X .answer c s))
-    pub waits-so : waits ≡ eqb (code (X .answer c s)) 15
-
-  -- amid a later pass that began with the state s₀ and the bytes out₀: the first k of the calls that wait are behind it, and `left` of them wait still
-  pub record Amid (list s₀ out₀ : List ℕ) (count k left : ℕ) (changed : Bool) (s out w : List ℕ) : Type 0 where
-    pub at : ℕ
-    pub after : After list s₀ out₀ at changed s out
-    pub kept : Listed out 0 at w 0 left
-    pub rest : Listed out₀ at (length out₀) w k count
-    pub few : left ≤ k
-    pub within : k ≤ count
-
-  -- what a later pass starts from: each call is settled or waits, and the first `count` of w are those that wait
-  pub record Waiting (list s out : List ℕ) (count : ℕ) (w : List ℕ) : Type 0 where
-    pub fits : length list ≡ 4 * length out
-    pub short : length out ≤ 4096
-    pub sound : X .Sound s
-    pub told : Told list s out
-    pub listed : Listed out 0 (length out) w 0 count
-    pub few : count ≤ length w
-
-  -- and what it leaves: a whole pass, after which `left` wait
-  pub record PassedAgain (l : List Call) (s₀ : List ℕ) (count : ℕ) (changed : Bool) (left : ℕ) (s out w : List ℕ) : Type 0 where
-    pub passed : Passed l s₀ changed s out
-    pub listed : Listed out 0 (length out) w 0 left
-    pub fewer : left ≤ count

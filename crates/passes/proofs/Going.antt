@@ -12,9 +12,11 @@ use borrow.Author.Tests.{not-true, not-false}
 use Rattle.ground.proofs.Logic.{clash}
 use Rattle.ground.specs.Alike.{alike}
 use Rattle.pass.proofs.Calls.{calls-length}
-use Rattle.pass.proofs.Turns.{passed-told}
+use Rattle.pass_again.proofs.Settled.{passed-told}
 use Rattle.pass.specs.Calls.{calls}
-use Rattle.pass.specs.Inner.{answersFrom, Listed, Passed, PassedAgain}
+use Rattle.pass.specs.Inner.{answersFrom, Passed}
+use Rattle.waiting.specs.Inner.{Listed}
+use Rattle.pass_again.specs.Inner.{PassedAgain}
 use Rattle.refusals.specs.Refusal.{code}
 use Rattle.passes.specs.Inner.{Going, Begun, Between, Whole}
 use Rattle.votes.proofs.AnyVote.{spends}

@@ -4,7 +4,7 @@ use mathlib.Core.List.{List}
 use mathlib.Core.Path.{_≡_}
 use lib.ListN.{length}
 use Rattle.pass.specs.Calls.{calls}
-use Rattle.pass.specs.Inner.{Told, Waiting}
+use Rattle.pass_again.specs.Inner.{Told, Waiting}
 use Rattle.votes.specs.Call.{Call}
 use Rattle.votes.specs.Passes.{iter}
 use Rattle.votes.specs.Vote.{Vote, fresh, step, runOf}

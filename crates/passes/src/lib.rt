@@ -21,10 +21,19 @@ fn run_on(
     requires { ⌜ Begun (voteOf (now table) n faulty) (now list) (now state) (now answers) (now waiting) ⌝ }
     ensures { λ r. ⌜ Whole (voteOf (now (table .entry)) n faulty) (calls (now (list .entry))) r (now (state .exit)) (now (answers .exit)) ⌝ }
 {
-    let mut count = pass::gather(answers, waiting);
+    let mut count = waiting::gather(answers, waiting);
     let mut passes = 1u64;
     loop {
-        let round = pass::over_waiting(table, n, faulty, list, state, answers, waiting, count);
+        let round = pass_again::over_waiting(
+            table,
+            n,
+            faulty,
+            list,
+            state,
+            answers,
+            waiting,
+            count,
+        );
         passes += 1;
         if !round.changed {
             return passes;

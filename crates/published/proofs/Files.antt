@@ -11,9 +11,9 @@ use lib.ListN.{length, length-append}
 use Rattle.check_text.specs.Table.{sitesOn, tableOn, imageCheck}
 use Rattle.ground.proofs.Logic.{cases, and-l, and-r, and-i, clash, is-false, not-t}
 use Rattle.ground.specs.Pieces.{part}
-use Rattle.image.proofs.Load.{loads-site}
+use Rattle.image_blocks.proofs.Load.{loads-site}
 use Rattle.image.proofs.ReadLaws.{read-taken, blocks-shape, loads-table}
-use Rattle.image.specs.Image.{loads}
+use Rattle.image_blocks.specs.Image.{loads}
 use Rattle.image.specs.Read.{read}
 use Rattle.image.specs.declared.Reading as Reading
 use Rattle.lines.proofs.Lengths.{length-line}
@@ -35,10 +35,11 @@ use Rattle.sets.specs.Quorum.{largest, rounds}
 use Rattle.sets.specs.Slices.{fbqsOf, slicesOf}
 use Rattle.site_block.proofs.Load.{load-count, load-slice}
 use Rattle.site_block.specs.Block.{countField, sliceField}
+use Rattle.rows.specs.Site.{count, slice}
 use Rattle.table.proofs.Exact.{exact}
 use Rattle.table.proofs.SetCheck.{set-sound}
 use Rattle.table.proofs.Table.{sites-of}
-use Rattle.table.specs.Table.{count, slice, countOf, sliceOf, sites, Table}
+use Rattle.table.specs.Table.{countOf, sliceOf, sites, Table}
 use Rattle.text.specs.Text.{ascii, decimal}
 use Rattle.verdict_text.specs.Verdict.{judgedText, verdictText}
 use Rattle.verdicts.proofs.Decides.{table-verdicts}

@@ -13,7 +13,7 @@ use Rattle.check_text.specs.Table.{imageCheck}
 use Rattle.ground.proofs.Logic.{clash}
 use Rattle.ground.specs.Pieces.{part}
 use Rattle.image.proofs.ReadLaws.{blocks-shape, loads-table, some-quorum}
-use Rattle.image.specs.Image.{imageMisshapen, blocksCheck, loads}
+use Rattle.image_blocks.specs.Image.{imageMisshapen, blocksCheck, loads}
 use Rattle.image.specs.Read.{read, readCheck, quorumless, toReading}
 use Rattle.image.specs.declared.Reading as Reading
 use Rattle.masks.specs.Mask.{within, allBelow}
@@ -27,9 +27,10 @@ use Rattle.refusals.specs.declared.Refusal as Refusals
 use Rattle.rules.specs.State.{width}
 use Rattle.run.specs.Run.{runCheck, roomless, listMisshapen}
 use Rattle.site_block.specs.Block.{countField, sliceField, misheaded, blockUnfilled, blockCheck}
+use Rattle.rows.specs.Row.{strange, unordered, sliceCheck, rowCheck}
+use Rattle.rows.specs.Site.{count, slice, rowUnfilled, siteCheck}
 use Rattle.table.proofs.SetCheck.{set-table}
-use Rattle.table.specs.Row.{strange, unordered, sliceCheck, rowCheck}
-use Rattle.table.specs.Table.{count, slice, siteOf, sites, tableMisshapen, rowUnfilled, check, setCheck, sitesCheck, siteCheck}
+use Rattle.table.specs.Table.{siteOf, sites, tableMisshapen, check, setCheck, sitesCheck}
 use Rattle.published.specs.Files.{SevenNever, NineNever}
 
 -- a check whose refusals have other numbers than k

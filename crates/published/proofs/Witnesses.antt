@@ -11,10 +11,10 @@ use lib.Seq.{take-at}
 use Rattle.check_text.specs.Table.{tableOn, imageCheck}
 use Rattle.ground.proofs.Logic.{and-l, and-r}
 use Rattle.ground.specs.Search.{some, every, least}
-use Rattle.image.proofs.Load.{length-loads}
+use Rattle.image_blocks.proofs.Load.{length-loads}
 use Rattle.image.proofs.ReadLaws.{read-taken}
 use Rattle.image.proofs.RoundTrip.{write-then-read}
-use Rattle.image.specs.Image.{loads}
+use Rattle.image_blocks.specs.Image.{loads}
 use Rattle.image.specs.Read.{read, readInto, readCheck, toReading}
 use Rattle.image.specs.RoundTrip.{Words}
 use Rattle.image.specs.Write.{write, writeCheck}
@@ -37,8 +37,9 @@ use Rattle.run.specs.Theorems.{Taken}
 use Rattle.sets.specs.Promises.{questionsOf}
 use Rattle.sets.specs.Quorum as Quorum
 use Rattle.sets.specs.Slices.{slicesOf}
-use Rattle.table.specs.Row.{strange, unordered, sliceCheck, rowCheck}
-use Rattle.table.specs.Table.{tableMisshapen, rowUnfilled, siteCheck, sitesCheck, check, setCheck}
+use Rattle.rows.specs.Row.{strange, unordered, sliceCheck, rowCheck}
+use Rattle.rows.specs.Site.{rowUnfilled, siteCheck}
+use Rattle.table.specs.Table.{tableMisshapen, sitesCheck, check, setCheck}
 use Rattle.verdicts.specs.Verdicts as Verdicts
 use Rattle.votes.specs.Passes.{passes, run}
 use Rattle.votes.specs.Vote.{fresh, runOf}

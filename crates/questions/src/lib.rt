@@ -57,7 +57,7 @@ pub fn largest(table: &[u64], set: u64) -> Greatest
         return Greatest::Refused(r);
     }
     let n = table.len() / 63;
-    let l = sets::largest(table, n, set);
+    let l = rounds::largest(table, n, set);
     Greatest::Set {
         set: l.set,
         rounds: l.rounds,

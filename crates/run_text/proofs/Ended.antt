@@ -5,11 +5,11 @@ use mathlib.Core.Path.{_≡_, refl, sym, ap, _∙_}
 use native.Mathlib.Omega.{arith}
 use lib.ListN.{length, drop, take, length-append, length-drop}
 use lib.Seq.{take-at}
-use Rattle.image.proofs.Load.{loads-front}
-use Rattle.image.specs.Image.{loads}
+use Rattle.image_blocks.proofs.Load.{loads-front}
+use Rattle.image_blocks.specs.Image.{loads}
 use Rattle.image.specs.Read.{read, readInto}
 use Rattle.image.specs.declared.Reading.{Reading}
-use Rattle.lines.specs.Lines.{explained}
+use Rattle.refusal_lines.specs.Refused.{explained}
 use Rattle.refusals.specs.declared.Check.{Check}
 use Rattle.refusals.specs.declared.Check.the-variants.{Sound, Refused}
 use Rattle.refusals.specs.declared.Refusal.{Refusal}

@@ -2,7 +2,7 @@
 use Prim.Native.Nat.{ℕ}
 use mathlib.Core.List.{List}
 use lib.ListN.{length}
-use Rattle.lines.specs.Lines.{explained}
+use Rattle.refusal_lines.specs.Refused.{explained}
 use Rattle.outcome.specs.Outcome.{endLines}
 use Rattle.check_text.specs.Table.{tableOn, imageCheck, unless}
 use Rattle.run.specs.Run.{runCheck, theRun}

@@ -20,7 +20,7 @@ fn run_read(table: &[u64], n: usize, faulty: u64, list: &[u8], room: &mut [u8]) 
     let mut answers = [0u8; 4096];
     let ran = run::run(table, faulty, list, &mut state, &mut answers);
     match ran {
-        Ran::Refused(r) => lines::put_explained(room, 0, r),
+        Ran::Refused(r) => refusal_lines::put_explained(room, 0, r),
         Ran::Passes(passes) => {
             let end = places::width(n);
             outcome::put_run(
@@ -47,6 +47,6 @@ pub fn run(faulty: u64, image: &[u8], list: &[u8], room: &mut [u8; ROOM]) -> usi
             let n = n as usize;
             run_read(&table[..63 * n], n, faulty, list, room)
         }
-        Reading::Refused(r) => lines::put_explained(room, 0, r),
+        Reading::Refused(r) => refusal_lines::put_explained(room, 0, r),
     }
 }

@@ -10,14 +10,6 @@ use Rattle.said.proofs.reading.Kinds as reading-kinds
 use Rattle.said.proofs.reading.Reads as reading-reads
 use Rattle.said.proofs.writing.Kinds as writing-kinds
 use Rattle.said.proofs.writing.Reads as writing-reads
-use Rattle.said.proofs.holds.Kinds as holds-kinds
-use Rattle.said.proofs.holds.Reads as holds-reads
-use Rattle.said.proofs.greatest.Kinds as greatest-kinds
-use Rattle.said.proofs.greatest.Reads as greatest-reads
-use Rattle.said.proofs.sharing.Kinds as sharing-kinds
-use Rattle.said.proofs.sharing.Reads as sharing-reads
-use Rattle.said.proofs.standing.Kinds as standing-kinds
-use Rattle.said.proofs.standing.Reads as standing-reads
 use Rattle.said.proofs.stepped.Kinds as stepped-kinds
 use Rattle.said.proofs.stepped.Reads as stepped-reads
 use Rattle.said.proofs.ran.Kinds as ran-kinds
@@ -31,18 +23,6 @@ reading-coincide κs a x y s t p q = (p .0 ∙ sym (q .0), p .1 ∙ sym (q .1))
 
 pub writing-coincide : All writing-kinds.ps writing-kinds.r (List ℕ) (λ κs s. now (s .1 .0)) writing-reads.Post
 writing-coincide κs a x y s t p q = (p .0 ∙ sym (q .0), p .1 ∙ sym (q .1))
-
-pub holds-coincide : All holds-kinds.ps holds-kinds.r (List ℕ) (λ κs s. now (s .1 .0)) holds-reads.Post
-holds-coincide κs a x y s t p q = (p .0 ∙ sym (q .0), p .1 ∙ sym (q .1))
-
-pub greatest-coincide : All greatest-kinds.ps greatest-kinds.r (List ℕ) (λ κs s. now (s .1 .0)) greatest-reads.Post
-greatest-coincide κs a x y s t p q = (p .0 ∙ sym (q .0), p .1 ∙ sym (q .1))
-
-pub sharing-coincide : All sharing-kinds.ps sharing-kinds.r (List ℕ) (λ κs s. now (s .1 .0)) sharing-reads.Post
-sharing-coincide κs a x y s t p q = (p .0 ∙ sym (q .0), p .1 ∙ sym (q .1))
-
-pub standing-coincide : All standing-kinds.ps standing-kinds.r (List ℕ) (λ κs s. now (s .1 .0)) standing-reads.Post
-standing-coincide κs a x y s t p q = (p .0 ∙ sym (q .0), p .1 ∙ sym (q .1))
 
 pub stepped-coincide : All stepped-kinds.ps stepped-kinds.r (List ℕ) (λ κs s. now (s .1 .0)) stepped-reads.Post
 stepped-coincide κs a x y s t p q = (p .0 ∙ sym (q .0), p .1 ∙ sym (q .1))

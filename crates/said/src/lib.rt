@@ -1,42 +1,19 @@
-// An answer of the library as a call says it: its number is answered, and its place and values are written to the four numbers of `out`.
+// An answer of the library as a call says it, but for those about sets: its number is answered, and its place and values are written to `out`.
 ghost use mathlib.Core.Path.{_≡_};
-ghost use Rattle.said.specs.Said.{told, given, ofCheck, ofReading, ofWriting, ofHolds, ofGreatest, ofSharing, ofStanding, ofStepped, ofRan};
+ghost use Rattle.said.specs.Said.{ofCheck, ofReading, ofWriting, ofStepped, ofRan};
 use image::Reading;
 use image::Writing;
-use questions::Greatest;
-use questions::Holds;
-use questions::Sharing;
-use questions::Standing;
 use refusals::Check;
-use refusals::Refusal;
 use run::Ran;
 use voting::Stepped;
-
-// No refusal, and up to three values.
-fn give(out: &mut [u64; 4], a: u64, b: u64, c: u64) -> u64
-    ensures answer { λ r. ⌜ r ≡ given a b c .number ⌝ }
-    ensures memory { λ r. ⌜ now (out .exit) ≡ given a b c .out ⌝ }
-{
-    *out = [0, a, b, c];
-    0
-}
-
-// A refusal: its number, its place, and no values.
-fn refuse(out: &mut [u64; 4], x: Refusal) -> u64
-    ensures answer { λ r. ⌜ r ≡ told x .number ⌝ }
-    ensures memory { λ r. ⌜ now (out .exit) ≡ told x .out ⌝ }
-{
-    *out = [refusals::place(x), 0, 0, 0];
-    refusals::number(x)
-}
 
 pub fn check(answer: Check, out: &mut [u64; 4]) -> u64
     ensures answer { λ r. ⌜ r ≡ ofCheck answer .number ⌝ }
     ensures memory { λ r. ⌜ now (out .exit) ≡ ofCheck answer .out ⌝ }
 {
     match answer {
-        Check::Sound => give(out, 0, 0, 0),
-        Check::Refused(r) => refuse(out, r),
+        Check::Sound => telling::give(out, 0, 0, 0),
+        Check::Refused(r) => telling::refuse(out, r),
     }
 }
 
@@ -45,8 +22,8 @@ pub fn reading(answer: Reading, out: &mut [u64; 4]) -> u64
     ensures memory { λ r. ⌜ now (out .exit) ≡ ofReading answer .out ⌝ }
 {
     match answer {
-        Reading::Sites(n) => give(out, n, 0, 0),
-        Reading::Refused(r) => refuse(out, r),
+        Reading::Sites(n) => telling::give(out, n, 0, 0),
+        Reading::Refused(r) => telling::refuse(out, r),
     }
 }
 
@@ -55,50 +32,8 @@ pub fn writing(answer: Writing, out: &mut [u64; 4]) -> u64
     ensures memory { λ r. ⌜ now (out .exit) ≡ ofWriting answer .out ⌝ }
 {
     match answer {
-        Writing::Sites(n) => give(out, n, 0, 0),
-        Writing::Refused(r) => refuse(out, r),
-    }
-}
-
-pub fn holds(answer: Holds, out: &mut [u64; 4]) -> u64
-    ensures answer { λ r. ⌜ r ≡ ofHolds answer .number ⌝ }
-    ensures memory { λ r. ⌜ now (out .exit) ≡ ofHolds answer .out ⌝ }
-{
-    match answer {
-        Holds::Yes => give(out, 1, 0, 0),
-        Holds::No => give(out, 0, 0, 0),
-        Holds::Refused(r) => refuse(out, r),
-    }
-}
-
-pub fn greatest(answer: Greatest, out: &mut [u64; 4]) -> u64
-    ensures answer { λ r. ⌜ r ≡ ofGreatest answer .number ⌝ }
-    ensures memory { λ r. ⌜ now (out .exit) ≡ ofGreatest answer .out ⌝ }
-{
-    match answer {
-        Greatest::Set { set, rounds } => give(out, set, rounds, 0),
-        Greatest::Refused(r) => refuse(out, r),
-    }
-}
-
-pub fn sharing(answer: Sharing, out: &mut [u64; 4]) -> u64
-    ensures answer { λ r. ⌜ r ≡ ofSharing answer .number ⌝ }
-    ensures memory { λ r. ⌜ now (out .exit) ≡ ofSharing answer .out ⌝ }
-{
-    match answer {
-        Sharing::Meet => give(out, 1, 0, 0),
-        Sharing::Apart { first, second } => give(out, 0, first, second),
-        Sharing::Refused(r) => refuse(out, r),
-    }
-}
-
-pub fn standing(answer: Standing, out: &mut [u64; 4]) -> u64
-    ensures answer { λ r. ⌜ r ≡ ofStanding answer .number ⌝ }
-    ensures memory { λ r. ⌜ now (out .exit) ≡ ofStanding answer .out ⌝ }
-{
-    match answer {
-        Standing::Intact(set) => give(out, set, 0, 0),
-        Standing::Refused(r) => refuse(out, r),
+        Writing::Sites(n) => telling::give(out, n, 0, 0),
+        Writing::Refused(r) => telling::refuse(out, r),
     }
 }
 
@@ -107,8 +42,8 @@ pub fn stepped(answer: Stepped, out: &mut [u64; 4]) -> u64
     ensures memory { λ r. ⌜ now (out .exit) ≡ ofStepped answer .out ⌝ }
 {
     match answer {
-        Stepped::Taken => give(out, 0, 0, 0),
-        Stepped::Refused(r) => refuse(out, r),
+        Stepped::Taken => telling::give(out, 0, 0, 0),
+        Stepped::Refused(r) => telling::refuse(out, r),
     }
 }
 
@@ -117,7 +52,7 @@ pub fn ran(answer: Ran, out: &mut [u64; 4]) -> u64
     ensures memory { λ r. ⌜ now (out .exit) ≡ ofRan answer .out ⌝ }
 {
     match answer {
-        Ran::Passes(passes) => give(out, passes, 0, 0),
-        Ran::Refused(r) => refuse(out, r),
+        Ran::Passes(passes) => telling::give(out, passes, 0, 0),
+        Ran::Refused(r) => telling::refuse(out, r),
     }
 }

@@ -5,6 +5,4 @@ pub mod Decides
 pub mod Promises
 pub mod Without
 pub mod WholeQuorum
-pub mod Rounds
-pub mod Places
 pub mod Coincide

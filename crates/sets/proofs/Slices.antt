@@ -10,7 +10,7 @@ use lib.Dec.{eqb, ltb}
 use lib.ListN.{getD, take, drop-of-length-le}
 use borrow.Author.Tests.{not-false, ltb-true, ltb-false, eqb-true, eqb-false}
 use Rattle.ground.proofs.Every.{every-at, every-fails}
-use Rattle.ground.proofs.Logic.{and-l, cases, clash, not-t}
+use Rattle.ground.proofs.Logic.{and-l, cases, clash, is-false, not-t}
 use Rattle.ground.proofs.Some.{some-of, some-ex}
 use Rattle.ground.specs.Search.{some}
 use Rattle.masks.proofs.Laws.Members.{has-zero}
@@ -62,6 +62,14 @@ module _ (t : List ℕ) where
   unblocked-misses v w e =
       let r = every-fails (countOf t v) (λ i. not (eqb (bitAnd (sliceOf t v i) w) 0)) e in
       (r .0, r .1, eqb-true (bitAnd (sliceOf t v (r .0)) w) 0 (not-false (eqb (bitAnd (sliceOf t v (r .0)) w) 0) (r .2)))
+
+-- site v of the table t, and a set u: a slice is found inside, or none is
+module _ (t : List ℕ) (v u : ℕ) where
+  pub inside-found : (i : ℕ) → i < countOf t v → within (sliceOf t v i) u ≡ true → slicesOf t .inside v u ≡ true
+  inside-found i l h = inside-of t v i l (within-⊆ (sliceOf t v i) u h)
+
+  pub inside-missed : ((i : ℕ) → i < countOf t v → within (sliceOf t v i) u ≡ false) → slicesOf t .inside v u ≡ false
+  inside-missed f = is-false (slicesOf t .inside v u) (λ h. let r = inside-ex t v u h in clash (⊆-within (r .2)) (f (r .0) (r .1)))
 
 -- of a checked table
 

@@ -3,4 +3,3 @@ pub mod Slices
 pub mod Quorum
 pub mod Promises
 pub mod Decides
-pub mod Inner

@@ -16,10 +16,10 @@ use Rattle.le.proofs.Laws.{field-zeros, zeros-field}
 use Rattle.refusals.proofs.First.{missed, passed}
 use Rattle.refusals.specs.declared.Check.the-variants.{Sound, Refused}
 use Rattle.refusals.specs.declared.Refusal.the-variants.{Sums, Header}
-use Rattle.table.proofs.Row.{row-alike}
-use Rattle.table.proofs.Table.{zero-above, clean-above}
-use Rattle.table.specs.Row.{rowCheck}
-use Rattle.table.specs.Table.{slice, rowUnfilled, siteCheck}
+use Rattle.rows.proofs.Row.{row-alike}
+use Rattle.rows.proofs.Site.{zero-above, clean-above}
+use Rattle.rows.specs.Row.{rowCheck}
+use Rattle.rows.specs.Site.{slice, rowUnfilled, siteCheck}
 
 -- filler: the bytes behind the last slice are 0 exactly if the unused places are
 module _ (b : List ℕ) (l : countField b ≤ 62) where

@@ -8,7 +8,7 @@ use lib.Seq.{drop-length}
 use Rattle.ground.proofs.Pieces.{fill-one, cat-more, length-cat, cat-at}
 use Rattle.ground.specs.Pieces.{cat}
 use Rattle.site_block.specs.Block.{countField, sliceField, load}
-use Rattle.table.specs.Table.{count, slice}
+use Rattle.rows.specs.Site.{count, slice}
 
 -- the count and the first k places of a block
 unfoldable pub loadTo : List ℕ → ℕ → List ℕ

@@ -16,7 +16,7 @@ use Rattle.site_block.proofs.Load.{load-count, load-slice}
 use Rattle.site_block.proofs.Store.{length-body}
 use Rattle.le.proofs.Laws.{number-digits, digits-field, field-front, field-at}
 use Rattle.le.specs.Le.{Bytes, digits, field}
-use Rattle.table.specs.Table.{count, slice, siteCheck}
+use Rattle.rows.specs.Site.{count, slice, siteCheck}
 
 -- the fields of a block that was written
 

@@ -11,7 +11,7 @@ use Rattle.ground.proofs.Pieces.{cat-more, length-cat, fill-sets}
 use Rattle.ground.specs.Pieces.{cat}
 use Rattle.site_block.specs.Block.{head, places, body, store}
 use Rattle.le.specs.Le.{digits}
-use Rattle.table.specs.Table.{count, slice}
+use Rattle.rows.specs.Site.{count, slice}
 
 pub head-puts : (d : List ℕ) (i n many : ℕ) → length d ≡ 512
     → sets (sets (sets (sets d 0 (digits 2 i)) 2 (digits 2 n)) 4 (digits 2 many)) 6 (digits 2 0) ≡ head i n many ++ drop 8 d

@@ -11,8 +11,8 @@ use Rattle.le.specs.Le.{digits, field}
 use Rattle.refusals.specs.First.{orElse, refuse}
 use Rattle.refusals.specs.declared.Check.{Check}
 use Rattle.refusals.specs.declared.Refusal.the-variants.{Sums, Header}
-use Rattle.table.specs.Row.{rowCheck}
-use Rattle.table.specs.Table.{count, slice}
+use Rattle.rows.specs.Row.{rowCheck}
+use Rattle.rows.specs.Site.{count, slice}
 
 -- "Bytes 0 to 1 site, 2 to 3 n, 4 to 5 slice count, 6 to 7 zero, then the slices of 8 bytes, zeros up to byte 503."
 abbrev pub siteField : List ℕ → ℕ

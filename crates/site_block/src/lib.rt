@@ -4,7 +4,7 @@ ghost use mathlib.Core.List.{_++_};
 ghost use Prim.Native.Nat.{_≤_, _<_};
 ghost use lib.ListN.{length, take, drop};
 ghost use Rattle.site_block.specs.Block.{load, head, places, store, blockCheck};
-ghost use Rattle.table.specs.Table.{count};
+ghost use Rattle.rows.specs.Site.{count};
 use refusals::Check;
 use refusals::Refusal;
 
@@ -43,7 +43,7 @@ pub fn check_block(b: &[u8], n: u64, i: u64) -> Check
     }
     let mut m = [0u64; 63];
     load_block(b, &mut m);
-    table::check_site(&m, n, i)
+    rows::check_site(&m, n, i)
 }
 
 // Bytes 0 to 7 of a block.

@@ -3,15 +3,10 @@ use mathlib.Core.Path.{sym, _∙_}
 use Rattle.ground.specs.Coincide.{Answers}
 use Rattle.table.proofs.check.Kinds as check-kinds
 use Rattle.table.proofs.check_set.Kinds as check-set-kinds
-use Rattle.table.proofs.check_site.Kinds as check-site-kinds
 use Rattle.table.proofs.check_sites.Kinds as check-sites-kinds
 use Rattle.table.proofs.check.Reads as check-reads
 use Rattle.table.proofs.check_set.Reads as check-set-reads
-use Rattle.table.proofs.check_site.Reads as check-site-reads
 use Rattle.table.proofs.check_sites.Reads as check-sites-reads
-
-pub check-site-coincide : Answers check-site-kinds.ps check-site-kinds.r check-site-reads.Post
-check-site-coincide κs a x y s t p q = p ∙ sym q
 
 pub check-sites-coincide : Answers check-sites-kinds.ps check-sites-kinds.r check-sites-reads.Post
 check-sites-coincide κs a x y s t p q = p ∙ sym q

@@ -7,10 +7,12 @@ use lib.ListN.{length}
 use Rattle.refusals.proofs.First.{first-all, first-sound, missed}
 use Rattle.refusals.specs.declared.Check.the-variants.{Sound}
 use Rattle.refusals.specs.declared.Refusal.the-variants.{Length}
-use Rattle.table.specs.Table.{slice, siteOf, countOf, sites, tableMisshapen, rowUnfilled, siteCheck, sitesCheck, check, Table}
+use Rattle.rows.specs.Site.{slice, rowUnfilled, siteCheck}
+use Rattle.rows.proofs.Row.{Row, row-sound, sound-row}
+use Rattle.rows.proofs.Site.{zero-above, clean-above}
+use Rattle.table.specs.Table.{siteOf, countOf, sites, tableMisshapen, sitesCheck, check, Table}
 use Rattle.table.specs.Theorems.{CheckExact}
-use Rattle.table.proofs.Row.{Row, row-sound, sound-row}
-use Rattle.table.proofs.Table.{well-shaped, shape, sites-of, zero-above, clean-above, right-length}
+use Rattle.table.proofs.Table.{well-shaped, shape, sites-of, right-length}
 
 -- site by site, for a caller that knows n
 pub checked-sites : (t : List ℕ) (n : ℕ) → length t ≡ 63 * n → 1 ≤ n → n ≤ 64 → sitesCheck n t ≡ Sound → Table t n

@@ -1,6 +1,3 @@
-pub mod Examples
-pub mod Order
-pub mod Row
 pub mod Table
 pub mod Exact
 pub mod SetCheck

@@ -1,22 +1,20 @@
--- Laws of the table in memory: where its numbers stand, its length, its unused places, and the ways out of its check.
-use Prim.Native.Nat.{ℕ, _+_, _-_, _*_, _%_, _^_, _≤_, _<_}
+-- Laws of the table in memory: where its numbers stand, its length, and the ways out of its check.
+use Prim.Native.Nat.{ℕ, _+_, _*_, _%_, _^_, _≤_, _<_}
 use mathlib.Core.Bool.{true, false, _||_, not, or-true}
 use mathlib.Core.List.{List}
 use mathlib.Core.Logic.{⊎-elim}
 use mathlib.Core.Path.{_≡_, refl, sym, ap, subst, _∙_}
 use native.Mathlib.Omega.{arith}
-use lib.Bits.{bitOr}
 use lib.Dec.{eqb, ltb}
 use lib.ListN.{length, getD, drop, length-take, length-drop, List·getD-eq-default}
 use lib.Pow.{ones-lt, pow-pos}
 use lib.Seq.{getD-take, getD-drop}
 use borrow.Author.Tests.{eqb-true, eqb-false, eq-eqb, ne-eqb, ltb-true, ltb-false, lt-ltb, le-ltb, not-false}
-use Rattle.ground.proofs.Logic.{or-none, fail-alike, cases}
-use Rattle.ground.proofs.Some.{none-each, each-none}
-use Rattle.masks.proofs.Laws.Subsets.{⊆-le, or-⊆-l, or-⊆-r, below-⊆}
+use Rattle.ground.proofs.Logic.{or-none, cases}
+use Rattle.masks.proofs.Laws.Subsets.{below-⊆}
 use Rattle.refusals.specs.declared.Check.the-variants.{Refused}
 use Rattle.refusals.specs.declared.Refusal.the-variants.{Length}
-use Rattle.table.specs.Table.{count, slice, siteOf, countOf, sliceOf, sites, tableMisshapen, rowUnfilled, sitesCheck, check, Table}
+use Rattle.table.specs.Table.{siteOf, countOf, sliceOf, sites, tableMisshapen, sitesCheck, check, Table}
 
 -- where the numbers of site v stand
 
@@ -58,32 +56,6 @@ module _ (many : ℕ) where
 -- a table has as many sites as its length says
 pub sites-of : {t : List ℕ} {n : ℕ} → Table t n → sites (length t) ≡ n
 sites-of {t} {n} s = let e = s .long in omega arith
-
--- the unused places of a site's 63 numbers
-
-pub some-bit : (a b : ℕ) → not (eqb (bitOr a b) 0) ≡ not (eqb a 0) || not (eqb b 0)
-some-bit a b =
-    fail-alike (not (eqb (bitOr a b) 0)) (not (eqb a 0) || not (eqb b 0))
-    (λ h. let z = eqb-true (bitOr a b) 0 (not-false _ h) in
-    let l = ⊆-le (or-⊆-l a b) in
-    let r = ⊆-le (or-⊆-r a b) in
-    let ea : a ≡ 0 = omega arith in
-    let eb : b ≡ 0 = omega arith in
-    rw (ea, eb) refl)
-    (λ h. let p = or-none (not (eqb a 0)) (not (eqb b 0)) h in
-    rw (eqb-true a 0 (not-false _ (p .0)), eqb-true b 0 (not-false _ (p .1))) refl)
-
-module _ (m : List ℕ) where
-  pub zero-above : rowUnfilled m ≡ false → (i : ℕ) → count m ≤ i → i < 62 → slice m i ≡ 0
-  unfolding rowUnfilled
-  zero-above h i l b =
-      let z = none-each (62 - count m) (λ j. not (eqb (slice m (count m + j)) 0)) (i - count m) h (omega arith) in
-      subst (λ (k : ℕ). slice m k ≡ 0) (omega arith) (eqb-true (slice m (count m + (i - count m))) 0 (not-false _ z))
-
-  pub clean-above : ((i : ℕ) → count m ≤ i → i < 62 → slice m i ≡ 0) → rowUnfilled m ≡ false
-  unfolding rowUnfilled
-  clean-above f =
-      each-none (62 - count m) (λ j. not (eqb (slice m (count m + j)) 0)) (λ j l. ap not (eq-eqb _ 0 (f (count m + j) (omega arith) (omega arith))))
 
 -- the ways out of the check
 

@@ -1,24 +1,16 @@
 -- The table in memory: "a site takes 63 64-bit numbers: the count, then 62 places, unused ones zero."
-use Prim.Native.Nat.{ℕ, suc, _+_, _-_, _*_, _/_, _%_, _≤_, _<_}
+use Prim.Native.Nat.{ℕ, suc, _*_, _/_, _%_, _≤_, _<_}
 use mathlib.Core.Bool.{Bool, _||_, not}
 use mathlib.Core.List.{List}
 use mathlib.Core.Path.{_≡_}
 use lib.Dec.{eqb, ltb}
-use lib.ListN.{length, getD}
+use lib.ListN.{length}
 use Rattle.ground.specs.Pieces.{part}
-use Rattle.ground.specs.Search.{some}
 use Rattle.masks.specs.Mask.{within, allBelow, _∈_, _⊆_}
 use Rattle.refusals.specs.First.{orElse, refuse, first}
 use Rattle.refusals.specs.declared.Check.{Check}
 use Rattle.refusals.specs.declared.Refusal.the-variants.{Length, Set}
-use Rattle.table.specs.Row.{rowCheck}
-
--- of the 63 numbers of a site: the count of its slices, and place i
-abbrev pub count : List ℕ → ℕ
-count m = getD m 0 0
-
-abbrev pub slice : List ℕ → ℕ → ℕ
-slice m i = getD m (1 + i) 0
+use Rattle.rows.specs.Site.{count, slice, siteCheck}
 
 -- the 63 numbers of site v in a table, the count of its slices, and its slice i
 abbrev pub siteOf : List ℕ → ℕ → List ℕ
@@ -37,16 +29,6 @@ sites length = length / 63
 -- 1: "memory table not 63 numbers times 1 to 64"
 unfoldable pub tableMisshapen : ℕ → Bool
 tableMisshapen length = not (eqb (length % 63) 0) || (eqb (sites length) 0 || ltb 64 (sites length))
-
--- an unused place is not zero
-unfoldable pub rowUnfilled : List ℕ → Bool
-unfolding some
-rowUnfilled m = some (62 - count m) (λ j. not (eqb (slice m (count m + j)) 0))
-
--- the 63 numbers m of site v in a table of n sites
-unfoldable pub siteCheck : ℕ → ℕ → List ℕ → Check
-unfolding rowCheck rowUnfilled
-siteCheck n v m = rowCheck n v (count m) (slice m) (rowUnfilled m)
 
 -- site by site, without the length
 unfoldable pub sitesCheck : ℕ → List ℕ → Check

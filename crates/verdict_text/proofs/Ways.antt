@@ -7,12 +7,12 @@ use native.Mathlib.Omega.{arith}
 use lib.ListN.{length, drop, take, length-drop}
 use lib.Seq.{take-all}
 use borrow.Author.Tests.{lt-ltb, le-ltb}
-use Rattle.image.proofs.Load.{loads-front}
-use Rattle.image.specs.Image.{loads}
+use Rattle.image_blocks.proofs.Load.{loads-front}
+use Rattle.image_blocks.specs.Image.{loads}
 use Rattle.image.specs.Read.{read, readInto}
 use Rattle.image.specs.declared.Reading.{Reading}
 use Rattle.le.specs.Le.{field}
-use Rattle.lines.specs.Lines.{refused}
+use Rattle.refusal_lines.specs.Refused.{refused}
 use Rattle.masks.proofs.Laws.Subsets.{minus-⊆, ⊆-within}
 use Rattle.masks.specs.Mask.{allBelow, minus}
 use Rattle.questions.specs.Answers.{sitesOf, verdictCheck, toGreatest, toSharing, toStanding}

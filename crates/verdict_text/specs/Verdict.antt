@@ -5,7 +5,7 @@ use mathlib.Core.List.{List}
 use lib.Dec.{ltb}
 use lib.ListN.{length, drop}
 use Rattle.le.specs.Le.{field}
-use Rattle.lines.specs.Lines.{refused}
+use Rattle.refusal_lines.specs.Refused.{refused}
 use Rattle.masks.specs.Mask.{allBelow, minus}
 use Rattle.questions.specs.Answers.{verdictCheck}
 use Rattle.refusals.specs.declared.Refusal.the-variants.{Length}

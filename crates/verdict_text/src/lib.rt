@@ -36,13 +36,13 @@ fn judge(table: &[u64], sites: u64, faulty: u64, room: &mut [u8]) -> usize
 {
     let standing = questions::intact(table, faulty);
     match standing {
-        Standing::Refused(r) => lines::put_refused(room, 0, r),
+        Standing::Refused(r) => refusal_lines::put_refused(room, 0, r),
         Standing::Intact(intact) => {
             let others = masks::minus(masks::all_below(sites), faulty);
             let shared = questions::shared(table);
             let greatest = questions::largest(table, others);
             match greatest {
-                Greatest::Refused(r) => lines::put_refused(room, 0, r),
+                Greatest::Refused(r) => refusal_lines::put_refused(room, 0, r),
                 Greatest::Set { set, rounds } => verdict_lines::put_verdict(
                     room,
                     faulty,
@@ -66,7 +66,7 @@ pub fn verdict(faulty: u64, image: &[u8], room: &mut [u8; ROOM]) -> usize
     let q = image::read(image, &mut table);
     match q {
         Reading::Sites(n) => judge(&table[..63 * (n as usize)], n, faulty, room),
-        Reading::Refused(r) => lines::put_refused(room, 0, r),
+        Reading::Refused(r) => refusal_lines::put_refused(room, 0, r),
     }
 }
 
@@ -76,10 +76,10 @@ pub fn verdict_on(input: &[u8], room: &mut [u8; ROOM]) -> usize
     ensures counts { λ r. ⌜ Counts r (now (room .exit)) ⌝ }
 {
     if input.len() < 8 {
-        return lines::put_refused(room, 0, Refusal::Length);
+        return refusal_lines::put_refused(room, 0, Refusal::Length);
     }
     if 32776 < input.len() {
-        return lines::put_refused(room, 0, Refusal::Length);
+        return refusal_lines::put_refused(room, 0, Refusal::Length);
     }
     verdict(le::get64(input, 0), &input[8..], room)
 }

@@ -1,7 +1,7 @@
 -- `siren_blocks` meets its contract: it says what the library answers.
 use borrow.Author.Needs.{needs}
-use Rattle.said.specs.Said.{ofHolds}
-use Rattle.said.proofs.Laws.{said}
+use Rattle.said_sets.specs.Said.{ofHolds}
+use Rattle.telling.proofs.Laws.{said}
 use Rattle.capi.proofs.siren_blocks.Statement.{statement}
 use Rattle.capi.proofs.siren_blocks.Tie as tie
 

@@ -4,7 +4,7 @@ use mathlib.Core.Path.{ap, _∙_}
 use denote.Ref.{now}
 use Rattle.said.specs.Said.{ofReading}
 use Rattle.image.specs.Read.{readInto}
-use Rattle.said.proofs.Laws.{said}
+use Rattle.telling.proofs.Laws.{said}
 use Rattle.capi.proofs.siren_image_read.Statement.{statement}
 use Rattle.capi.proofs.siren_image_read.Tie as tie
 

@@ -1,7 +1,7 @@
 -- `siren_intact` meets its contract: it says what the library answers.
 use borrow.Author.Needs.{needs}
-use Rattle.said.specs.Said.{ofStanding}
-use Rattle.said.proofs.Laws.{said}
+use Rattle.said_sets.specs.Said.{ofStanding}
+use Rattle.telling.proofs.Laws.{said}
 use Rattle.capi.proofs.siren_intact.Statement.{statement}
 use Rattle.capi.proofs.siren_intact.Tie as tie
 

@@ -1,7 +1,7 @@
 -- `siren_largest` meets its contract: it says what the library answers.
 use borrow.Author.Needs.{needs}
-use Rattle.said.specs.Said.{ofGreatest}
-use Rattle.said.proofs.Laws.{said}
+use Rattle.said_sets.specs.Said.{ofGreatest}
+use Rattle.telling.proofs.Laws.{said}
 use Rattle.capi.proofs.siren_largest.Statement.{statement}
 use Rattle.capi.proofs.siren_largest.Tie as tie
 

@@ -1,7 +1,7 @@
 -- `siren_shared` meets its contract: it says what the library answers.
 use borrow.Author.Needs.{needs}
-use Rattle.said.specs.Said.{ofSharing}
-use Rattle.said.proofs.Laws.{said}
+use Rattle.said_sets.specs.Said.{ofSharing}
+use Rattle.telling.proofs.Laws.{said}
 use Rattle.capi.proofs.siren_shared.Statement.{statement}
 use Rattle.capi.proofs.siren_shared.Tie as tie
 

@@ -1,7 +1,7 @@
 -- `siren_sound` meets its contract: it says what the library answers.
 use borrow.Author.Needs.{needs}
 use Rattle.said.specs.Said.{ofCheck}
-use Rattle.said.proofs.Laws.{said}
+use Rattle.telling.proofs.Laws.{said}
 use Rattle.capi.proofs.siren_sound.Statement.{statement}
 use Rattle.capi.proofs.siren_sound.Tie as tie
 

@@ -1,7 +1,7 @@
 -- `siren_table_check` meets its contract: it says what the library answers.
 use borrow.Author.Needs.{needs}
 use Rattle.said.specs.Said.{ofCheck}
-use Rattle.said.proofs.Laws.{said}
+use Rattle.telling.proofs.Laws.{said}
 use Rattle.capi.proofs.siren_table_check.Statement.{statement}
 use Rattle.capi.proofs.siren_table_check.Tie as tie
 

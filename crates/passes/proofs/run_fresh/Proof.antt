@@ -7,7 +7,8 @@ use borrow.Author.Tests.{not-true, not-false}
 use denote.Ref.{now}
 use lib.ListN.{length, replicate, length-replicate}
 use Rattle.pass.proofs.Lawful.{lawful}
-use Rattle.pass.proofs.Turns.{passed-long, passed-told}
+use Rattle.pass.proofs.Turns.{passed-long}
+use Rattle.pass_again.proofs.Settled.{passed-told}
 use Rattle.pass.specs.Calls.{calls}
 use Rattle.passes.proofs.Going.{going-none, going-more, going-done}
 use Rattle.passes.proofs.run_fresh.Statement.{statement}

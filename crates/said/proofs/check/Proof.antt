@@ -2,7 +2,7 @@
 use borrow.Author.Needs.{needs}
 use mathlib.Core.Path.{sym}
 use Rattle.said.specs.Said.{ofCheck}
-use Rattle.said.proofs.Laws.{said}
+use Rattle.telling.proofs.Laws.{said}
 use Rattle.said.proofs.check.Statement.{statement}
 use Rattle.said.proofs.check.Tie as tie
 

@@ -8,7 +8,7 @@ use borrow.Author.Needs.{needs}
 use borrow.Author.Tests.{ltb-true, ltb-false}
 use denote.Ref.{now}
 use Rattle.ground.proofs.Logic.{cases}
-use Rattle.sets.proofs.Places.{inside-found, inside-missed}
+use Rattle.sets.proofs.Slices.{inside-found, inside-missed}
 use Rattle.sets.proofs.has_slice.Statement.{statement}
 use Rattle.table.proofs.Table.{count-at}
 use Rattle.table.specs.Table.{countOf}
@@ -23,7 +23,7 @@ returns c =
     ∙ ⊎-elim
     (λ e. let l = ltb-true (k .result) (countOf t (a .v)) e in e ∙ sym (inside-found t (a .v) (a .u) (k .result) l (k .ensures .1 .0 l)))
     (λ e. let l = ltb-false (k .result) (countOf t (a .v)) e in
-    e ∙ sym (inside-missed t (a .v) (a .u) (λ i m. k .ensures .1 .1 i zero-le (lt-of-lt-of-le m l))))
+    e ∙ sym (inside-missed t (a .v) (a .u) (λ i m. k .ensures .1 .1 .0 i zero-le (lt-of-lt-of-le m l))))
     (cases (ltb (k .result) (countOf t (a .v))))
 
 pub has-slice-spec : {M : Type 1} → statement M

@@ -2,7 +2,7 @@
 use Prim.Native.Nat.{ℕ, _-_, _≤_, _<_}
 use mathlib.Core.Bool.{false}
 use mathlib.Core.Path.{_≡_, sym, ap, _∙_, subst}
-use native.Mathlib.Nat.{lt-of-lt-of-le, lt-irrefl}
+use native.Mathlib.Nat.{le-refl, lt-of-lt-of-le, lt-irrefl}
 use native.Mathlib.Omega.{arith}
 use borrow.Author.Count.{below-more}
 use borrow.Author.Needs.{needs}
@@ -14,7 +14,7 @@ use Rattle.table.specs.Table.{countOf, sliceOf}
 use Rattle.sets.proofs.next_inside.Tie as tie
 
 abbrev Inv-loop : tie.InvT-loop
-Inv-loop table n v u start many i₀ i = (many ≤ 62) × ((k : ℕ) → k < i → start ≤ k → within (sliceOf table v k) u ≡ false)
+Inv-loop table n v u start many i₀ i = (many ≤ 62) × ((k : ℕ) → k < i → start ≤ k → within (sliceOf table v k) u ≡ false) × (start ≤ i)
 
 abbrev μ-loop : tie.MeasureT-loop
 μ-loop table n v u start many i₀ i = many - i
@@ -23,7 +23,7 @@ loop-holds : tie.Need-loop-holds Inv-loop μ-loop
 loop-holds c =
     let a = c .before .before .args in
     let p = c .before .before .pre in
-    (subst (λ (k : ℕ). k ≤ 62) (count-at (now (a .table)) (a .v)) (p .0 .few-slices (a .v) (p .1)), λ k l m. absurd (lt-irrefl _ (lt-of-lt-of-le l m)))
+    (subst (λ (k : ℕ). k ≤ 62) (count-at (now (a .table)) (a .v)) (p .0 .few-slices (a .v) (p .1)), λ k l m. absurd (lt-irrefl _ (lt-of-lt-of-le l m)), le-refl _)
 
 returns : tie.Need-returns Inv-loop μ-loop
 returns c =
@@ -35,7 +35,7 @@ returns c =
       omega arith,
       (
         λ h. ap (λ (q : ℕ). within q (a .u)) (slice-at t (a .v) (l .i) few) ∙ sym (c .before .within .ensures) ∙ c .if1 .taken,
-        λ k m h. l .inv .1 k h m,
+        (λ k m h. l .inv .1 k h m, λ h. l .inv .2),
       ),
     )
 
@@ -45,14 +45,24 @@ loop-again c =
     let t = now (a .table) in
     let l = c .before .before .before .before .loop in
     let few : l .i < 62 = omega arith in
-    (l .inv .0, below-more _ _ (l .inv .1) (λ m. ap (λ (q : ℕ). within q (a .u)) (slice-at t (a .v) (l .i) few) ∙ sym (c .before .within .ensures) ∙ c .if1 .left))
+    let from = l .inv .2 in
+    (l .inv .0, below-more _ _ (l .inv .1) (λ m. ap (λ (q : ℕ). within q (a .u)) (slice-at t (a .v) (l .i) few) ∙ sym (c .before .within .ensures) ∙ c .if1 .left), omega arith)
 
 returns-2 : tie.Need-returns-2 Inv-loop μ-loop
 returns-2 c =
     let a = c .before .before .before .before .args in
     let l = c .before .loop in
     let e = count-at (now (a .table)) (a .v) in
-    (omega arith, (λ h. absurd (lt-irrefl _ (subst (λ (k : ℕ). k < countOf (now (a .table)) (a .v)) (sym e) h)), λ k m h. l .inv .1 k (lt-of-lt-of-le h (c .loop-test .left)) m))
+    let beyond = lt-irrefl (countOf (now (a .table)) (a .v)) in (
+      omega arith,
+      (
+        λ h. absurd (beyond (subst (λ (k : ℕ). k < countOf (now (a .table)) (a .v)) (sym e) h)),
+        (
+          λ k m h. l .inv .1 k (lt-of-lt-of-le h (c .loop-test .left)) m,
+          λ h. absurd (beyond (subst (λ (k : ℕ). k < countOf (now (a .table)) (a .v)) (sym e) h)),
+        ),
+      ),
+    )
 
 pub next-inside-spec : {M : Type 1} → statement M
 next-inside-spec =

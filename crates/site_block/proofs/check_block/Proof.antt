@@ -1,7 +1,7 @@
 -- `check_block` meets its contract: one law for each way out, and the block's row is refused as the 63 numbers loaded from it.
 use Prim.Native.Nat.{ℕ}
 use mathlib.Core.Path.{sym, ap, _∙_}
-use Rattle.table.specs.Table.{siteCheck}
+use Rattle.rows.specs.Site.{siteCheck}
 use borrow.Author.Needs.{needs}
 use denote.Ref.{now}
 use Rattle.block.proofs.Laws.{says-sealed, says-unsealed}

@@ -9,7 +9,8 @@ use Rattle.ground.proofs.Pieces.{part-cut}
 use Rattle.refusals.proofs.First.{first-more, first-stop}
 use Rattle.refusals.specs.First.{first}
 use Rattle.refusals.specs.declared.Check.the-variants.{Sound}
-use Rattle.table.specs.Table.{siteOf, siteCheck, sitesCheck}
+use Rattle.rows.specs.Site.{siteCheck}
+use Rattle.table.specs.Table.{siteOf, sitesCheck}
 use Rattle.table.proofs.check_sites.Statement.{statement}
 use Rattle.table.proofs.check_sites.Tie as tie
 

@@ -1,0 +1,3 @@
+pub mod Load
+pub mod Store
+pub mod Coincide

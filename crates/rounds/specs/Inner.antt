@@ -1,0 +1,2 @@
+-- What the loops of the rounds carry.
+pub mod Places

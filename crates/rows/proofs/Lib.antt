@@ -1,0 +1,5 @@
+pub mod Examples
+pub mod Order
+pub mod Row
+pub mod Site
+pub mod Coincide

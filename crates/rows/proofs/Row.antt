@@ -1,0 +1,187 @@
+-- Laws of one site's slices: one for each way out of their check, and what a sound site has.
+use Prim.Native.Nat.{ℕ, zero, suc, _+_, _-_, _≤_, _<_}
+use mathlib.Core.Bool.{Bool, true, false, _&&_, _||_, not, or-true}
+use mathlib.Core.Logic.{_⊎_, ⊎-elim}
+use mathlib.Core.Path.{_≡_, refl, sym, ap, subst, _∙_}
+use native.Mathlib.Nat.{not-suc-le-zero, suc-ne-zero, eq-or-lt-of-le}
+use native.Mathlib.Omega.{arith}
+use lib.Bits.{bitAnd, bitOr}
+use lib.Dec.{eqb, eqb·suc-zero, ltb}
+use borrow.Author.Tests.{eq-eqb, ne-eqb, lt-ltb, le-ltb, eqb-false, ltb-true, ltb-false, not-false}
+use Rattle.ground.proofs.Logic.{and-l, and-r, or-none, cases}
+use Rattle.masks.proofs.Laws.Subsets.{mem, ⊆-refl, ⊆-trans, within-⊆, ⊆-within, and-⊆-l, and-⊆-r, or-⊆-l, or-⊆-r}
+use Rattle.masks.specs.Mask.{has, within, allBelow, _∈_, _⊆_}
+use Rattle.refusals.proofs.First.{orElse-sound, first-all, first-sound, first-alike, kept, missed}
+use Rattle.refusals.specs.First.{orElse, refuse, first}
+use Rattle.refusals.specs.declared.Check.the-variants.{Sound, Refused}
+use Rattle.refusals.specs.declared.Refusal.{Refusal}
+use Rattle.refusals.specs.declared.Refusal.the-variants.{Count, Slice, Order, Filler}
+use Rattle.rows.specs.Row.{strange, unordered, sliceCheck, rowCheck}
+
+pred-suc : (i : ℕ) → suc i - 1 ≡ i
+pred-suc i = omega arith
+
+-- slice k of site v in a table of n sites
+module _ (n v : ℕ) (slice : ℕ → ℕ) (k : ℕ) where
+  pub lacks-owner : has (slice k) v ≡ false → sliceCheck n v slice k ≡ Refused (Slice v)
+  unfolding sliceCheck strange
+  lacks-owner e = rw e refl
+
+  pub names-above : within (slice k) (allBelow n) ≡ false → sliceCheck n v slice k ≡ Refused (Slice v)
+  unfolding sliceCheck strange
+  names-above e = rw (e, or-true) refl
+
+  module _ (p : has (slice k) v ≡ true) (q : within (slice k) (allBelow n) ≡ true) where
+    pub is-first : k ≡ 0 → sliceCheck n v slice k ≡ Sound
+    unfolding sliceCheck strange unordered
+    is-first e = rw (p, q, eq-eqb k 0 e) refl
+
+    pub is-above : (k ≡ 0 → ⊥) → slice (k - 1) < slice k → sliceCheck n v slice k ≡ Sound
+    unfolding sliceCheck strange unordered
+    is-above ne l = rw (p, q, ne-eqb k 0 ne, lt-ltb (slice (k - 1)) (slice k) l) refl
+
+    pub not-above : (k ≡ 0 → ⊥) → slice k ≤ slice (k - 1) → sliceCheck n v slice k ≡ Refused (Order v)
+    unfolding sliceCheck strange unordered
+    not-above ne l = rw (p, q, ne-eqb k 0 ne, le-ltb (slice (k - 1)) (slice k) l) refl
+
+  -- what a sound slice has
+  neither : sliceCheck n v slice k ≡ Sound → (strange n v (slice k) ≡ false) × (unordered slice k ≡ false)
+  unfolding sliceCheck
+  neither h =
+      let q = missed (strange n v (slice k)) (Slice v) (refuse (unordered slice k) (Order v)) h in
+      (q .0, kept (unordered slice k) (Order v) (q .1))
+
+  pub slice-owner : sliceCheck n v slice k ≡ Sound → v ∈ slice k
+  unfolding strange
+  slice-owner h = mem (not-false (has (slice k) v) (or-none (not (has (slice k) v)) (not (within (slice k) (allBelow n))) (neither h .0) .0))
+
+  pub slice-below : sliceCheck n v slice k ≡ Sound → slice k ⊆ allBelow n
+  unfolding strange
+  slice-below h =
+      within-⊆ (slice k) (allBelow n)
+      (not-false (within (slice k) (allBelow n)) (or-none (not (has (slice k) v)) (not (within (slice k) (allBelow n))) (neither h .0) .1))
+
+pub slice-ascends : (n v : ℕ) (slice : ℕ → ℕ) (i : ℕ) → sliceCheck n v slice (suc i) ≡ Sound → slice i < slice (suc i)
+unfolding unordered
+slice-ascends n v slice i h =
+    let e : not (ltb (slice i) (slice (suc i))) ≡ false = rw (eqb·suc-zero i, pred-suc i) at (neither n v slice (suc i) h .1) in
+    ltb-true (slice i) (slice (suc i)) (not-false (ltb (slice i) (slice (suc i))) e)
+
+-- slices that contain their owner, name no site at or above n and ascend are sound
+slices-sound : (n v count : ℕ) (slice : ℕ → ℕ) → ((i : ℕ) → i < count → v ∈ slice i) → ((i : ℕ) → i < count → slice i ⊆ allBelow n)
+    → ((i : ℕ) → suc i < count → slice i < slice (suc i)) → first (sliceCheck n v slice) count ≡ Sound
+slices-sound n v count slice owner below ascend = first-sound (sliceCheck n v slice) count each
+  where
+    each : (i : ℕ) → i < count → sliceCheck n v slice i ≡ Sound
+    each zero l = is-first n v slice 0 (owner 0 l .holds) (⊆-within (below 0 l)) refl
+    each (suc i) l =
+        is-above n v slice (suc i) (owner (suc i) l .holds) (⊆-within (below (suc i) l)) (suc-ne-zero i)
+        (subst (λ (k : ℕ). slice k < slice (suc i)) (sym (pred-suc i)) (ascend i l))
+
+-- What is gathered of the first k slices: what all have in common, what they name together, and whether each is above the one before.
+pub record Gathered (slice : ℕ → ℕ) (k every some : ℕ) (ascend : Bool) : Type 0 where
+  pub common : (i : ℕ) → i < k → every ⊆ slice i
+  pub together : (i : ℕ) → i < k → slice i ⊆ some
+  pub above : ascend ≡ true → (i : ℕ) → suc i < k → slice i < slice (suc i)
+
+only-zero : (i : ℕ) → i < 1 → i ≡ 0
+only-zero i l = omega arith
+
+module _ (slice : ℕ → ℕ) where
+  pub gathered-first : (ascend : Bool) → Gathered slice 1 (slice 0) (slice 0) ascend
+  gathered-first ascend =
+      record {
+        common = λ i l. subst (λ (j : ℕ). slice 0 ⊆ slice j) (sym (only-zero i l)) (⊆-refl (slice 0));
+        together = λ i l. subst (λ (j : ℕ). slice j ⊆ slice 0) (sym (only-zero i l)) (⊆-refl (slice 0));
+        above = λ e i l. absurd (omega arith);
+      }
+
+  pub gathered-more : (k every some : ℕ) (ascend up : Bool) → up ≡ ascend && ltb (slice (k - 1)) (slice k) → Gathered slice k every some ascend
+      → Gathered slice (k + 1) (bitAnd every (slice k)) (bitOr some (slice k)) up
+  gathered-more k every some ascend up e g =
+      record {
+        common = λ i l. ⊎-elim (λ x. subst (λ (j : ℕ). bitAnd every (slice k) ⊆ slice j) (sym x) (and-⊆-r every (slice k)))
+            (λ b. ⊆-trans (and-⊆-l every (slice k)) (g .common i b)) (last-or i l);
+        together = λ i l. ⊎-elim (λ x. subst (λ (j : ℕ). slice j ⊆ bitOr some (slice k)) (sym x) (or-⊆-r some (slice k)))
+            (λ b. ⊆-trans (g .together i b) (or-⊆-l some (slice k))) (last-or i l);
+        above = λ h i l. ⊎-elim (λ x. step i x (ltb-true (slice (k - 1)) (slice k) (and-r ascend _ (sym e ∙ h))))
+            (λ b. g .above (and-l ascend _ (sym e ∙ h)) i b) (last-or (suc i) l);
+      }
+    where
+      last-or : (i : ℕ) → i < k + 1 → (i ≡ k) ⊎ (i < k)
+      last-or i l = eq-or-lt-of-le (omega arith)
+
+      step : (i : ℕ) → suc i ≡ k → slice (k - 1) < slice k → slice i < slice (suc i)
+      step i e l = subst (λ (j : ℕ). slice i < slice j) (sym e) (subst (λ (j : ℕ). slice j < slice k) (omega arith) l)
+
+  pub gathered-sound : (n v count k every some : ℕ) (ascend : Bool) → Gathered slice k every some ascend → count ≤ k
+      → ascend ≡ true → has every v ≡ true → within some (allBelow n) ≡ true → first (sliceCheck n v slice) count ≡ Sound
+  gathered-sound n v count k every some ascend g l up own below =
+      slices-sound n v count slice (λ i b. g .common i (omega arith) .each v (mem own))
+      (λ i b. ⊆-trans (g .together i (omega arith)) (within-⊆ some (allBelow n) below)) (λ i b. g .above up i (omega arith))
+
+-- What a sound site has.
+pub record Row (n v count : ℕ) (slice : ℕ → ℕ) (unfilled : Bool) : Type 0 where
+  pub some-slice : 1 ≤ count
+  pub few-slices : count ≤ 62
+  pub owner : (i : ℕ) → i < count → v ∈ slice i
+  pub below : (i : ℕ) → i < count → slice i ⊆ allBelow n
+  pub ascend : (i : ℕ) → suc i < count → slice i < slice (suc i)
+  pub clean : unfilled ≡ false
+
+module _ (n v count : ℕ) (slice : ℕ → ℕ) (unfilled : Bool) where
+  pub no-slice : count ≡ 0 → rowCheck n v count slice unfilled ≡ Refused (Count v)
+  unfolding rowCheck
+  no-slice e = rw (eq-eqb count 0 e) refl
+
+  pub many-slices : 62 < count → rowCheck n v count slice unfilled ≡ Refused (Count v)
+  unfolding rowCheck
+  many-slices l = rw (lt-ltb 62 count l, or-true) refl
+
+  module _ (ne : count ≡ 0 → ⊥) (l : count ≤ 62) where
+    pub bad-slice : (r : Refusal) → first (sliceCheck n v slice) count ≡ Refused r → rowCheck n v count slice unfilled ≡ Refused r
+    unfolding rowCheck
+    bad-slice r e = rw (ne-eqb count 0 ne, le-ltb 62 count l, e) refl
+
+    pub good-slices : first (sliceCheck n v slice) count ≡ Sound → rowCheck n v count slice unfilled ≡ refuse unfilled (Filler v)
+    unfolding rowCheck
+    good-slices e = rw (ne-eqb count 0 ne, le-ltb 62 count l, e) refl
+
+  pub row-sound : rowCheck n v count slice unfilled ≡ Sound → Row n v count slice unfilled
+  unfolding rowCheck
+  row-sound h =
+      let p = missed (eqb count 0 || ltb 62 count) (Count v) (orElse (first (sliceCheck n v slice) count) (refuse unfilled (Filler v))) h in
+      let q = orElse-sound (first (sliceCheck n v slice) count) (refuse unfilled (Filler v)) (p .1) in
+      let c = or-none (eqb count 0) (ltb 62 count) (p .0) in
+      let ne = eqb-false count 0 (c .0) in
+      let each : (i : ℕ) → i < count → sliceCheck n v slice i ≡ Sound = λ i l. first-all (sliceCheck n v slice) count i (q .0) l in
+      record {
+        some-slice = omega arith;
+        few-slices = ltb-false 62 count (c .1);
+        owner = λ i l. slice-owner n v slice i (each i l);
+        below = λ i l. slice-below n v slice i (each i l);
+        ascend = λ i l. slice-ascends n v slice i (each (suc i) l);
+        clean = kept unfilled (Filler v) (q .1);
+      }
+
+  pub sound-row : Row n v count slice unfilled → rowCheck n v count slice unfilled ≡ Sound
+  sound-row r =
+      good-slices (λ e. not-suc-le-zero (subst (λ (k : ℕ). 1 ≤ k) e (r .some-slice))) (r .few-slices)
+      (slices-sound n v count slice (r .owner) (r .below) (r .ascend))
+      ∙ ap (λ (u : Bool). refuse u (Filler v)) (r .clean)
+
+-- a row whose slices are the same at each place, and its filler where it is looked at, is refused alike
+slice-alike : (n v : ℕ) (s t : ℕ → ℕ) (k : ℕ) → s k ≡ t k → s (k - 1) ≡ t (k - 1) → sliceCheck n v s k ≡ sliceCheck n v t k
+unfolding sliceCheck strange unordered
+slice-alike n v s t k e p = rw (e, p) refl
+
+pub row-alike : (n v count : ℕ) (s t : ℕ → ℕ) (u w : Bool) → ((k : ℕ) → k < 62 → s k ≡ t k) → (count ≤ 62 → u ≡ w)
+    → rowCheck n v count s u ≡ rowCheck n v count t w
+unfolding rowCheck
+row-alike n v count s t u w h f =
+    ⊎-elim (λ e. many-slices n v count s u (ltb-true 62 count e) ∙ sym (many-slices n v count t w (ltb-true 62 count e)))
+    (λ e. let l = ltb-false 62 count e in
+    let a : first (sliceCheck n v s) count ≡ first (sliceCheck n v t) count =
+    first-alike (sliceCheck n v s) (sliceCheck n v t) count (λ k g. slice-alike n v s t k (h k (omega arith)) (h (k - 1) (omega arith))) in
+    rw (a, f l) refl)
+    (cases (ltb 62 count))

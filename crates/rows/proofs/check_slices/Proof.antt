@@ -1,0 +1,61 @@
+-- `check_slices` meets its contract: all slices are sound, or those before k are, and a refusal is the first.
+use Prim.Native.Nat.{ℕ, _-_, _≤_}
+use mathlib.Core.Path.{_≡_, refl, sym, subst, _∙_}
+use native.Mathlib.Omega.{arith}
+use borrow.Author.Needs.{needs}
+use denote.Ref.{now}
+use Rattle.refusals.proofs.First.{first-more, first-stop}
+use Rattle.refusals.specs.First.{first}
+use Rattle.refusals.specs.declared.Check.the-variants.{Sound}
+use Rattle.rows.specs.Row.{sliceCheck}
+use Rattle.rows.specs.Site.{slice}
+use Rattle.rows.proofs.check_slices.Statement.{statement}
+use Rattle.rows.proofs.check_slices.Tie as tie
+
+abbrev Inv-loop : tie.InvT-loop
+Inv-loop m n v many k₀ k = (k ≤ many) × (first (sliceCheck n v (slice m)) k ≡ Sound)
+
+abbrev μ-loop : tie.MeasureT-loop
+μ-loop m n v many k₀ k = many - k
+
+loop-holds : tie.Need-loop-holds Inv-loop μ-loop
+unfolding first
+loop-holds c = (search needs, refl)
+
+returns-2 : tie.Need-returns-2 Inv-loop μ-loop
+returns-2 c =
+    let a = c .before .before .before .before .before .before .before .before .args in
+    let l = c .before .before .before .before .loop in
+    let e = c .enum-told2 .given .1 in
+    e
+    ∙ sym (first-stop (sliceCheck (a .n) (a .v) (slice (now (a .m)))) (a .many) (l .k) _ (omega arith) (l .inv .1)
+    (sym (c .before .before .check-slice .ensures) ∙ e))
+
+loop-again : tie.Need-loop-again Inv-loop μ-loop
+loop-again c =
+    (search needs, first-more _ _ (c .before .before .before .before .loop .inv .1) (sym (c .before .before .check-slice .ensures) ∙ c .enum-told .given .1))
+
+returns-3 : tie.Need-returns-3 Inv-loop μ-loop
+returns-3 c =
+    let a = c .before .before .before .before .before .args in
+    let l = c .before .loop in
+    let e : l .k ≡ a .many = omega arith in
+    sym (subst (λ (k : ℕ). first (sliceCheck (a .n) (a .v) (slice (now (a .m)))) k ≡ Sound) e (l .inv .1))
+
+pub check-slices-spec : {M : Type 1} → statement M
+check-slices-spec =
+    tie.close
+    (tie.spec
+    Inv-loop
+    μ-loop
+    (λ c κs. search needs)
+    (λ c. sym (c .before .are-sound .ensures (c .if1 .taken)))
+    loop-holds
+    (λ c κs. search needs)
+    (λ c. search needs)
+    (λ c. search needs)
+    returns-2
+    (λ c. search needs)
+    (λ c. search needs)
+    loop-again
+    returns-3)

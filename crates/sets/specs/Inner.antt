@@ -1,2 +1,0 @@
--- What the loops of the sets carry.
-pub mod Places
