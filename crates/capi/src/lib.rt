@@ -3,11 +3,16 @@ ghost use mathlib.Core.Path.{_≡_};
 ghost use lib.ListN.{length};
 ghost use Rattle.capi.specs.Run.{runSays, runState, runAnswers};
 ghost use Rattle.image.specs.Read.{read, readInto};
+ghost use Rattle.journal.specs.Journal as Journal;
+ghost use Rattle.journal.specs.Journal.{listed, listInto};
+ghost use Rattle.journal.specs.Keep.{keep, keepInto};
+ghost use Rattle.journal.specs.Next.{next};
 ghost use Rattle.image.specs.Write.{write, writeInto};
 ghost use Rattle.questions.specs.Answers.{quorum, largest, blocks, shared, intact};
 ghost use Rattle.records.specs.Pack.{bytesOf};
 ghost use Rattle.said.specs.Said.{ofCheck, ofReading, ofWriting, ofStepped};
 ghost use Rattle.said_sets.specs.Said.{ofHolds, ofGreatest, ofSharing, ofStanding};
+ghost use Rattle.said_journal.specs.Said.{ofChecked, ofKept, ofListed, ofTaken};
 ghost use Rattle.table.specs.Table.{check};
 ghost use Rattle.voting.specs.Step.{soundCheck, stepCheck, stepInto, toStepped};
 ghost use Rattle.votes.specs.Call.{call};
@@ -156,6 +161,48 @@ pub extern "C" fn siren_run_records(
 {
     said::ran(
         records::run_records(table, faulty, calls, state, answers),
+        out,
+    )
+}
+
+// The check of a journal.
+#[no_mangle]
+pub extern "C" fn siren_journal_check(journal: &[u8], out: &mut [u64; 4]) -> u64
+    ensures answer { λ r. ⌜ r ≡ ofChecked (Journal.check (now (journal .entry))) .number ⌝ }
+    ensures told { λ r. ⌜ now (out .exit) ≡ ofChecked (Journal.check (now (journal .entry))) .out ⌝ }
+{
+    said_journal::checked(journal::check(journal), out)
+}
+
+// A list of calls written into the room as a journal: its first blocks.
+#[no_mangle]
+pub extern "C" fn siren_journal_write(calls: &[u8], room: &mut [u8], out: &mut [u64; 4]) -> u64
+    ensures answer { λ r. ⌜ r ≡ ofKept (keep (now (calls .entry)) (length (now (room .entry)))) .number ⌝ }
+    ensures told { λ r. ⌜ now (out .exit) ≡ ofKept (keep (now (calls .entry)) (length (now (room .entry)))) .out ⌝ }
+    ensures memory { λ r. ⌜ now (room .exit) ≡ keepInto (keep (now (calls .entry)) (length (now (room .entry)))) (now (calls .entry)) (now (room .entry)) ⌝ }
+{
+    said_journal::kept(journal::write(calls, room), out)
+}
+
+// A journal's list of calls read into the room: its first bytes.
+#[no_mangle]
+pub extern "C" fn siren_journal_list(journal: &[u8], room: &mut [u8], out: &mut [u64; 4]) -> u64
+    ensures answer { λ r. ⌜ r ≡ ofListed (listed (now (journal .entry)) (length (now (room .entry)))) .number ⌝ }
+    ensures told { λ r. ⌜ now (out .exit) ≡ ofListed (listed (now (journal .entry)) (length (now (room .entry)))) .out ⌝ }
+    ensures memory { λ r. ⌜ now (room .exit) ≡ listInto (listed (now (journal .entry)) (length (now (room .entry)))) (now (journal .entry)) (now (room .entry)) ⌝ }
+{
+    said_journal::listed(journal::list(journal, room), out)
+}
+
+// The call at a place of a journal, counted in calls from 0. The journal is checked whole each time.
+#[no_mangle]
+pub extern "C" fn siren_journal_next(journal: &[u8], place: u64, out: &mut [u64; 4]) -> u64
+    ensures answer { λ r. ⌜ r ≡ ofTaken (Journal.check (now (journal .entry))) (next (now (journal .entry)) place) .number ⌝ }
+    ensures told { λ r. ⌜ now (out .exit) ≡ ofTaken (Journal.check (now (journal .entry))) (next (now (journal .entry)) place) .out ⌝ }
+{
+    said_journal::taken(
+        journal::check(journal),
+        journal::next_at(journal, place as usize),
         out,
     )
 }
