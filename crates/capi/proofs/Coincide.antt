@@ -23,6 +23,14 @@ use Rattle.capi.proofs.siren_image_write.Kinds as siren-image-write-kin
 use Rattle.capi.proofs.siren_image_write.Reads as siren-image-write-reads
 use Rattle.capi.proofs.siren_intact.Kinds as siren-intact-kinds
 use Rattle.capi.proofs.siren_intact.Reads as siren-intact-reads
+use Rattle.capi.proofs.siren_journal_check.Kinds as siren-journal-check-kinds
+use Rattle.capi.proofs.siren_journal_check.Reads as siren-journal-check-reads
+use Rattle.capi.proofs.siren_journal_list.Kinds as siren-journal-list-kinds
+use Rattle.capi.proofs.siren_journal_list.Reads as siren-journal-list-reads
+use Rattle.capi.proofs.siren_journal_next.Kinds as siren-journal-next-kinds
+use Rattle.capi.proofs.siren_journal_next.Reads as siren-journal-next-reads
+use Rattle.capi.proofs.siren_journal_write.Kinds as siren-journal-write-kinds
+use Rattle.capi.proofs.siren_journal_write.Reads as siren-journal-write-reads
 use Rattle.capi.proofs.siren_largest.Kinds as siren-largest-kinds
 use Rattle.capi.proofs.siren_largest.Reads as siren-largest-reads
 use Rattle.capi.proofs.siren_quorum.Kinds as siren-quorum-kinds
@@ -71,6 +79,18 @@ siren-step-coincide κs a x y s t p q = (p .0 ∙ sym (q .0), λ i. ((p .1 .0 �
 
 pub siren-run-coincide : All siren-run-kinds.ps siren-run-kinds.r (List ℕ × (List ℕ × List ℕ)) (λ κs s. (now (s .1 .1 .1 .1 .1 .0), (now (s .1 .1 .1 .0), now (s .1 .1 .1 .1 .0)))) siren-run-reads.Post
 siren-run-coincide κs a x y s t p q = (p .0 ∙ sym (q .0), λ i. ((p .1 .0 ∙ sym (q .1 .0)) i, ((p .1 .1 .0 ∙ sym (q .1 .1 .0)) i, (p .1 .1 .1 ∙ sym (q .1 .1 .1)) i)))
+
+pub siren-journal-check-coincide : All siren-journal-check-kinds.ps siren-journal-check-kinds.r (List ℕ) (λ κs s. now (s .1 .0)) siren-journal-check-reads.Post
+siren-journal-check-coincide κs a x y s t p q = (p .0 ∙ sym (q .0), p .1 ∙ sym (q .1))
+
+pub siren-journal-next-coincide : All siren-journal-next-kinds.ps siren-journal-next-kinds.r (List ℕ) (λ κs s. now (s .1 .1 .0)) siren-journal-next-reads.Post
+siren-journal-next-coincide κs a x y s t p q = (p .0 ∙ sym (q .0), p .1 ∙ sym (q .1))
+
+pub siren-journal-list-coincide : All siren-journal-list-kinds.ps siren-journal-list-kinds.r (List ℕ × List ℕ) (λ κs s. (now (s .1 .1 .0), now (s .1 .0))) siren-journal-list-reads.Post
+siren-journal-list-coincide κs a x y s t p q = (p .0 ∙ sym (q .0), λ i. ((p .1 .0 ∙ sym (q .1 .0)) i, (p .1 .1 ∙ sym (q .1 .1)) i))
+
+pub siren-journal-write-coincide : All siren-journal-write-kinds.ps siren-journal-write-kinds.r (List ℕ × List ℕ) (λ κs s. (now (s .1 .1 .0), now (s .1 .0))) siren-journal-write-reads.Post
+siren-journal-write-coincide κs a x y s t p q = (p .0 ∙ sym (q .0), λ i. ((p .1 .0 ∙ sym (q .1 .0)) i, (p .1 .1 ∙ sym (q .1 .1)) i))
 
 -- of `siren_run_records` the claims are the clauses of the contract, as assertions: two of them together entail that the results are equal
 module _ {M : Type 1} (𝓤 : URA M) where

@@ -189,7 +189,8 @@ pub extern "C" fn siren_journal_write(calls: &[u8], room: &mut [u8], out: &mut [
 pub extern "C" fn siren_journal_list(journal: &[u8], room: &mut [u8], out: &mut [u64; 4]) -> u64
     ensures answer { λ r. ⌜ r ≡ ofListed (listed (now (journal .entry)) (length (now (room .entry)))) .number ⌝ }
     ensures told { λ r. ⌜ now (out .exit) ≡ ofListed (listed (now (journal .entry)) (length (now (room .entry)))) .out ⌝ }
-    ensures memory { λ r. ⌜ now (room .exit) ≡ listInto (listed (now (journal .entry)) (length (now (room .entry)))) (now (journal .entry)) (now (room .entry)) ⌝ }
+    ensures memory { λ r.
+        ⌜ now (room .exit) ≡ listInto (listed (now (journal .entry)) (length (now (room .entry)))) (now (journal .entry)) (now (room .entry)) ⌝ }
 {
     said_journal::listed(journal::list(journal, room), out)
 }
