@@ -1,5 +1,7 @@
 -- `siren_journal_next` meets its contract: it says the call at the place, where the check takes the journal.
 use borrow.Author.Needs.{needs}
+use denote.Ref.{now}
+use Rattle.journal.specs.Journal.{check}
 use Rattle.journal.specs.declared.Checked.{Checked}
 use Rattle.journal.specs.declared.Next.{Next}
 use Rattle.said_journal.specs.Said.{ofTaken}
@@ -11,7 +13,8 @@ returns : tie.Need-returns
 returns c =
     let q = c .before .before .before .check in
     let x = c .before .before .next-at in
-    said (λ (n : Next). ofTaken _ n) (x .ensures) (said (λ (k : Checked). ofTaken k (x .result)) (q .ensures) (c .taken .ensures))
+    let j = now (c .before .before .before .before .before .args .journal) in
+    said (λ (n : Next). ofTaken (check j) n) (x .ensures) (said (λ (k : Checked). ofTaken k (x .result)) (q .ensures) (c .taken .ensures))
 
 pub siren-journal-next-spec : {M : Type 1} → statement M
 siren-journal-next-spec = tie.close (tie.spec (λ c κs. search needs) (λ c κs. search needs) (λ c κs. search needs) returns)
