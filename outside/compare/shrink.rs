@@ -69,49 +69,60 @@ fn drop_calls<'a>(input: &'a Input, steps: &mut Vec<Make<'a>>) {
     }
 }
 
-/// One block of an image or a journal less, the others numbered anew; and each eight bytes of a block cleared.
+/// Half of the blocks of an image or a journal less, a quarter, and so on down to each single one, the others numbered
+/// anew; and half of a block's bytes cleared, an eighth, down to each eight bytes.
 fn drop_blocks<'a>(input: &'a Input, steps: &mut Vec<Make<'a>>) {
     let journal = is_journal(input);
     if input.question != Question::ImageRead && input.question != Question::BlockCheck && !journal {
         return;
     }
     let blocks = input.bytes.len() / BLOCK;
-    if input.question != Question::BlockCheck {
-        for place in 0..blocks {
+    let mut part = if input.question == Question::BlockCheck { 0 } else { blocks.div_ceil(2) };
+    while part > 0 {
+        for first in (0..blocks).step_by(part) {
+            let last = (first + part).min(blocks);
+            steps.push(Box::new(move || without_blocks(input, first, last)));
+        }
+        part /= 2;
+    }
+    for part in [256, 64, 8] {
+        let starts = (0..blocks * BLOCK).step_by(part);
+        for at in starts.filter(|at| input.bytes[*at..*at + part].iter().any(|byte| *byte != 0)) {
             steps.push(Box::new(move || {
                 let mut less = input.clone();
-                less.bytes.drain(BLOCK * place..BLOCK * (place + 1));
-                less.cells_room = less.cells_room.saturating_sub(ROW);
-                less.bytes_room = less.bytes_room.saturating_sub(4 * CALLS_OF_A_BLOCK);
-                less.place = less.place.saturating_sub(CALLS_OF_A_BLOCK as u64);
-                for (k, block) in less.bytes.chunks_mut(BLOCK).enumerate().filter(|(_, block)| block.len() == BLOCK) {
-                    let right = model::block_check(block).number == 0;
-                    if u16::from_le_bytes([block[0], block[1]]) as usize == k + 1 && k >= place {
-                        block[0] -= 1;
-                    }
-                    if !journal && u16::from_le_bytes([block[2], block[3]]) as usize == blocks {
-                        block[2] -= 1;
-                    }
-                    if right {
-                        mend(block);
-                    }
+                let block = &mut less.bytes[at / BLOCK * BLOCK..][..BLOCK];
+                let right = model::block_check(block).number == 0;
+                block[at % BLOCK..][..part].fill(0);
+                if right {
+                    mend(block);
                 }
                 less
             }));
         }
     }
-    for at in (0..blocks * BLOCK).step_by(8).filter(|at| input.bytes[*at..*at + 8].iter().any(|byte| *byte != 0)) {
-        steps.push(Box::new(move || {
-            let mut less = input.clone();
-            let block = &mut less.bytes[at / BLOCK * BLOCK..][..BLOCK];
-            let right = model::block_check(block).number == 0;
-            block[at % BLOCK..][..8].fill(0);
-            if right {
-                mend(block);
-            }
-            less
-        }));
+}
+
+/// The input without some blocks of its image or journal.
+fn without_blocks(input: &Input, first: usize, last: usize) -> Input {
+    let mut less = input.clone();
+    let (blocks, gone) = (input.bytes.len() / BLOCK, last - first);
+    less.bytes.drain(BLOCK * first..BLOCK * last);
+    less.cells_room = less.cells_room.saturating_sub(ROW * gone);
+    less.bytes_room = less.bytes_room.saturating_sub(4 * CALLS_OF_A_BLOCK * gone);
+    less.place = less.place.saturating_sub((CALLS_OF_A_BLOCK * gone) as u64);
+    for (k, block) in less.bytes.chunks_mut(BLOCK).enumerate().filter(|(_, block)| block.len() == BLOCK) {
+        let right = model::block_check(block).number == 0;
+        if u16::from_le_bytes([block[0], block[1]]) as usize == k + gone && k >= first {
+            block[0..2].copy_from_slice(&(k as u16).to_le_bytes());
+        }
+        if !is_journal(input) && u16::from_le_bytes([block[2], block[3]]) as usize == blocks {
+            block[2..4].copy_from_slice(&((blocks - gone) as u16).to_le_bytes());
+        }
+        if right {
+            mend(block);
+        }
     }
+    less
 }
 
 /// Writes the right check into a block.
