@@ -307,7 +307,7 @@ fn main() {
     let keep = |way: u8, calls: &[Call]| seed(KEEP, way, &[&calls.concat()]);
     seeds.push(("keep-empty", keep(0, &[])));
     seeds.push(("keep-one", keep(0, &[[255; 4]])));
-    seeds.push(("keep-126", keep(LONG_BYTES, &all_calls(8)[..126])));
+    seeds.push(("keep-126", keep(LONG_BYTES, &all_calls(9)[..126])));
     seeds.push(("keep-4096", keep(AGAIN, &all_calls(5)[..32])));
     seeds.push(("keep-4097", keep(AGAIN, &[&[[1, 0, 0, 0]], &all_calls(5)[..31]].concat())));
     seeds.push(("keep-short-room", keep(SHORT_BYTES, &votes)));
