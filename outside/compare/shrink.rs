@@ -85,19 +85,23 @@ fn drop_blocks<'a>(input: &'a Input, steps: &mut Vec<Make<'a>>) {
         }
         part /= 2;
     }
+    // The sums of a block whose check is right follow from the rest.
     for part in [256, 64, 8] {
-        let starts = (0..blocks * BLOCK).step_by(part);
-        for at in starts.filter(|at| input.bytes[*at..*at + part].iter().any(|byte| *byte != 0)) {
-            steps.push(Box::new(move || {
-                let mut less = input.clone();
-                let block = &mut less.bytes[at / BLOCK * BLOCK..][..BLOCK];
-                let right = model::block_check(block).number == 0;
-                block[at % BLOCK..][..part].fill(0);
-                if right {
-                    mend(block);
-                }
-                less
-            }));
+        for at in (0..blocks * BLOCK).step_by(part) {
+            let (start, inside) = (at / BLOCK * BLOCK, at % BLOCK);
+            let right = model::block_check(&input.bytes[start..start + BLOCK]).number == 0;
+            let end = (inside + part).min(if right { 504 } else { BLOCK });
+            if inside < end && input.bytes[at..start + end].iter().any(|byte| *byte != 0) {
+                steps.push(Box::new(move || {
+                    let mut less = input.clone();
+                    let block = &mut less.bytes[start..start + BLOCK];
+                    block[inside..end].fill(0);
+                    if right {
+                        mend(block);
+                    }
+                    less
+                }));
+            }
         }
     }
 }
