@@ -1,8 +1,8 @@
-// The block of 512 bytes: its two sums, and the check of a lent block. Nothing is copied: the sums run over the lent bytes.
+// The block of 512 bytes: its two sums, the check of a lent block, and the check written. Nothing is copied: the sums run over the lent bytes.
 ghost use mathlib.Core.Path.{_≡_};
 ghost use Prim.Native.Nat.{_≤_};
-ghost use lib.ListN.{length};
-ghost use Rattle.block.specs.Block.{checkS, checkT, check};
+ghost use lib.ListN.{length, take};
+ghost use Rattle.block.specs.Block.{checkS, checkT, check, seal};
 
 pub struct Sums {
     pub s: u32,
@@ -43,4 +43,16 @@ pub fn check(b: &[u8]) -> u8
         return 0;
     }
     2
+}
+
+// Writes bytes 504 to 511 of a block: the check of those before them.
+pub fn put_sums(b: &mut [u8])
+    requires { ⌜ length (now b) ≡ 512 ⌝ }
+    ensures { λ r. ⌜ now (b .exit) ≡ seal (take 504 (now (b .entry))) ⌝ }
+{
+    let sums = sum_words(b);
+    let s = sums.s;
+    let t = sums.t;
+    le::put32(b, 504, s);
+    le::put32(b, 508, t);
 }

@@ -16,7 +16,8 @@ use Rattle.image.proofs.Load.{length-loads, loads-front, loads-site}
 use Rattle.image.proofs.ReadLaws.{blocks-shape, read-taken, loads-sound, read-all}
 use Rattle.image.proofs.Store.{stores-block, length-stores, stores-front}
 use Rattle.image.proofs.WriteLaws.{write-taken, write-all}
-use Rattle.le.proofs.Laws.{Bytes, bytes-part}
+use Rattle.le.proofs.Laws.{bytes-part}
+use Rattle.le.specs.Le.{Bytes}
 use Rattle.refusals.proofs.First.{first-all, first-sound}
 use Rattle.refusals.specs.declared.Check.the-variants.{Sound}
 use Rattle.site_block.proofs.Block.{block-sound}
@@ -65,7 +66,7 @@ stores-loads n image len hb fine =
     ∙ take-all (512 * n) image (rw len (le-refl (512 * n)))
 
 pub read-then-write : ReadThenWrite
-unfolding readInto writeInto Bytes
+unfolding readInto writeInto
 read-then-write image room out n hb h o =
     let r = read-taken image (length room) n h in
     let s = blocks-shape (length image) (r .0) in

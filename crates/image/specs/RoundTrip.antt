@@ -1,5 +1,5 @@
--- "Tables survive reading and writing unchanged, either one first": of the public answers and of the rooms as they are left. `Bytes` and `Words` say
--- that a list holds bytes, or 64-bit numbers, as every lent slice of them does.
+-- "Tables survive reading and writing unchanged, either one first": of the public answers and of the rooms as they are left. `Words` says that
+-- a list holds 64-bit numbers, as every lent slice of them does.
 use Prim.Native.Nat.{ℕ, _*_, _^_, _≤_, _<_}
 use mathlib.Core.List.{List, _++_}
 use mathlib.Core.Path.{_≡_}
@@ -8,9 +8,7 @@ use Rattle.image.specs.Read.{read, readInto}
 use Rattle.image.specs.Write.{write, writeInto}
 use Rattle.image.specs.declared.Reading as Reading
 use Rattle.image.specs.declared.Writing as Writing
-
-abbrev pub Bytes : List ℕ → Type 0
-Bytes b = (i : ℕ) → getD b i 0 < 256
+use Rattle.le.specs.Le.{Bytes}
 
 abbrev pub Words : List ℕ → Type 0
 Words t = (i : ℕ) → getD t i 0 < 2 ^ 64

@@ -8,7 +8,7 @@ use native.Mathlib.Omega.{arith}
 use lib.Arith.{mod-mul, digits-mod, digits-div}
 use lib.ListN.{length, getD, take, drop, length-drop, set}
 use lib.Seq.{take-nil, drop-nil, sets, drop-at, take-at, length-take-le, getD-drop, drop-append-le, take-append-le}
-use Rattle.le.specs.Le.{number, digits, field}
+use Rattle.le.specs.Le.{Bytes, number, digits, field}
 
 -- one byte more: holds also past the end, where every byte is 0
 field-suc : (w : ℕ) (b : List ℕ) (at : ℕ) → field (suc w) b at ≡ getD b at 0 + 256 * field w b (suc at)
@@ -71,20 +71,14 @@ sets-plus v w b at x =
     ∙ sets-append (digits v (x % 256 ^ v)) (digits w (x / 256 ^ v)) b at
     ∙ ap (sets b at) (sym (digits-plus v w x))
 
--- every element is a byte
-unfoldable pub Bytes : List ℕ → Type 0
-Bytes b = (i : ℕ) → getD b i 0 < 256
-
 -- a part of a list of bytes is one
 pub bytes-take : (n : ℕ) (b : List ℕ) → Bytes b → Bytes (take n b)
-unfolding Bytes
 bytes-take zero b h i = omega arith
 bytes-take (suc n) [] h i = omega arith
 bytes-take (suc n) (x ∷ b) h zero = h 0
 bytes-take (suc n) (x ∷ b) h (suc i) = bytes-take n b (λ j. h (suc j)) i
 
 pub bytes-part : (w at : ℕ) (b : List ℕ) → Bytes b → Bytes (take w (drop at b))
-unfolding Bytes
 bytes-part w at b h = bytes-take w (drop at b) (λ i. rw (getD-drop at b i 0) (h (at + i)))
 
 -- a number is its bytes, and bytes are those of their number
@@ -96,7 +90,6 @@ number-digits (suc w) v h =
     omega (arith, number-digits w (v / 256) j)
 
 pub digits-number : (l : List ℕ) → Bytes l → digits (length l) (number l) ≡ l
-unfolding Bytes
 digits-number [] h = refl
 digits-number (x ∷ l) h =
     let hx : x < 256 = h 0 in

@@ -4,7 +4,8 @@ use native.Mathlib.Omega.{arith}
 use lib.ListN.{length}
 use Rattle.leaflet.specs.Leaflet.{meaning}
 use Rattle.refusals.specs.declared.Refusal.{Refusal}
-use Rattle.refusals.specs.declared.Refusal.the-variants.{Length, Sums, Header, Count, Slice, Order, NoQuorum, Filler, Room, Set, Range, Receiver, Proposal, Voted, Unsent, Large, List, Unsound}
+use Rattle.refusals.specs.declared.Refusal.the-variants.{Length, Sums, Header, Count, Slice, Order, NoQuorum, Filler, Room}
+use Rattle.refusals.specs.declared.Refusal.the-variants.{Set, Range, Receiver, Proposal, Voted, Unsent, Large, List, Unsound, Journal, Numbering}
 use Rattle.text.specs.Text.{ascii}
 
 pub length-meaning : (r : Refusal) → length (ascii (meaning r)) ≤ 200
@@ -26,3 +27,5 @@ length-meaning Unsent = omega arith
 length-meaning Large = omega arith
 length-meaning List = omega arith
 length-meaning Unsound = omega arith
+length-meaning Journal = omega arith
+length-meaning (Numbering block) = omega arith

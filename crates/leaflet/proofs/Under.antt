@@ -7,7 +7,8 @@ use Rattle.leaflet.specs.Leaflet.{meaning}
 use Rattle.refusals.proofs.Settle.{refusalOf}
 use Rattle.refusals.specs.Refusal.{number}
 use Rattle.refusals.specs.declared.Refusal.{Refusal}
-use Rattle.refusals.specs.declared.Refusal.the-variants.{Length, Sums, Header, Count, Slice, Order, NoQuorum, Filler, Room, Set, Range, Receiver, Proposal, Voted, Unsent, Large, Unsound}
+use Rattle.refusals.specs.declared.Refusal.the-variants.{Length, Sums, Header, Count, Slice, Order, NoQuorum, Filler, Room}
+use Rattle.refusals.specs.declared.Refusal.the-variants.{Set, Range, Receiver, Proposal, Voted, Unsent, Large, Unsound, Journal, Numbering}
 use Rattle.text.specs.Text.{ascii}
 use Rattle.text.specs.Written.{Writes}
 
@@ -31,6 +32,8 @@ under-number Unsent = refl
 under-number Large = refl
 under-number Refusal.List = refl
 under-number Unsound = refl
+under-number Journal = refl
+under-number (Numbering i) = refl
 
 -- what stands under a number is written, where that is the number asked for
 pub found : {k : ℕ} {before after : List ℕ} {at end : ℕ} (j : ℕ) → k ≡ j

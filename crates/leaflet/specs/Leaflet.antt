@@ -2,7 +2,7 @@
 use Prim.Native.String.{String, _++_}
 use Rattle.refusals.specs.declared.Refusal.{Refusal}
 use Rattle.refusals.specs.declared.Refusal.the-variants.{Length, Sums, Header, Count, Slice, Order, NoQuorum, Filler, Room}
-use Rattle.refusals.specs.declared.Refusal.the-variants.{Set, Range, Receiver, Proposal, Voted, Unsent, Large, List, Unsound}
+use Rattle.refusals.specs.declared.Refusal.the-variants.{Set, Range, Receiver, Proposal, Voted, Unsent, Large, List, Unsound, Journal, Numbering}
 
 abbrev pub meaning : Refusal → String
 meaning Length =
@@ -16,7 +16,7 @@ meaning (Count site) = "The site has no group at all, or more than 62."
 meaning (Slice site) = "A group of this site does not contain the site itself, or names a site that does not exist."
 meaning (Order site) = "A group does not stand after the one before it: the groups must ascend as numbers, and no group may stand twice."
 meaning NoQuorum = "The table holds no quorum."
-meaning (Filler site) = "Behind the last group of the site something is not zero."
+meaning (Filler site) = "Behind the last group of the site something is not zero. In a journal: behind the last call of the block."
 meaning Room = "The room handed over for the answer is too small."
 meaning Set = "A set of sites names a site that the table does not have."
 meaning Range = "A call names a site that does not exist, a kind above 2, or a side above 1. For a mark: a site above 63."
@@ -29,3 +29,7 @@ meaning List = "The list of calls is not whole (four bytes a call), or has more 
 meaning Unsound =
     "The state handed over is not one that the rules explain: it has the wrong length, "
     ++ "or something in it does not follow from what the sites heard."
+meaning Journal = "The journal does not have a right length. A journal is whole blocks of 512 bytes, and at most 33 of them."
+meaning (Numbering block) =
+    "The block of the journal has a wrong number or a wrong count of calls. The number is the block's place in the file; "
+    ++ "each block but the last has 125 calls, the last 1 to 125."

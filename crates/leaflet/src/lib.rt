@@ -59,7 +59,7 @@ fn put_of_groups(room: &mut [u8], at: usize, k: u64) -> usize
         _ => text::put(
             room,
             at,
-            b"Behind the last group of the site something is not zero.",
+            b"Behind the last group of the site something is not zero. In a journal: behind the last call of the block.",
         ),
     }
 }
@@ -136,6 +136,28 @@ fn put_of_vote(room: &mut [u8], at: usize, k: u64) -> usize
     }
 }
 
+// 19 and 20: the journal and its blocks.
+fn put_of_journal(room: &mut [u8], at: usize, k: u64) -> usize
+    requires { ⌜ at + 200 ≤ length (now room) ⌝ }
+    requires { ⌜ 19 ≤ k ⌝ }
+    requires { ⌜ k ≤ 20 ⌝ }
+    ensures { λ e. ⌜ Writes (ascii (under k)) (now (room .entry)) at e (now (room .exit)) ⌝ }
+{
+    match k {
+        19 => text::put(
+            room,
+            at,
+            b"The journal does not have a right length. A journal is whole blocks of 512 bytes, and at most 33 of them.",
+        ),
+        _ => text::put(
+            room,
+            at,
+            b"The block of the journal has a wrong number or a wrong count of calls. The number is the block's place in the file; \
+              each block but the last has 125 calls, the last 1 to 125.",
+        ),
+    }
+}
+
 // Writes what a refusal means.
 pub fn put_meaning(room: &mut [u8], at: usize, r: Refusal) -> usize
     requires { ⌜ at + 200 ≤ length (now room) ⌝ }
@@ -151,5 +173,8 @@ pub fn put_meaning(room: &mut [u8], at: usize, r: Refusal) -> usize
     if k < 14 {
         return put_of_call(room, at, k);
     }
-    put_of_vote(room, at, k)
+    if k < 19 {
+        return put_of_vote(room, at, k);
+    }
+    put_of_journal(room, at, k)
 }

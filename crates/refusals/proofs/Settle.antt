@@ -7,7 +7,8 @@ use lib.Dec.{eqb}
 use borrow.Author.Tests.{ne-eqb}
 use Rattle.refusals.specs.Refusal.{number, place, NumberSettles}
 use Rattle.refusals.specs.declared.Refusal.{Refusal}
-use Rattle.refusals.specs.declared.Refusal.the-variants.{Length, Sums, Header, Count, Slice, Order, NoQuorum, Filler, Room, Set, Range, Receiver, Proposal, Voted, Unsent, Large, List, Unsound}
+use Rattle.refusals.specs.declared.Refusal.the-variants.{Length, Sums, Header, Count, Slice, Order, NoQuorum, Filler, Room}
+use Rattle.refusals.specs.declared.Refusal.the-variants.{Set, Range, Receiver, Proposal, Voted, Unsent, Large, List, Unsound, Journal, Numbering}
 
 -- the refusal that has a number and a place
 unfoldable pub refusalOf : ℕ → ℕ → Refusal
@@ -29,7 +30,9 @@ refusalOf n i =
     cond (eqb n 15) Unsent (
     cond (eqb n 16) Large (
     cond (eqb n 17) List (
-    Unsound)))))))))))))))))
+    cond (eqb n 18) Unsound (
+    cond (eqb n 19) Journal (
+    Numbering i)))))))))))))))))))
 
 pub back : (r : Refusal) → refusalOf (number r) (place r) ≡ r
 unfolding refusalOf
@@ -51,6 +54,8 @@ back Unsent = refl
 back Large = refl
 back List = refl
 back Unsound = refl
+back Journal = refl
+back (Numbering i) = refl
 
 pub settled : NumberSettles
 settled r s p q = sym (back r) ∙ ap (λ (n : ℕ). refusalOf n (place r)) p ∙ ap (λ (i : ℕ). refusalOf (number s) i) q ∙ back s
@@ -60,10 +65,10 @@ pub some-number : (r : Refusal) → eqb (number r) 0 ≡ false
 unfolding refusalOf
 some-number r =
     ne-eqb (number r) 0
-    (λ e. let u : refusalOf 0 (place r) ≡ r = rw e at (back r) in let v : 18 ≡ number r = ap number u in omega (arith, e, v))
+    (λ e. let u : refusalOf 0 (place r) ≡ r = rw e at (back r) in let v : 20 ≡ number r = ap number u in omega (arith, e, v))
 
 -- and it fits a byte
-pub small-number : (r : Refusal) → number r ≤ 18
+pub small-number : (r : Refusal) → number r ≤ 20
 small-number Length = omega arith
 small-number (Sums i) = omega arith
 small-number (Header i) = omega arith
@@ -82,3 +87,5 @@ small-number Unsent = omega arith
 small-number Large = omega arith
 small-number List = omega arith
 small-number Unsound = omega arith
+small-number Journal = omega arith
+small-number (Numbering i) = omega arith

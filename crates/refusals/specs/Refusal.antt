@@ -1,12 +1,12 @@
 -- The number of each refusal, and the block or site that it carries: "The refusal carries the block or site number for 2 to 8 (for 7: 0)
--- and nothing else."
+-- and nothing else." And since there are journals: "From here on a fault in a block carries its number."
 use Prim.Native.Nat.{ℕ}
 use mathlib.Core.Path.{_≡_}
 use Rattle.refusals.specs.declared.Check.{Check}
 use Rattle.refusals.specs.declared.Check.the-variants.{Sound, Refused}
 use Rattle.refusals.specs.declared.Refusal.{Refusal}
 use Rattle.refusals.specs.declared.Refusal.the-variants.{Length, Sums, Header, Count, Slice, Order, NoQuorum, Filler, Room}
-use Rattle.refusals.specs.declared.Refusal.the-variants.{Set, Range, Receiver, Proposal, Voted, Unsent, Large, List, Unsound}
+use Rattle.refusals.specs.declared.Refusal.the-variants.{Set, Range, Receiver, Proposal, Voted, Unsent, Large, List, Unsound, Journal, Numbering}
 
 abbrev pub number : Refusal → ℕ
 number Length = 1
@@ -27,6 +27,8 @@ number Unsent = 15
 number Large = 16
 number List = 17
 number Unsound = 18
+number Journal = 19
+number (Numbering block) = 20
 
 abbrev pub place : Refusal → ℕ
 place (Sums block) = block
@@ -35,6 +37,7 @@ place (Count site) = site
 place (Slice site) = site
 place (Order site) = site
 place (Filler site) = site
+place (Numbering block) = block
 place Length = 0
 place NoQuorum = 0
 place Room = 0
@@ -47,6 +50,7 @@ place Unsent = 0
 place Large = 0
 place List = 0
 place Unsound = 0
+place Journal = 0
 
 -- a refusal is settled by its number and its place
 abbrev pub NumberSettles : Type 0

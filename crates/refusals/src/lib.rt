@@ -39,6 +39,10 @@ pub enum Refusal {
     List,
     // The state run is unsound.
     Unsound,
+    // A journal that is not a multiple of 512 bytes or has over 16,896.
+    Journal,
+    // A journal's block whose number is not its place, or whose count of calls is none that may stand there.
+    Numbering(u64),
 }
 
 // The answer of a check that has no value to give.
@@ -70,6 +74,8 @@ pub fn number(r: Refusal) -> u64
         Refusal::Large => 16,
         Refusal::List => 17,
         Refusal::Unsound => 18,
+        Refusal::Journal => 19,
+        Refusal::Numbering(_) => 20,
     }
 }
 
@@ -96,6 +102,8 @@ pub fn place(r: Refusal) -> u64
         Refusal::Large => 0,
         Refusal::List => 0,
         Refusal::Unsound => 0,
+        Refusal::Journal => 0,
+        Refusal::Numbering(block) => block,
     }
 }
 

@@ -6,23 +6,23 @@ use mathlib.Core.Path.{_≡_, refl, sym, ap, ap₂, _∙_}
 use native.Mathlib.Omega.{arith}
 use lib.ListN.{length, getD, take, drop, length-append, take-append-drop}
 use lib.Seq.{take-all, take-add, drop-drop, length-take-le}
-use Rattle.block.proofs.Laws.{checkS-front, checkT-front, checkS-lt, checkT-lt, sealed-sums, sums-sealed}
-use Rattle.block.specs.Block.{checkS, checkT, sealed}
+use Rattle.block.proofs.Seal.{seal-field, seal-sealed, sealed-seal}
+use Rattle.block.specs.Block.{seal, sealed}
 use Rattle.ground.proofs.Pieces.{length-cat, cat-ext, cat-split, cat-parts, cat-elements}
 use Rattle.ground.specs.Pieces.{cat, part}
-use Rattle.site_block.specs.Block.{siteField, sitesField, countField, zeroField, sliceField, blockCheck, load, head, places, seal, body, store}
+use Rattle.site_block.specs.Block.{siteField, sitesField, countField, zeroField, sliceField, blockCheck, load, head, places, body, store}
 use Rattle.site_block.proofs.Block.{right-head}
 use Rattle.site_block.proofs.Load.{load-count, load-slice}
 use Rattle.site_block.proofs.Store.{length-body}
-use Rattle.le.proofs.Laws.{Bytes, number-digits, digits-field, field-front, field-at}
-use Rattle.le.specs.Le.{digits, field}
+use Rattle.le.proofs.Laws.{number-digits, digits-field, field-front, field-at}
+use Rattle.le.specs.Le.{Bytes, digits, field}
 use Rattle.table.specs.Table.{count, slice, siteCheck}
 
 -- the fields of a block that was written
 
 store-field : (w n i : ℕ) (m : List ℕ) (at : ℕ) → at + w ≤ 504 → field w (store n i m) at ≡ field w (body n i m) at
-unfolding store seal
-store-field w n i m at h = field-front w (body n i m) _ at (rw (length-body n i m) h)
+unfolding store
+store-field w n i m at h = seal-field w (body n i m) at (rw (length-body n i m) h)
 
 head-field : (n i : ℕ) (m : List ℕ) (at : ℕ) → at + 2 ≤ 8 → field 2 (store n i m) at ≡ field 2 (head i n (count m)) at
 unfolding body head
@@ -61,18 +61,8 @@ module _ (n i : ℕ) (m : List ℕ) where
 
   -- its check
   store-sealed : sealed (store n i m) ≡ true
-  unfolding store seal
-  store-sealed =
-      let b : List ℕ = body n i m in
-      let s : List ℕ = digits 4 (checkS b) in
-      let t : List ℕ = digits 4 (checkT b) in
-      let h : 504 ≤ length b = rw (length-body n i m) (omega arith) in
-      let e : b ++ (s ++ t) ≡ (b ++ s) ++ (t ++ []) = sym (append-assoc b s t) ∙ ap (λ (x : List ℕ). (b ++ s) ++ x) (sym (append-nil t)) in
-      let p : length (b ++ s) ≡ 508 = length-append b s ∙ ap (λ (x : ℕ). x + 4) (length-body n i m) in
-      sums-sealed (store n i m)
-      (field-at 4 b s t 504 (length-body n i m) refl ∙ number-digits 4 (checkS b) (checkS-lt b) ∙ sym (checkS-front b (s ++ t) h))
-      (ap (λ (x : List ℕ). field 4 x 508) e ∙ field-at 4 (b ++ s) t [] 508 p refl ∙ number-digits 4 (checkT b) (checkT-lt b)
-      ∙ sym (checkT-front b (s ++ t) h))
+  unfolding store
+  store-sealed = seal-sealed (body n i m) (length-body n i m)
 
 -- 63 numbers are their count and their places
 all-places : (m : List ℕ) → length m ≡ 63 → count m ∷ cat (λ k. slice m k ∷ []) 62 ≡ m
@@ -126,21 +116,6 @@ module _ (n i : ℕ) (b : List ℕ) (hb : Bytes b) (len : length b ≡ 512) (pi 
       ap₂ _++_ (ap (head i n) (load-count b) ∙ head-load) places-load
       ∙ sym (take-add 8 496 b)
 
-  seal-load : sealed b ≡ true → seal (take 504 b) ≡ b
-  unfolding seal
-  seal-load s =
-      let q = sealed-sums b s in
-      let l : length (take 504 b) ≡ 504 = length-take-le 504 b (rw len (omega arith)) in
-      let h : 504 ≤ length (take 504 b) = rw l (omega arith) in
-      let ks : checkS (take 504 b) ≡ field 4 b 504 = sym (checkS-front (take 504 b) (drop 504 b) h) ∙ ap checkS (take-append-drop 504 b) ∙ sym (q .0) in
-      let kt : checkT (take 504 b) ≡ field 4 b 508 = sym (checkT-front (take 504 b) (drop 504 b) h) ∙ ap checkT (take-append-drop 504 b) ∙ sym (q .1) in
-      ap (λ (x : List ℕ). take 504 b ++ x)
-      (ap₂ _++_ (ap (digits 4) ks ∙ digits-field 4 b 504 (rw len (omega arith)) hb) (ap (digits 4) kt ∙ digits-field 4 b 508 (rw len (omega arith)) hb))
-      ∙ (ap (λ (x : List ℕ). take 504 b ++ (take 4 (drop 504 b) ++ take 4 x)) (sym (drop-drop 4 504 b))
-      ∙ ap (λ (x : List ℕ). take 504 b ++ x) (sym (take-add 4 4 (drop 504 b)))
-      ∙ sym (take-add 504 8 b)
-      ∙ take-all 512 b (rw len (omega arith)))
-
   pub store-load : sealed b ≡ true → store n i (load b) ≡ b
   unfolding store
-  store-load s = ap seal body-load ∙ seal-load s
+  store-load s = ap seal body-load ∙ sealed-seal b hb len s

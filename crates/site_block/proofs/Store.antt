@@ -5,11 +5,11 @@ use mathlib.Core.Path.{_≡_, refl, sym, ap, _∙_}
 use native.Mathlib.Omega.{arith}
 use lib.ListN.{length, take, drop, length-append, take-append-drop}
 use lib.Seq.{sets, take-at, drop-length, length-take-le}
-use Rattle.block.proofs.Laws.{checkS-front, checkT-front}
-use Rattle.block.specs.Block.{checkS, checkT}
+use Rattle.block.proofs.Seal.{length-seal}
+use Rattle.block.specs.Block.{seal}
 use Rattle.ground.proofs.Pieces.{cat-more, length-cat, fill-sets}
 use Rattle.ground.specs.Pieces.{cat}
-use Rattle.site_block.specs.Block.{head, places, seal, body, store}
+use Rattle.site_block.specs.Block.{head, places, body, store}
 use Rattle.le.specs.Le.{digits}
 use Rattle.table.specs.Table.{count, slice}
 
@@ -49,25 +49,6 @@ places-again c b m k h l e =
     ∙ fill-sets (take 8 b ++ places m k) (digits 8 (slice m k)) b (8 + 8 * k) 8 (length-front b m k h) refl (omega arith)
     ∙ rw n (ap (λ (x : List ℕ). x ++ drop (8 + 8 * k + 8) b) (places-more b m k))
 
-pub seal-puts : (b : List ℕ) (s t : ℕ) → length b ≡ 512 → s ≡ checkS b → t ≡ checkT b
-    → sets (sets b 504 (digits 4 s)) 508 (digits 4 t) ≡ seal (take 504 b)
-unfolding seal
-seal-puts b s t h es et =
-    let q : List ℕ = take 504 b in
-    let l : length q ≡ 504 = length-take-le 504 b (omega arith) in
-    let g : 504 ≤ length q = omega arith in
-    let ks : s ≡ checkS q = es ∙ ap checkS (sym (take-append-drop 504 b)) ∙ checkS-front q (drop 504 b) g in
-    let kt : t ≡ checkT q = et ∙ ap checkT (sym (take-append-drop 504 b)) ∙ checkT-front q (drop 504 b) g in
-    let z : drop 512 b ≡ [] = rw (← h) (drop-length b) in
-    ap (λ (x : List ℕ). sets (sets x 504 (digits 4 s)) 508 (digits 4 t)) (sym (take-append-drop 504 b))
-    ∙ ap (λ (x : List ℕ). sets x 508 (digits 4 t)) (fill-sets q (digits 4 s) b 504 4 l refl (omega arith))
-    ∙ fill-sets (q ++ digits 4 s) (digits 4 t) b 508 4 (length-append q (digits 4 s) ∙ ap (λ (x : ℕ). x + 4) l) refl (omega arith)
-    ∙ ap (λ (x : List ℕ). ((q ++ digits 4 s) ++ digits 4 t) ++ x) z
-    ∙ append-nil ((q ++ digits 4 s) ++ digits 4 t)
-    ∙ append-assoc q (digits 4 s) (digits 4 t)
-    ∙ ap (λ (x : ℕ). q ++ (digits 4 x ++ digits 4 t)) ks
-    ∙ ap (λ (x : ℕ). q ++ (digits 4 (checkS q) ++ digits 4 x)) kt
-
 -- the parts together
 
 head-front : (d : List ℕ) (i n many : ℕ) → take 8 (head i n many ++ drop 8 d) ≡ head i n many
@@ -87,6 +68,5 @@ unfolding body head
 length-body n i m = omega (arith, length-places m 62)
 
 pub length-store : (n i : ℕ) (m : List ℕ) → length (store n i m) ≡ 512
-unfolding store seal
-length-store n i m =
-    omega (arith, length-append (body n i m) (digits 4 (checkS (body n i m)) ++ digits 4 (checkT (body n i m))), length-body n i m)
+unfolding store
+length-store n i m = length-seal (body n i m) (length-body n i m)

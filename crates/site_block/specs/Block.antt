@@ -4,7 +4,7 @@ use mathlib.Core.Bool.{Bool, _||_, not}
 use mathlib.Core.List.{List, [], _∷_, _++_}
 use lib.Dec.{eqb}
 use lib.ListN.{getD}
-use Rattle.block.specs.Block.{checkS, checkT, sealed}
+use Rattle.block.specs.Block.{seal, sealed}
 use Rattle.ground.specs.Pieces.{cat}
 use Rattle.ground.specs.Search.{some}
 use Rattle.le.specs.Le.{digits, field}
@@ -58,10 +58,6 @@ head i n many = digits 2 i ++ (digits 2 n ++ (digits 2 many ++ digits 2 0))
 -- "then the slices of 8 bytes, zeros up to byte 503": the first k of a site's 62 places, of which the unused are zero
 unfoldable pub places : List ℕ → ℕ → List ℕ
 places m k = cat (λ j. digits 8 (slice m j)) k
-
--- "Bytes 504 to 507 hold s, 508 to 511 hold t.": 504 bytes, with their check behind them
-unfoldable pub seal : List ℕ → List ℕ
-seal b = b ++ (digits 4 (checkS b) ++ digits 4 (checkT b))
 
 -- the block of site i, whose 63 numbers are m, in a table of n sites: its first 504 bytes, and the block with its check
 unfoldable pub body : ℕ → ℕ → List ℕ → List ℕ

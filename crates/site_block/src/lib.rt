@@ -3,7 +3,7 @@ ghost use mathlib.Core.Path.{_≡_};
 ghost use mathlib.Core.List.{_++_};
 ghost use Prim.Native.Nat.{_≤_, _<_};
 ghost use lib.ListN.{length, take, drop};
-ghost use Rattle.site_block.specs.Block.{load, head, places, seal, store, blockCheck};
+ghost use Rattle.site_block.specs.Block.{load, head, places, store, blockCheck};
 ghost use Rattle.table.specs.Table.{count};
 use refusals::Check;
 use refusals::Refusal;
@@ -70,18 +70,6 @@ fn put_places(b: &mut [u8], m: &[u64])
     }
 }
 
-// Bytes 504 to 511 of a block.
-fn put_sums(b: &mut [u8])
-    requires { ⌜ length (now b) ≡ 512 ⌝ }
-    ensures { λ r. ⌜ now (b .exit) ≡ seal (take 504 (now (b .entry))) ⌝ }
-{
-    let sums = block::sum_words(b);
-    let s = sums.s;
-    let t = sums.t;
-    le::put32(b, 504, s);
-    le::put32(b, 508, t);
-}
-
 // The block of site i, from its 63 numbers.
 pub fn store_block(m: &[u64], n: u64, i: u64, b: &mut [u8])
     requires { ⌜ length (now m) ≡ 63 ⌝ }
@@ -93,5 +81,5 @@ pub fn store_block(m: &[u64], n: u64, i: u64, b: &mut [u8])
 {
     put_head(b, i as u16, n as u16, m[0] as u16);
     put_places(b, m);
-    put_sums(b);
+    block::put_sums(b);
 }

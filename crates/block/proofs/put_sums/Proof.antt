@@ -4,11 +4,11 @@ use mathlib.Core.Path.{ap, _∙_}
 use lib.Seq.{sets}
 use borrow.Author.Needs.{needs}
 use denote.Ref.{now}
-use Rattle.site_block.proofs.Store.{seal-puts}
-use Rattle.site_block.proofs.put_sums.Statement.{statement}
+use Rattle.block.proofs.Seal.{seal-puts}
+use Rattle.block.proofs.put_sums.Statement.{statement}
 use Rattle.le.specs.Le.{digits}
 use mathlib.Core.List.{List}
-use Rattle.site_block.proofs.put_sums.Tie as tie
+use Rattle.block.proofs.put_sums.Tie as tie
 
 returns : tie.Need-returns
 returns c =
