@@ -25,7 +25,11 @@ macro_rules! depth {
     ($call:expr) => {{
         let top: usize;
         // SAFETY: the register is read, and nothing else is done.
+        #[cfg(target_arch = "x86_64")]
         unsafe { asm!("mov {}, rsp", out(reg) top, options(nomem, nostack, preserves_flags)) };
+        // SAFETY: as above.
+        #[cfg(target_arch = "aarch64")]
+        unsafe { asm!("mov {}, sp", out(reg) top, options(nomem, nostack, preserves_flags)) };
         let bottom = top - PAINTED;
         // SAFETY: the thread has more stack than is painted, and a function that calls others keeps nothing below its
         // stack pointer.
