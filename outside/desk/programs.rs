@@ -84,7 +84,9 @@ fn random(dice: &mut Dice) -> (Vec<u8>, u64, Vec<u8>) {
 
 pub fn try_all(root: &Path, leaflet: &Leaflet, samples: &[File]) {
     let root = root.canonicalize().expect("the repository");
-    let (desk, verdict) = (root.join("target/bin/desk"), root.join("target/bin/verdict"));
+    // the folder that outside/programs prints
+    let programs = root.join(std::env::var("PROGRAMS").unwrap_or("target/bin".into()));
+    let (desk, verdict) = (programs.join("desk"), programs.join("verdict"));
     let data = root.join("crates/desk_cases/data");
     let none = Path::new("/dev/null");
 

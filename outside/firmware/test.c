@@ -72,6 +72,7 @@ static uint64_t call_painted(void *function, uint64_t a, uint64_t b, uint64_t c,
     uint64_t answer;
     void *top = painted + STACK;
     memset(painted, PAINT, STACK);
+#if defined(__x86_64__)
     __asm__ volatile("mov %%rsp, %%rbx\n\t"
                      "mov %[top], %%rsp\n\t"
                      "call *%[function]\n\t"
@@ -80,9 +81,41 @@ static uint64_t call_painted(void *function, uint64_t a, uint64_t b, uint64_t c,
                      : [top] "r"(top), [function] "r"(function)
                      : "rbx", "rcx", "r8", "r9", "r10", "r11", "xmm0", "xmm1", "xmm2", "xmm3", "xmm4", "xmm5", "xmm6", "xmm7", "xmm8",
                        "xmm9", "xmm10", "xmm11", "xmm12", "xmm13", "xmm14", "xmm15", "memory", "cc");
+#elif defined(__aarch64__)
+    register uint64_t x0 __asm__("x0") = a;
+    register uint64_t x1 __asm__("x1") = b;
+    register uint64_t x2 __asm__("x2") = c;
+    __asm__ volatile("mov x19, sp\n\t"
+                     "mov sp, %[top]\n\t"
+                     "blr %[function]\n\t"
+                     "mov sp, x19\n\t"
+                     : "+r"(x0), "+r"(x1), "+r"(x2)
+                     : [top] "r"(top), [function] "r"(function)
+                     : "x3", "x4", "x5", "x6", "x7", "x8", "x9", "x10", "x11", "x12", "x13", "x14", "x15", "x16", "x17", "x18", "x19", "x30", "v0", "v1",
+                       "v2", "v3", "v4", "v5", "v6", "v7", "v8", "v9", "v10", "v11", "v12", "v13", "v14", "v15", "v16", "v17", "v18", "v19", "v20", "v21",
+                       "v22", "v23", "v24", "v25", "v26", "v27", "v28", "v29", "v30", "v31", "memory", "cc");
+    answer = x0;
+#else
+#error "no way is known to call on another stack on this machine"
+#endif
     *used = touched();
     return answer & 0xff;
 }
+
+#if !defined(__x86_64__)
+/* A function that writes a copy of a block to its stack. Where a call puts no return address there, the measure of one that needs no stack is 0, as a
+ * measure that sees nothing would be: this one it must see. */
+static uint64_t __attribute__((noinline)) copies(const uint8_t *block, size_t length)
+{
+    volatile uint8_t copy[512];
+    uint64_t sum = 0;
+    for (size_t i = 0; i < length; i++)
+        copy[i] = block[i];
+    for (size_t i = 0; i < length; i++)
+        sum += copy[i];
+    return sum;
+}
+#endif
 
 /* ---- numbers that are the same in each run */
 
@@ -175,6 +208,10 @@ int main(void)
     /* the stack */
     size_t used, most_check = 0, most_mark = 0;
     model_one_site(block);
+#if !defined(__x86_64__)
+    call_painted((void *)copies, (uint64_t)block, 512, 0, &used);
+    same("a copy of a block is seen on the painted stack", used, used >= 512, 1);
+#endif
     for (size_t length = 0; length <= MOST; length++) {
         uint64_t answer = call_painted((void *)siren_block_check, (uint64_t)block, length, 0, &used);
         same("length on the painted stack", length, (unsigned)answer, length == 512 ? 0 : 1);
