@@ -62,7 +62,7 @@ fn asked(faulty: u64, image: &[u8]) -> Check
     }
 }
 
-// The run of a journal's list on an image: its lines, or the refusal and what it means. The room is for every list that a journal keeps.
+// The run of a journal's list on an image: its lines, or the refusal and what it means..
 pub fn replay(faulty: u64, image: &[u8], journal: &[u8], room: &mut [u8; ROOM]) -> usize
     ensures text { λ r. ⌜ Writes (replayText faulty (now (image .entry)) (now (journal .entry))) (now (room .entry)) 0 r (now (room .exit)) ⌝ }
     ensures counts { λ r. ⌜ Counts r (now (room .exit)) ⌝ }
@@ -71,7 +71,7 @@ pub fn replay(faulty: u64, image: &[u8], journal: &[u8], room: &mut [u8; ROOM]) 
     if let Check::Refused(r) = q {
         return lines::put_explained(room, 0, r);
     }
-    let mut calls = [0u8; 16896];
+    let mut calls = [0u8; 16384];
     let q = journal::list(journal, &mut calls);
     match q {
         Listed::Bytes(n) => {
