@@ -42,8 +42,7 @@ write-then-read list room out k h fits =
     ∙ (λ t. Checked.Sound (n t) (callCount (back t))) in
     let reads : listed j (length out) ≡ Listed.Bytes (length list) =
     list-read j (length out) (whole j k m checks .passed) (subst (λ (x : List ℕ). length x ≤ length out) (sym back) fits)
-    ∙ ap (λ (x : List ℕ). Listed.Bytes (length x)) back in
-    (
+    ∙ ap (λ (x : List ℕ). Listed.Bytes (length x)) back in (
       ap check front ∙ checks,
       ap (λ (x : List ℕ). listed x (length out)) front ∙ reads,
       ap (λ (x : List ℕ). listOf x ++ drop (length list) out) front ∙ ap (λ (x : List ℕ). x ++ drop (length list) out) back,
@@ -69,8 +68,7 @@ read-then-write j room out n hb h fits =
     let back : blocksFor (length l) ≡ k = blocks-back j k (w .long) (w .sound) in
     let e : take n (l ++ drop n room) ≡ l = take-at l (drop n room) n (a .1) in
     let writes : keep l (length out) ≡ Kept.Blocks k =
-    written l (length out) (omega (arith, w .bytes)) (omega (arith, w .bytes, w .few-calls)) (omega (arith, back, w .long, fits)) ∙ ap Kept.Blocks back in
-    (
+    written l (length out) (omega (arith, w .bytes)) (omega (arith, w .bytes, w .few-calls)) (omega (arith, back, w .long, fits)) ∙ ap Kept.Blocks back in (
       sym (a .1),
       e,
       ap (λ (x : List ℕ). keep x (length out)) e ∙ writes,

@@ -44,8 +44,7 @@ returns-3 c =
     let s = c .before .before .before .before .before .before .before .before .before .before .before in
     let j = now (s .args .journal) in
     let room = now (s .args .room) in
-    let w = whole j _ _ (sym (c .before .before .before .before .before .before .before .before .check .ensures) ∙ c .before .before .before .before .before .before .q2 .given .1) in
-    (
+    let w = whole j _ _ (sym (c .before .before .before .before .before .before .before .before .check .ensures) ∙ c .before .before .before .before .before .before .q2 .given .1) in (
       sym (list-read j (length room) (w .passed) (omega (arith, w .bytes, c .before .before .before .before .if1 .left)) ∙ ap Listed.Bytes (w .bytes)),
       c .before .before .list-blocks .ensures ∙ ap (λ (x : ℕ). listOf j ++ drop x room) (w .bytes),
     )
