@@ -1,5 +1,6 @@
 /* Every public call of the siren library for C and C++ (and, through its C interface, for Rust): the check of a table of groups, reading and writing
- * it on file, the set questions, the step and the run of a vote. The two calls of the controllers' firmware are in siren_firmware.h.
+ * it on file, the set questions, the step and the run of a vote, and the journal of its calls on file. The two calls of the controllers' firmware are in
+ * siren_firmware.h.
  *
  * Every function here is proved to give the answers written here, for every argument. Link target/staticlib/libcapi.a (x86-64), which
  * `rt staticlib capi` writes. The functions keep no memory between calls, use no heap, call nothing outside the archive but memcpy and memset, and always
@@ -7,7 +8,8 @@
  *
  * Answer.    Each function answers the number of the refusal, 0 if there is none. docs/LEAFLET.md has each number in plain words.
  * out        points to four numbers, which every call writes whole, whatever they held: out[0] is the place of the refusal (the block or site for the
- *            numbers 2 to 6 and 8, else 0), then come the values named at each call. Values that a call does not have are 0, and on a refusal all are.
+ *            numbers 2 to 6, 8 and 20, else 0), then come the values named at each call. Values that a call does not have are 0, and on a refusal all
+ *            are. A fault in a block, of a table as of a journal, carries the block's number: its place in the file, counted from 0.
  * Lengths    are counts of elements and not of bytes: of 64-bit numbers where the pointer is to uint64_t, of bytes where it is to uint8_t, of records
  *            where it is to siren_call. With length 0 the pointer may be null. `out` may not be null.
  * Memory.    A call writes to `out` and to the cells named at it, and to nothing else. On a refusal it writes to `out` alone. Room beyond the named cells
@@ -167,6 +169,52 @@ uint64_t siren_run(const uint64_t *table, size_t length, uint64_t faulty, const 
  */
 uint64_t siren_run_records(const uint64_t *table, size_t length, uint64_t faulty, const siren_call *calls, size_t count, uint64_t *state,
                            size_t state_length, uint8_t *answers, size_t answers_length, uint64_t out[4]);
+
+/* ---- The journal
+ *
+ * A journal keeps a list of calls on file as it was collected, in blocks of 512 bytes: bytes 0 and 1 are the block's number from 0, 2 and 3 the count of
+ * its calls, then come up to 125 calls of four bytes (kind, from, to, side), zeros up to byte 503, and the check of a table's block. Every block but the
+ * last holds 125 calls, the last 1 to 125. The empty list is the empty file. The bytes of the calls are not judged: a call that a run refuses is kept
+ * like any other. Reading what was written gives the list, and writing what was read gives the bytes. Every call that reads a journal checks it whole
+ * first and refuses it with
+ *
+ *   19   the length is not a multiple of 512, or over 16,896
+ *   then block by block, with the block as the place:
+ *    2   the block's check differs
+ *   20   the number is not the block's place in the file, the count is 0 or over 125, or a block but the last has under 125
+ *    8   a byte behind the last call, up to byte 503, is not zero
+ *   then:
+ *   17   the journal has more than 4,096 calls
+ *
+ * Below these are called "the refusals of a journal". Neither journals nor lists need alignment.
+ */
+
+/* The check of a journal. `journal` points to `length` bytes.
+ * Values: out[1] is the number of blocks, out[2] the number of calls.
+ * Refusals: those of a journal.
+ */
+uint64_t siren_journal_check(const uint8_t *journal, size_t length, uint64_t out[4]);
+
+/* Writes a list of calls as a journal. `calls` points to `calls_length` bytes, four a call; `room` to `room_length` bytes.
+ * Values: out[1] is the number of blocks. The first 512 bytes of the room for each of them then hold the journal.
+ *
+ *   17   the list's length is not a multiple of 4, or over 16,384 bytes
+ *    9   the room has fewer than 512 bytes a block
+ */
+uint64_t siren_journal_write(const uint8_t *calls, size_t calls_length, uint8_t *room, size_t room_length, uint64_t out[4]);
+
+/* Reads a journal into the list that siren_run takes. `journal` points to `length` bytes, `room` to `room_length` bytes.
+ * Values: out[1] is the length of the list in bytes, four a call. The first out[1] bytes of the room then hold the list.
+ * Refusals: those of a journal; then 9, the room has fewer bytes than the list.
+ */
+uint64_t siren_journal_list(const uint8_t *journal, size_t length, uint8_t *room, size_t room_length, uint64_t out[4]);
+
+/* Reads one call of a journal. `journal` points to `length` bytes; `place` counts calls from 0.
+ * Values: if there is a call at the place, out[1] is 1, out[2] the call's four bytes as a little-endian number (the kind is its lowest byte), and out[3]
+ * the place of the next. If none is left, out[1], out[2] and out[3] are 0: so it is at every place at or beyond the number of calls.
+ * Refusals: those of a journal. It is checked whole at each call of this function: siren_journal_list does so once.
+ */
+uint64_t siren_journal_next(const uint8_t *journal, size_t length, uint64_t place, uint64_t out[4]);
 
 #ifdef __cplusplus
 }

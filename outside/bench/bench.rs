@@ -134,6 +134,7 @@ fn main() {
     states_and_steps(&bench);
     runs(&bench);
     verdicts(&bench);
+    journals(&bench);
     if !timed {
         println!("bench: the library, the best Rust and the model agree on {} rows", bench.compared.get());
     } else if !bench.same_way.borrow().is_empty() {
@@ -307,6 +308,69 @@ fn runs(bench: &Bench) {
     // A call of four bytes stands in memory as the record does.
     let list = |calls: &[[u8; 4]]| (calls.as_ptr().cast::<Call>(), calls.len());
     runs_of(bench, ("run of records", false), siren_run_records, list, (fast::run_records, model::run_records));
+}
+
+/// A row of both tables: the library against the best Rust, and against Rust that adds the words of a block in order.
+fn rows_of_sums(bench: &Bench, name: &str, model: Answer, library: Side, best: Side, in_order: Side) {
+    bench.row(name, Some(model), library, best);
+    bench.row_of_the_same_way(&format!("{name}, adding in order"), Some(model), library, in_order);
+}
+
+/// The longest journal: 4,096 calls in 33 blocks. The C call for the next call checks the journal whole each time, and
+/// so does the Rust beside it.
+fn journals(bench: &Bench) {
+    let calls = inputs::kept_calls();
+    let mut journal = vec![0; 512 * 33];
+    assert_eq!(model::journal_write(&calls, &mut journal).values, [33, 0, 0]);
+    let (calls, journal) = (calls.as_slice(), journal.as_slice());
+
+    let name = "journal check, 33 blocks";
+    if bench.wants(name) {
+        let mut library = || answer(|out| unsafe { siren_journal_check(journal.as_ptr(), journal.len(), out) });
+        let mut best = || fast::journal_check(black_box(journal));
+        let mut in_order = || fast::journal_check_in_order(black_box(journal));
+        rows_of_sums(bench, name, model::journal_check(journal), &mut library, &mut best, &mut in_order);
+    }
+
+    let name = "journal write, 33 blocks";
+    if bench.wants(name) {
+        let room = |byte: u8| vec![byte; journal.len()];
+        let (mut one, mut other, mut third, mut fourth) = (room(1), room(2), room(3), room(4));
+        let mut library = || {
+            let (list, length) = (calls.as_ptr(), calls.len());
+            answer(|out| unsafe { siren_journal_write(list, length, one.as_mut_ptr(), one.len(), out) })
+        };
+        let mut best = || fast::journal_write(black_box(calls), &mut other);
+        let mut in_order = || fast::journal_write_in_order(black_box(calls), &mut third);
+        let expected = model::journal_write(calls, &mut fourth);
+        rows_of_sums(bench, name, expected, &mut library, &mut best, &mut in_order);
+        assert!([one, other, third, fourth].iter().all(|room| room == journal), "{name}: the rooms differ");
+    }
+
+    let name = "journal list, 33 blocks";
+    if bench.wants(name) {
+        let room = |byte: u8| vec![byte; calls.len()];
+        let (mut one, mut other, mut third, mut fourth) = (room(1), room(2), room(3), room(4));
+        let mut library = || {
+            let (bytes, length) = (journal.as_ptr(), journal.len());
+            answer(|out| unsafe { siren_journal_list(bytes, length, one.as_mut_ptr(), one.len(), out) })
+        };
+        let mut best = || fast::journal_list(black_box(journal), &mut other);
+        let mut in_order = || fast::journal_list_in_order(black_box(journal), &mut third);
+        let expected = model::journal_list(journal, &mut fourth);
+        rows_of_sums(bench, name, expected, &mut library, &mut best, &mut in_order);
+        assert!([one, other, third, fourth].iter().all(|room| room == calls), "{name}: the rooms differ");
+    }
+
+    let name = "journal next, checking 33 blocks";
+    if bench.wants(name) {
+        let place = 4095;
+        let mut library =
+            || answer(|out| unsafe { siren_journal_next(journal.as_ptr(), journal.len(), black_box(place), out) });
+        let mut best = || fast::journal_next(black_box(journal), black_box(place));
+        let mut in_order = || fast::journal_next_in_order(black_box(journal), black_box(place));
+        rows_of_sums(bench, name, model::journal_next(journal, place), &mut library, &mut best, &mut in_order);
+    }
 }
 
 fn verdicts(bench: &Bench) {

@@ -770,3 +770,142 @@ pub fn mark(site: u64, confirmed_drill: u64, confirmed_live: u64) -> u8 {
         ((confirmed_drill & !confirmed_live) >> site & 1) as u8
     }
 }
+
+// ---- The journal of calls
+
+/// The calls of a block, and the blocks of a journal, at most.
+const CALLS: usize = 125;
+const MOST_BLOCKS: usize = 33;
+
+/// The sums of a block, worked out in one way or another.
+type Sums = fn(&[u8; BLOCK]) -> (u32, u32);
+
+/// The first four bytes of a block: its number, and its calls times 2^16.
+#[inline(always)]
+fn journal_head(block: &[u8; BLOCK]) -> u32 {
+    u32::from_le_bytes(*block.first_chunk::<4>().unwrap())
+}
+
+/// Checks a journal whole, and gives its blocks and the number of its calls. A block before the last has no filler.
+#[inline(always)]
+fn journal_checked(journal: &[u8], sums: Sums) -> Result<(&[[u8; BLOCK]], usize), Refusal> {
+    let (blocks, rest) = journal.as_chunks::<BLOCK>();
+    if blocks.len() > MOST_BLOCKS || !rest.is_empty() {
+        return Err((19, 0));
+    }
+    let Some((last, full)) = blocks.split_last() else {
+        return Ok((blocks, 0));
+    };
+    for (place, block) in full.iter().enumerate() {
+        if !check_held(block, sums(block)) {
+            return Err((2, place as u64));
+        }
+        if journal_head(block) != place as u32 | (CALLS as u32) << 16 {
+            return Err((20, place as u64));
+        }
+    }
+    let place = full.len();
+    if !check_held(last, sums(last)) {
+        return Err((2, place as u64));
+    }
+    let count = (journal_head(last) >> 16) as usize;
+    if journal_head(last) & 0xffff != place as u32 || count.wrapping_sub(1) >= CALLS {
+        return Err((20, place as u64));
+    }
+    if last[4 + 4 * count..504].iter().fold(0, |some, byte| some | byte) != 0 {
+        return Err((8, place as u64));
+    }
+    let calls = CALLS * place + count;
+    if calls > 4096 {
+        return Err((17, 0));
+    }
+    Ok((blocks, calls))
+}
+
+#[inline(always)]
+fn journal_check_by(journal: &[u8], sums: Sums) -> Answer {
+    answer(journal_checked(journal, sums).map(|(blocks, calls)| [blocks.len() as u64, calls as u64, 0]))
+}
+
+#[inline(always)]
+fn journal_write_by(calls: &[u8], room: &mut [u8], sums: Sums) -> Answer {
+    answer((|| {
+        if !calls.len().is_multiple_of(4) || calls.len() > 4 * 4096 {
+            return Err((17, 0));
+        }
+        let blocks = calls.len().div_ceil(4 * CALLS);
+        if room.len() < BLOCK * blocks {
+            return Err((9, 0));
+        }
+        let parts = calls.chunks(4 * CALLS).zip(room.as_chunks_mut::<BLOCK>().0);
+        for (place, (part, block)) in parts.enumerate() {
+            let head = place as u32 | (part.len() as u32 / 4) << 16;
+            block[..4].copy_from_slice(&head.to_le_bytes());
+            let (used, filler) = block[4..504].split_at_mut(part.len());
+            used.copy_from_slice(part);
+            filler.fill(0);
+            let (s, t) = sums(block);
+            block[504..].copy_from_slice(&(u64::from(s) | u64::from(t) << 32).to_le_bytes());
+        }
+        Ok([blocks as u64, 0, 0])
+    })())
+}
+
+#[inline(always)]
+fn journal_list_by(journal: &[u8], room: &mut [u8], sums: Sums) -> Answer {
+    answer((|| {
+        let (blocks, calls) = journal_checked(journal, sums)?;
+        let Some(list) = room.get_mut(..4 * calls) else {
+            return Err((9, 0));
+        };
+        for (part, block) in list.chunks_mut(4 * CALLS).zip(blocks) {
+            part.copy_from_slice(&block[4..][..part.len()]);
+        }
+        Ok([4 * calls as u64, 0, 0])
+    })())
+}
+
+#[inline(always)]
+fn journal_next_by(journal: &[u8], place: u64, sums: Sums) -> Answer {
+    answer((|| {
+        let (blocks, calls) = journal_checked(journal, sums)?;
+        if place >= calls as u64 {
+            return Ok([0; 3]);
+        }
+        let at = place as usize;
+        let call = blocks[at / CALLS].as_chunks::<4>().0[1 + at % CALLS];
+        Ok([1, u32::from_le_bytes(call).into(), place + 1])
+    })())
+}
+
+pub fn journal_check(journal: &[u8]) -> Answer {
+    journal_check_by(journal, sums)
+}
+
+pub fn journal_check_in_order(journal: &[u8]) -> Answer {
+    journal_check_by(journal, sums_in_order)
+}
+
+pub fn journal_write(calls: &[u8], room: &mut [u8]) -> Answer {
+    journal_write_by(calls, room, sums)
+}
+
+pub fn journal_write_in_order(calls: &[u8], room: &mut [u8]) -> Answer {
+    journal_write_by(calls, room, sums_in_order)
+}
+
+pub fn journal_list(journal: &[u8], room: &mut [u8]) -> Answer {
+    journal_list_by(journal, room, sums)
+}
+
+pub fn journal_list_in_order(journal: &[u8], room: &mut [u8]) -> Answer {
+    journal_list_by(journal, room, sums_in_order)
+}
+
+pub fn journal_next(journal: &[u8], place: u64) -> Answer {
+    journal_next_by(journal, place, sums)
+}
+
+pub fn journal_next_in_order(journal: &[u8], place: u64) -> Answer {
+    journal_next_by(journal, place, sums_in_order)
+}

@@ -218,6 +218,13 @@ pub fn lists() -> Vec<(&'static str, Rows, u64, Vec<Call>, bool)> {
     ]
 }
 
+/// The calls of the longest journal: a plain day of 64 sites, as much of it as may be kept.
+pub fn kept_calls() -> Vec<u8> {
+    let mut calls = plain_day(64);
+    calls.truncate(4096);
+    calls.concat()
+}
+
 /// Tables of 12 sites for the verdicts: name, table, faulty set.
 pub fn twelve_sites() -> Vec<(&'static str, Rows, u64)> {
     let mut rows = Vec::new();

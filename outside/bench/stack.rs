@@ -64,10 +64,10 @@ impl Depths {
 fn main() {
     let measure = std::thread::Builder::new().stack_size(4 * PAINTED).spawn(measure).expect("a thread");
     let depths = measure.join().expect("the measure");
-    println!("| {:<18} | {:>6} | {:<48} |", "function", "bytes", "deepest on");
-    println!("|{:-<20}|{:->7}:|{:-<50}|", "", "", "");
+    println!("| {:<19} | {:>6} | {:<48} |", "function", "bytes", "deepest on");
+    println!("|{:-<21}|{:->7}:|{:-<50}|", "", "", "");
     for (function, depth, input) in depths.0 {
-        println!("| {:<18} | {depth:>6} | {input:<48} |", function);
+        println!("| {:<19} | {depth:>6} | {input:<48} |", function);
     }
 }
 
@@ -162,6 +162,29 @@ fn measure() -> Depths {
         let list = calls.as_flattened();
         note!(siren_run, list.as_ptr(), list.len());
         note!(siren_run_records, calls.as_ptr().cast::<Call>(), calls.len());
+    }
+
+    let calls = inputs::kept_calls();
+    let lists = [("33 blocks", calls.len()), ("2 blocks", 4 * 130), ("1 block", 4), ("no block", 0)];
+    for (name, length) in lists {
+        let (list, blocks) = (calls.as_ptr(), length.div_ceil(500));
+        let mut journal = vec![0; 512 * blocks];
+        assert_eq!(model::journal_write(&calls[..length], &mut journal).number, 0);
+        let (journal, bytes) = (journal.as_slice().as_ptr(), 512 * blocks);
+        depths.note("siren_journal_check", depth!(unsafe { siren_journal_check(journal, bytes, out) }), name);
+        depths.note(
+            "siren_journal_write",
+            depth!(unsafe { siren_journal_write(list, length, byte_room, byte_room_length, out) }),
+            name,
+        );
+        depths.note(
+            "siren_journal_list",
+            depth!(unsafe { siren_journal_list(journal, bytes, byte_room, byte_room_length, out) }),
+            name,
+        );
+        for place in [0, 4095, u64::MAX] {
+            depths.note("siren_journal_next", depth!(unsafe { siren_journal_next(journal, bytes, place, out) }), name);
+        }
     }
     depths
 }

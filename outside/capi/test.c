@@ -1,6 +1,6 @@
-/* Every call of include/siren.h from C, with answers worked out by hand: on table A of the rules (slices 3; 3; 7; 11; 24), and on tables, rooms, lists
- * and states that are refused. Each call finds `out` full of old numbers between two guards, and must write its four cells and no other. Then the stack
- * that the calls use, measured on a painted stack; a word given leaves that out. */
+/* Every call of include/siren.h from C, with answers worked out by hand: on table A of the rules (slices 3; 3; 7; 11; 24), on journals of none to 4,096
+ * calls, and on tables, rooms, lists, states and journals that are refused. Each call finds `out` full of old numbers between two guards, and must write
+ * its four cells and no other. Then the stack that the calls use, measured on a painted stack; a word given leaves that out. */
 #define _GNU_SOURCE
 #include <stdio.h>
 #include <stdlib.h>
@@ -253,6 +253,177 @@ static void runs_of_records(void)
     same_numbers("no records", state_room, zeros, STATE);
 }
 
+/* ---- the journal */
+
+#define BLOCKS 33
+#define CALLS 4096
+#define JOURNAL (512 * BLOCKS)
+
+static uint8_t whole_list[4 * CALLS + 4], journal[JOURNAL + 512], journal_room[JOURNAL + 7], list_room[4 * CALLS + 7];
+
+static void old_journal_rooms(void)
+{
+    memset(journal_room, OLD_BYTE, sizeof journal_room);
+    memset(list_room, OLD_BYTE, sizeof list_room);
+}
+
+static void all_old(const char *what, const uint8_t *room, size_t length)
+{
+    for (size_t i = 0; i < length; i++)
+        if (room[i] != OLD_BYTE)
+            fail(what, "room changed that was to be kept");
+}
+
+static void put32(uint8_t *at, uint32_t number)
+{
+    for (int i = 0; i < 4; i++)
+        at[i] = (uint8_t)(number >> 8 * i);
+}
+
+/* The check of a block: each of its first 126 words counts once in s, and in t once for every word from it on. */
+static void seal(uint8_t *block)
+{
+    uint32_t s = 0, t = 0;
+    for (uint32_t i = 0; i < 126; i++) {
+        const uint8_t *w = block + 4 * i;
+        const uint32_t word = w[0] | (uint32_t)w[1] << 8 | (uint32_t)w[2] << 16 | (uint32_t)w[3] << 24;
+        s += word;
+        t += (126 - i) * word;
+    }
+    put32(block + 504, s);
+    put32(block + 508, t);
+}
+
+/* The four bytes of the call at a place of the list, all different: the place in two bytes, then a kind that no run takes, then 7. */
+static uint32_t word_at(size_t place)
+{
+    return (uint32_t)place | 255u << 16 | 7u << 24;
+}
+
+/* A block of the list's calls from place 125 k on, as many as told. */
+static void make_block(uint8_t *block, size_t k, size_t count)
+{
+    memset(block, 0, 512);
+    put32(block, (uint32_t)(k | count << 16));
+    for (size_t i = 0; i < count; i++)
+        put32(block + 4 + 4 * i, word_at(125 * k + i));
+    seal(block);
+}
+
+static void make_journal(size_t blocks, size_t last)
+{
+    for (size_t k = 0; k < blocks; k++)
+        make_block(journal + 512 * k, k, k + 1 < blocks ? 125 : last);
+}
+
+/* Every reader refuses the journal in the same way, whatever the room and the place. */
+static void refuses(const char *what, size_t length, uint64_t number, uint64_t place)
+{
+    old_journal_rooms();
+    says(what, siren_journal_check(journal, length, fresh()), number, place, 0, 0, 0);
+    says(what, siren_journal_list(journal, length, list_room, sizeof list_room, fresh()), number, place, 0, 0, 0);
+    says(what, siren_journal_list(journal, length, NULL, 0, fresh()), number, place, 0, 0, 0);
+    says(what, siren_journal_next(journal, length, 0, fresh()), number, place, 0, 0, 0);
+    says(what, siren_journal_next(journal, length, UINT64_MAX, fresh()), number, place, 0, 0, 0);
+    all_old(what, list_room, sizeof list_room);
+}
+
+/* A list of `calls` calls is written as `blocks` blocks, the last with `last` calls, and read again: whole, and at the places around its ends. */
+static void keeps(const char *what, size_t calls, size_t blocks, size_t last)
+{
+    const uint64_t none[] = {calls, calls + 1, 4096, (uint64_t)1 << 32, (uint64_t)1 << 62, UINT64_MAX};
+    make_journal(blocks, last);
+    old_journal_rooms();
+    if (blocks > 0) {
+        says(what, siren_journal_write(whole_list, 4 * calls, journal_room, 512 * blocks - 1, fresh()), 9, 0, 0, 0, 0);
+        says(what, siren_journal_list(journal, 512 * blocks, list_room, 4 * calls - 1, fresh()), 9, 0, 0, 0, 0);
+        all_old(what, journal_room, sizeof journal_room);
+        all_old(what, list_room, sizeof list_room);
+    }
+    says(what, siren_journal_write(whole_list, 4 * calls, journal_room, sizeof journal_room, fresh()), 0, 0, blocks, 0, 0);
+    same_bytes(what, journal_room, journal, 512 * blocks);
+    all_old(what, journal_room + 512 * blocks, sizeof journal_room - 512 * blocks);
+    says(what, siren_journal_check(journal, 512 * blocks, fresh()), 0, 0, blocks, calls, 0);
+    says(what, siren_journal_list(journal, 512 * blocks, list_room, sizeof list_room, fresh()), 0, 0, 4 * calls, 0, 0);
+    same_bytes(what, list_room, whole_list, 4 * calls);
+    all_old(what, list_room + 4 * calls, sizeof list_room - 4 * calls);
+    for (size_t place = 0; place < calls; place += calls < 300 || place % 125 == 124 ? 1 : 31)
+        says(what, siren_journal_next(journal, 512 * blocks, place, fresh()), 0, 0, 1, word_at(place), place + 1);
+    if (calls > 0)
+        says(what, siren_journal_next(journal, 512 * blocks, calls - 1, fresh()), 0, 0, 1, word_at(calls - 1), calls);
+    for (size_t i = 0; i < COUNT(none); i++)
+        if (none[i] >= calls)
+            says(what, siren_journal_next(journal, 512 * blocks, none[i], fresh()), 0, 0, 0, 0, 0);
+}
+
+static void journals(void)
+{
+    static const uint8_t zeros[4], two[8] = {1, 0, 1, 0, 0, 0, 0, 0}; /* propose 0 drill; vote 0 to 1 drill, propose 0 drill */
+    static uint8_t sums[8];
+    for (size_t i = 0; i <= CALLS; i++)
+        put32(whole_list + 4 * i, word_at(i));
+
+    /* one call of zeros: the only word that is not 0 is the first, 65536, and t counts it 126 times; then words 2 * 65536 and 65537, 126 and 125 times */
+    old_journal_rooms();
+    says("one call", siren_journal_write(zeros, 4, journal_room, 512, fresh()), 0, 0, 1, 0, 0);
+    put32(sums, 65536);
+    put32(sums + 4, 8257536);
+    same_bytes("one call", journal_room + 504, sums, 8);
+    says("two calls", siren_journal_write(two, 8, journal_room, 512, fresh()), 0, 0, 1, 0, 0);
+    put32(sums, 196609);
+    put32(sums + 4, 24707197);
+    same_bytes("two calls", journal_room + 504, sums, 8);
+    same_bytes("two calls", journal_room + 4, two, 8);
+
+    keeps("no call", 0, 0, 0);
+    says("no call, no room", siren_journal_write(NULL, 0, NULL, 0, fresh()), 0, 0, 0, 0, 0);
+    says("empty file", siren_journal_check(NULL, 0, fresh()), 0, 0, 0, 0, 0);
+    says("empty file, no room", siren_journal_list(NULL, 0, NULL, 0, fresh()), 0, 0, 0, 0, 0);
+    says("empty file, none left", siren_journal_next(NULL, 0, 0, fresh()), 0, 0, 0, 0, 0);
+    keeps("1 call", 1, 1, 1);
+    keeps("124 calls", 124, 1, 124);
+    keeps("125 calls", 125, 1, 125);
+    keeps("126 calls", 126, 2, 1);
+    keeps("4,000 calls", 4000, 32, 125);
+    keeps("4,096 calls", 4096, 33, 96);
+
+    old_journal_rooms();
+    says("4,097 calls", siren_journal_write(whole_list, 4 * 4097, journal_room, sizeof journal_room, fresh()), 17, 0, 0, 0, 0);
+    says("4,097 calls, no room", siren_journal_write(whole_list, 4 * 4097, NULL, 0, fresh()), 17, 0, 0, 0, 0);
+    says("part of a call", siren_journal_write(whole_list, 7, journal_room, sizeof journal_room, fresh()), 17, 0, 0, 0, 0);
+    all_old("list refused", journal_room, sizeof journal_room);
+
+    make_journal(33, 97);
+    refuses("33 blocks, 97 calls in the last", JOURNAL, 17, 0);
+    journal[512 * 20 + 100] ^= 1;
+    refuses("a damaged block before too many calls", JOURNAL, 2, 20);
+    refuses("a part of a block", JOURNAL - 1, 19, 0);
+    make_block(journal + JOURNAL, 33, 1);
+    refuses("34 blocks", JOURNAL + 512, 19, 0);
+    memset(journal, 0, 512);
+    refuses("512 zero bytes", 512, 20, 0);
+    make_journal(2, 1);
+    make_block(journal, 0, 124);
+    refuses("the first of two with 124", 1024, 20, 0);
+    make_journal(3, 9);
+    make_block(journal + 1024, 2, 126 - 1);
+    journal[1024 + 2] = 126;
+    seal(journal + 1024);
+    refuses("126 calls in the last block", 1536, 20, 2);
+    make_block(journal + 1024, 2, 9);
+    journal[1024 + 503] = 1;
+    seal(journal + 1024);
+    refuses("filler at byte 503", 1536, 8, 2);
+    journal[1024] = 1;
+    seal(journal + 1024);
+    refuses("number and filler", 1536, 20, 2);
+    journal[1024 + 511] ^= 1;
+    refuses("check, number and filler", 1536, 2, 2);
+    journal[512 + 1] = 1;
+    seal(journal + 512);
+    refuses("the number of the block before", 1536, 20, 1);
+}
+
 /* ---- the stack: each part above runs on a stack painted beforehand, and what it touched is no longer painted. The figures hold the parts' own frames. */
 
 static uint8_t painted[STACK];
@@ -295,6 +466,7 @@ int main(int count, char **words)
     voting();
     runs();
     runs_of_records();
+    journals();
     if (count == 1) {
         on_painted("tables", tables, STACK_ALLOWED);
         on_painted("images", images, STACK_ALLOWED);
@@ -303,6 +475,7 @@ int main(int count, char **words)
         on_painted("voting", voting, STACK_ALLOWED);
         on_painted("runs", runs, STACK_OF_LISTS);
         on_painted("runs of records", runs_of_records, STACK_OF_RECORDS);
+        on_painted("journals", journals, STACK_ALLOWED);
     }
     printf("capi: %u calls, every function of include/siren.h, as worked out by hand\n", tried);
     return 0;

@@ -16,14 +16,14 @@ mod watch;
 
 use generate::{Rng, SHAPES};
 use input::{ask_model, difference, Input, Lender, Question};
-use model::{BLOCK, MOST_CALLS, MOST_SLICES, ROW};
+use model::{BLOCK, CALLS_OF_A_BLOCK, LONGEST_JOURNAL, MOST_CALLS, MOST_SLICES, ROW};
 use shrink::mend;
 use std::collections::BTreeMap;
 use std::io::Write;
 use std::process::{exit, Command, Stdio};
 use std::time::Instant;
 
-const DEFAULT_INPUTS: u64 = 1_200_000;
+const DEFAULT_INPUTS: u64 = 1_320_000;
 const DEFAULT_SEED: u64 = 20_240_601;
 
 fn main() {
@@ -86,6 +86,8 @@ impl Comparison {
             Question::Shared => ("shared sites (1: the table meets)", first),
             Question::Intact => ("number of intact sites", first.count_ones().into()),
             Question::Run | Question::RunRecords => ("passes of the run", first),
+            Question::JournalCheck => ("blocks of a journal", first),
+            Question::JournalNext => ("next call of a journal (1: there is one)", first),
             _ => return,
         };
         if model.number == 0 {
@@ -124,6 +126,12 @@ impl Comparison {
         self.known_states();
         self.every_short_list();
         self.known_lists();
+        self.every_length_of_a_journal();
+        self.every_bit_of_a_journal();
+        self.every_count_of_a_block();
+        self.every_pair_of_faults_of_a_journal();
+        self.every_list_kept();
+        self.every_place_in_a_journal();
     }
 
     /// Each shape with each number of sites: checked, written, read, written and read in turn.
@@ -392,12 +400,169 @@ impl Comparison {
         }
     }
 
+    /// Puts a journal to every call of the reader; the room fits its list, or is as long as given.
+    fn read_journal(&mut self, kind: &'static str, bytes: &[u8], place: u64, room: Option<usize>) {
+        let bytes_room = room.unwrap_or_else(|| model::journal_calls(bytes).map_or(0, |calls| 4 * calls.len()));
+        self.same(kind, &Input::with(Question::JournalCheck, bytes));
+        self.same(kind, &Input { bytes_room, ..Input::with(Question::JournalList, bytes) });
+        self.same(kind, &Input { place, ..Input::with(Question::JournalNext, bytes) });
+    }
+
+    /// Journals of every length up to one that is too long, and of some beyond; those close to a whole number of blocks
+    /// read too, into rooms short, exact and long. 33 blocks with 125 calls each are too many calls, with 96 in the last
+    /// they are not.
+    fn every_length_of_a_journal(&mut self) {
+        const KIND: &str = "journals of every length";
+        let mut rng = Rng::new(self.seed, 9, 0);
+        let longest = generate::journal(&mut rng, &[CALLS_OF_A_BLOCK; 35]);
+        for length in (0..=LONGEST_JOURNAL + 4).chain([17407, 17408, 17409, 17920]) {
+            let input = Input { gap: length % 8, ..Input::with(Question::JournalCheck, &longest[..length]) };
+            self.same(KIND, &input);
+        }
+        for blocks in 0..=35 {
+            for off in [-8, -1, 0, 1, 8] {
+                let length = (BLOCK * blocks).saturating_add_signed(off).min(longest.len());
+                self.read_journal(KIND, &longest[..length], 1, Some(500 * blocks));
+            }
+            for count in [1, 95, 96, 97, 124] {
+                let mut counts = [CALLS_OF_A_BLOCK; 35];
+                counts[blocks.max(1) - 1] = count;
+                let journal = generate::journal(&mut rng, &counts[..blocks]);
+                let list = 500 * blocks.max(1) + 4 * count - 500;
+                for room in [0, list - 1, list, list + 1, 500 * blocks, BLOCK * blocks] {
+                    self.read_journal(KIND, &journal, list as u64 / 4, Some(room));
+                }
+            }
+        }
+    }
+
+    /// Every bit of journals of one and of two blocks, and of one block among 33, with the check left wrong and with the
+    /// check mended; and every value of the bytes before the calls.
+    fn every_bit_of_a_journal(&mut self) {
+        const KIND: &str = "journals with each bit damaged";
+        for (counts, place) in [(&[3][..], 0), (&[125, 60], 0), (&[125, 60], 1), (&[125, 125], 1)] {
+            let good = generate::journal(&mut Rng::new(self.seed, 10, counts.len() as u64), counts);
+            for bit in 0..8 * BLOCK {
+                let mut bytes = good.clone();
+                bytes[BLOCK * place + bit / 8] ^= 1 << (bit % 8);
+                self.read_journal(KIND, &bytes, bit as u64 / 16, None);
+                mend(&mut bytes[BLOCK * place..BLOCK * (place + 1)]);
+                self.read_journal(KIND, &bytes, bit as u64 / 16, None);
+            }
+            for value in 0..4 * 256 {
+                let mut bytes = good.clone();
+                bytes[BLOCK * place + value / 256] = value as u8;
+                mend(&mut bytes[BLOCK * place..BLOCK * (place + 1)]);
+                self.read_journal(KIND, &bytes, 0, None);
+            }
+        }
+        let mut counts = [CALLS_OF_A_BLOCK; 33];
+        counts[32] = 96;
+        let good = generate::journal(&mut Rng::new(self.seed, 10, 33), &counts);
+        for place in [0, 17, 31, 32] {
+            for byte in 0..BLOCK {
+                let mut bytes = good.clone();
+                bytes[BLOCK * place + byte] ^= 1 << (byte % 8);
+                self.same(KIND, &Input::with(Question::JournalCheck, &bytes));
+                mend(&mut bytes[BLOCK * place..BLOCK * (place + 1)]);
+                self.same(KIND, &Input::with(Question::JournalCheck, &bytes));
+            }
+        }
+    }
+
+    /// Every count of a lone block; in journals of more blocks, counts of the first, of one amid and of the last. The
+    /// calls are zeros, so that no filler is wrong, or all ones, so that it is with every count that is too low.
+    fn every_count_of_a_block(&mut self) {
+        const KIND: &str = "blocks of a journal with every count";
+        let counted = |blocks: usize, place: usize, count: usize, byte: u8| {
+            let calls = vec![[byte; 4]; CALLS_OF_A_BLOCK];
+            let mut journal = model::journal_of(&calls.repeat(blocks));
+            let block = &mut journal[BLOCK * place..BLOCK * (place + 1)];
+            block[2..4].copy_from_slice(&(count as u16).to_le_bytes());
+            mend(block);
+            journal
+        };
+        for count in 0..=usize::from(u16::MAX) {
+            self.same(KIND, &Input::with(Question::JournalCheck, &counted(1, 0, count, 0)));
+        }
+        let counts: Vec<usize> = (0..=130).chain([255, 256, 257, 381, 511, 512, 32768, 65535]).collect();
+        for (blocks, place) in [(1, 0), (2, 0), (2, 1), (3, 1), (32, 31), (33, 0), (33, 31), (33, 32)] {
+            for count in &counts {
+                for byte in [0, 255] {
+                    let place_of_call = CALLS_OF_A_BLOCK * place + count;
+                    self.read_journal(KIND, &counted(blocks, place, *count, byte), place_of_call as u64, None);
+                }
+            }
+        }
+    }
+
+    /// Two faults, each in each block of a journal of three; and one in each block of a journal of too many calls.
+    fn every_pair_of_faults_of_a_journal(&mut self) {
+        const KIND: &str = "journals with two faults";
+        let mut rng = Rng::new(self.seed, 11, 0);
+        let good = generate::journal(&mut rng, &[125, 125, 7]);
+        let mut counts = [CALLS_OF_A_BLOCK; 33];
+        counts[32] = 97;
+        let over = generate::journal(&mut rng, &counts);
+        let damage = |rng: &mut Rng, journal: &mut [u8], place: usize, fault: usize| {
+            generate::damage_journal_block(rng, &mut journal[BLOCK * place..BLOCK * (place + 1)], fault)
+        };
+        for fault in 0..generate::JOURNAL_FAULTS {
+            for code in 0..9 * generate::JOURNAL_FAULTS {
+                let mut bytes = good.clone();
+                damage(&mut rng, &mut bytes, code % 3, fault);
+                damage(&mut rng, &mut bytes, code / 3 % 3, code / 9);
+                self.read_journal(KIND, &bytes, 0, Some(code));
+            }
+            for place in 0..33 {
+                let mut bytes = over.clone();
+                damage(&mut rng, &mut bytes, place, fault);
+                self.read_journal(KIND, &bytes, 4096, None);
+            }
+        }
+    }
+
+    /// Lists of every length, written into rooms short, exact and long; and of every number of calls, written, read and
+    /// written again.
+    fn every_list_kept(&mut self) {
+        const KIND: &str = "lists of every length, kept";
+        let calls = generate::kept_calls(&mut Rng::new(self.seed, 12, 0), MOST_CALLS + 5).concat();
+        for length in 0..=4 * MOST_CALLS + 20 {
+            let mut input = Input { gap: length % 8, ..Input::with(Question::JournalWrite, &calls[..length]) };
+            let needed = input.journal_bytes();
+            input.bytes_room = needed + length % 3;
+            self.same(KIND, &input);
+            if length % 4 == 0 || length % 64 == 1 {
+                for bytes_room in [needed.saturating_sub(1), needed.saturating_sub(BLOCK), 0] {
+                    self.same(KIND, &Input { bytes_room, ..input.clone() });
+                }
+            }
+            if length % 4 == 0 && length <= 4 * MOST_CALLS {
+                self.same(KIND, &Input::with(Question::JournalTrip, &calls[..length]));
+            }
+        }
+    }
+
+    /// Every place in journals of a few calls, of whole blocks and of the most; and places far beyond.
+    fn every_place_in_a_journal(&mut self) {
+        const KIND: &str = "every place in a journal";
+        for count in [0, 1, 2, 124, 125, 126, 249, 250, 251, 375, MOST_CALLS - 1, MOST_CALLS] {
+            let journal = model::journal_of(&generate::kept_calls(&mut Rng::new(self.seed, 13, count as u64), count));
+            let powers = (0..64).map(|bit| 1u64 << bit);
+            let far = powers.clone().chain(powers.map(|power| power.wrapping_neg()));
+            let low = far.clone().map(|place| place.wrapping_add(count as u64 / 2));
+            for place in (0..=count as u64 + 3).chain(far).chain(low) {
+                self.same(KIND, &Input { place, ..Input::with(Question::JournalNext, &journal) });
+            }
+        }
+    }
+
     // ---- What is drawn
 
     /// Draws inputs of each sort until it has its share of the number asked for.
     fn draw(&mut self, inputs: u64) {
         type Part = fn(&mut Comparison, &mut Rng);
-        let parts: [(&[&str], u64, Part); 10] = [
+        let parts: [(&[&str], u64, Part); 11] = [
             (&[TABLES], 120, Comparison::draw_tables),
             (&[IMAGES], 100, Comparison::draw_images),
             (&[WRITES], 70, Comparison::draw_writes),
@@ -408,11 +573,13 @@ impl Comparison {
             (&[INTACT], 60, Comparison::draw_intact),
             (&[STEPS, REACHED, PLANTED, CIRCULAR], 180, Comparison::draw_walks),
             (&[RUNS], 80, Comparison::draw_runs),
+            (&[JOURNALS, KEPT], 100, Comparison::draw_journals),
         ];
+        let whole: u64 = parts.iter().map(|(_, share, _)| share).sum();
         for (part, (kinds, share, draw)) in parts.into_iter().enumerate() {
             let mut place = 0;
             while kinds.iter().map(|kind| self.kinds.get(kind).copied().unwrap_or(0)).sum::<u64>()
-                < inputs * share / 1000
+                < inputs * share / whole
             {
                 draw(self, &mut Rng::new(self.seed, 100 + part as u64, place));
                 place += 1;
@@ -626,6 +793,46 @@ impl Comparison {
         }
     }
 
+    /// Journals as they were written, and with damage; and lists, written.
+    fn draw_journals(&mut self, rng: &mut Rng) {
+        let count = generate::kept_count(rng);
+        let calls = generate::kept_calls(rng, count);
+        let good = match rng.below(16) {
+            // Blocks with any number of calls, and more blocks or calls than there may be.
+            0 => {
+                let counts: Vec<usize> = (0..rng.between(1, 4)).map(|_| rng.between(0, 126)).collect();
+                generate::journal(rng, &counts)
+            }
+            1 => {
+                let mut counts = vec![CALLS_OF_A_BLOCK; rng.between(32, 34)];
+                *counts.last_mut().unwrap() = rng.between(94, 126);
+                generate::journal(rng, &counts)
+            }
+            _ => model::journal_of(&calls),
+        };
+        for _ in 0..8 {
+            let mut bytes = good.clone();
+            if !rng.once_in(3) {
+                generate::damage_journal(rng, &mut bytes);
+            }
+            let question = rng.pick(&[Question::JournalCheck, Question::JournalList, Question::JournalNext]);
+            let (place, bytes_room) = (generate::place(rng, count), room(rng, 4 * count));
+            let gap = if rng.once_in(2) { 0 } else { rng.below(8) };
+            self.same(JOURNALS, &Input { bytes, place, bytes_room, gap, ..Input::new(question) });
+        }
+        for _ in 0..2 {
+            let mut input = Input::with(Question::JournalWrite, calls.as_flattened());
+            match rng.below(12) {
+                0 => input.bytes.resize(4 * count + rng.between(1, 3), 255),
+                1 => input.bytes.resize(4 * MOST_CALLS + rng.below(12), 255),
+                _ => input.gap = rng.below(8),
+            }
+            input.bytes_room = room(rng, input.journal_bytes());
+            self.same(KEPT, &input);
+        }
+        self.same(KEPT, &Input::with(Question::JournalTrip, calls.as_flattened()));
+    }
+
     // ---- The verdict program
 
     /// The program's output for small tables, damaged images and inputs of odd lengths.
@@ -696,3 +903,5 @@ const REACHED: &str = "states that calls led to";
 const PLANTED: &str = "planted states, asked about and stepped from";
 const CIRCULAR: &str = "steps from states in which sites hold each other up";
 const RUNS: &str = "runs";
+const JOURNALS: &str = "journals drawn and read";
+const KEPT: &str = "lists drawn and kept";

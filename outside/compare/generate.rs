@@ -1,7 +1,7 @@
 //! The inputs: tables of every shape and size, damage to tables and images, states that calls lead to and states that
-//! none leads to, lists.
+//! none leads to, lists, journals and damage to them.
 
-use crate::model::{self, BLOCK, MOST_SLICES, ROW};
+use crate::model::{self, BLOCK, CALLS_OF_A_BLOCK, MOST_CALLS, MOST_SLICES, ROW};
 
 /// Numbers that the seed decides.
 pub struct Rng(u64);
@@ -601,4 +601,132 @@ pub fn backward_chain(n: usize) -> Vec<[u8; 4]> {
     calls.extend((1..n).rev().flat_map(|v| (1..n).rev().filter(move |u| *u != v).map(move |u| [1, u, v, 0])));
     calls.extend((0..n).map(|v| [0, v, v, 0]));
     calls
+}
+
+// ---- Journals
+
+/// The calls of a journal: as many as asked for, of any bytes, of the bytes that a call has, or of the greatest words.
+pub fn kept_calls(rng: &mut Rng, count: usize) -> Vec<[u8; 4]> {
+    let sort = rng.below(8);
+    let mut call = || {
+        let bytes = rng.next().to_le_bytes();
+        match sort {
+            0..=2 => [bytes[0], bytes[1], bytes[2], bytes[3]],
+            // Words close to 2^32, whose sums run over again and again.
+            3 => [255 - bytes[0] % 2, 255, 255, 255],
+            4 => [0; 4],
+            _ => [bytes[0] % 3, bytes[1] % 64, bytes[2] % 64, bytes[3] % 2],
+        }
+    };
+    (0..count).map(|_| call()).collect()
+}
+
+/// A number of calls for a journal: a few, around whole blocks, around the most, any.
+pub fn kept_count(rng: &mut Rng) -> usize {
+    match rng.below(16) {
+        0 => 0,
+        1..=4 => rng.between(1, 20),
+        5..=9 => CALLS_OF_A_BLOCK * rng.between(1, 4) + rng.below(3) - 1,
+        10 => CALLS_OF_A_BLOCK * rng.between(1, 32) + rng.below(3) - 1,
+        11 | 12 => MOST_CALLS - rng.below(3),
+        13 => rng.below(MOST_CALLS + 1),
+        _ => rng.between(1, 4 * CALLS_OF_A_BLOCK),
+    }
+}
+
+/// A journal of any number of blocks, each with as many calls as asked for, whether or not it may have them; past 125
+/// the count alone grows.
+pub fn journal(rng: &mut Rng, counts: &[usize]) -> Vec<u8> {
+    let mut bytes = Vec::new();
+    for (place, count) in counts.iter().enumerate() {
+        let mut block = model::journal_block(place, &kept_calls(rng, (*count).min(CALLS_OF_A_BLOCK)));
+        block[2..4].copy_from_slice(&(*count as u16).to_le_bytes());
+        crate::shrink::mend(&mut block);
+        bytes.extend(block);
+    }
+    bytes
+}
+
+/// The faults of a block of a journal.
+pub const JOURNAL_FAULTS: usize = 16;
+
+/// Puts a fault into a block of a journal, and the right check behind it where the check itself is not the fault. Some
+/// do nothing in some blocks: not every block has filler.
+pub fn damage_journal_block(rng: &mut Rng, block: &mut [u8], fault: usize) {
+    let number = u16::from_le_bytes([block[0], block[1]]);
+    let count = usize::from(u16::from_le_bytes([block[2], block[3]]));
+    let end = 4 + 4 * count.min(CALLS_OF_A_BLOCK);
+    let mut set = |at: usize, value: u16| block[at..at + 2].copy_from_slice(&value.to_le_bytes());
+    match fault {
+        0 => set(0, number.wrapping_add(1)),
+        1 => set(0, number.wrapping_sub(1)),
+        2 => set(0, number ^ 256),
+        3 => set(0, rng.next() as u16),
+        4 => set(2, 0),
+        5 => set(2, 126),
+        6 => set(2, 124),
+        7 => set(2, 125),
+        8 => set(2, count as u16 ^ 256),
+        9 => set(2, rng.next() as u16),
+        10 => set(2, count.saturating_sub(1) as u16),
+        11 if end < 504 => block[end] = 1,
+        11 | 12 => block[503] = 128,
+        13 if end < 504 => block[rng.between(end, 503)] ^= 1 << rng.below(8),
+        13 | 14 => block[504 + rng.below(8)] ^= 1 << rng.below(8),
+        _ => block[rng.below(504)] ^= 1 << rng.below(8),
+    }
+    let check_is_the_fault = fault == 14 || fault == 13 && end == 504 || fault == 15 && rng.once_in(2);
+    if !check_is_the_fault {
+        crate::shrink::mend(block);
+    }
+}
+
+/// One to three faults in blocks of a journal; now and then a fault without a new check, blocks that change places,
+/// one that is there twice, one that is missing, and another length.
+pub fn damage_journal(rng: &mut Rng, journal: &mut Vec<u8>) {
+    let blocks = journal.len() / BLOCK;
+    if blocks > 0 {
+        for _ in 0..rng.between(1, 3) {
+            let place = if rng.once_in(3) { blocks - 1 } else { rng.below(blocks) };
+            let block = &mut journal[BLOCK * place..BLOCK * (place + 1)];
+            let sums = block[504..].to_vec();
+            let fault = rng.below(JOURNAL_FAULTS);
+            damage_journal_block(rng, block, fault);
+            if rng.once_in(8) {
+                block[504..].copy_from_slice(&sums);
+            }
+        }
+        let (one, other) = (BLOCK * rng.below(blocks), BLOCK * rng.below(blocks));
+        match rng.below(16) {
+            0 => journal.copy_within(one..one + BLOCK, other),
+            1 => drop(journal.drain(one..one + BLOCK)),
+            2 => journal.extend_from_within(one..one + BLOCK),
+            _ => {}
+        }
+    }
+    if rng.once_in(10) {
+        let length = match rng.below(4) {
+            0 => journal.len().saturating_sub(rng.between(1, 8)),
+            1 => journal.len() + rng.between(1, 8),
+            2 => BLOCK * rng.below(36),
+            _ => rng.below(BLOCK * 35),
+        };
+        journal.resize(length, 0);
+    }
+}
+
+/// A place in a journal of a number of calls: at its ends, at the ends of its blocks, far beyond, any.
+pub fn place(rng: &mut Rng, calls: usize) -> u64 {
+    let near = |rng: &mut Rng, at: usize| (at + 2).saturating_sub(rng.below(5)) as u64;
+    let block = rng.between(0, calls / CALLS_OF_A_BLOCK);
+    match rng.below(10) {
+        0 => 0,
+        1 | 2 => near(rng, calls),
+        3 | 4 => near(rng, CALLS_OF_A_BLOCK * block),
+        5 => u64::MAX - rng.below(3) as u64,
+        // Places whose low part is that of a call.
+        6 => (1 << rng.between(16, 63)) + rng.below(calls + 1) as u64,
+        7 => rng.next() >> rng.below(64),
+        _ => rng.below(calls + 1) as u64,
+    }
 }

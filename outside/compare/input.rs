@@ -23,6 +23,11 @@ pub enum Question {
     Step,
     Run,
     RunRecords,
+    JournalCheck,
+    JournalWrite,
+    JournalList,
+    JournalNext,
+    JournalTrip,
 }
 
 /// A public call and its arguments. A question looks at those that it has; the others are empty or zero.
@@ -31,7 +36,7 @@ pub struct Input {
     pub question: Question,
     /// The table in memory.
     pub table: Vec<u64>,
-    /// The image, the lone block or the list of calls.
+    /// The image, the lone block, the list of calls or the journal.
     pub bytes: Vec<u8>,
     /// The state, lent to be read by `Sound` and to be changed by `Step`.
     pub state: Vec<u64>,
@@ -41,6 +46,8 @@ pub struct Input {
     /// The confirmed masks of a mark.
     pub confirmed: [u64; 2],
     pub call: [u8; 4],
+    /// The place in a journal, counted in calls.
+    pub place: u64,
     /// The room lent for numbers, and for bytes.
     pub cells_room: usize,
     pub bytes_room: usize,
@@ -59,6 +66,7 @@ impl Input {
             site: 0,
             confirmed: [0; 2],
             call: [0; 4],
+            place: 0,
             cells_room: 0,
             bytes_room: 0,
             gap: 0,
@@ -67,6 +75,15 @@ impl Input {
 
     pub fn of(question: Question, table: &[u64]) -> Input {
         Input { table: table.to_vec(), ..Input::new(question) }
+    }
+
+    pub fn with(question: Question, bytes: &[u8]) -> Input {
+        Input { bytes: bytes.to_vec(), ..Input::new(question) }
+    }
+
+    /// The bytes that the blocks of a journal take, if the input's bytes are its list.
+    pub fn journal_bytes(&self) -> usize {
+        model::BLOCK * self.calls().len().div_ceil(model::CALLS_OF_A_BLOCK)
     }
 
     pub fn calls(&self) -> Vec<[u8; 4]> {
@@ -121,6 +138,8 @@ fn rooms(input: &Input) -> (Vec<u64>, Vec<u8>) {
         Question::RoundTrip => (cells(input.cells_room), bytes(input.bytes_room)),
         Question::Step => (cells_with(&input.state), Vec::new()),
         Question::Run | Question::RunRecords => (cells(input.cells_room), bytes(input.bytes_room)),
+        Question::JournalWrite | Question::JournalList => (Vec::new(), bytes(input.bytes_room)),
+        Question::JournalTrip => (Vec::new(), bytes(input.journal_bytes() + input.bytes.len())),
         _ => (Vec::new(), Vec::new()),
     }
 }
@@ -159,6 +178,20 @@ pub fn ask_model(input: &Input) -> Outcome {
         Question::Step => model::step(table, *set, lent(&mut cells), input.call),
         Question::Run => model::run(table, *set, bytes, lent(&mut cells), lent(&mut room)),
         Question::RunRecords => model::run_records(table, *set, &input.calls(), lent(&mut cells), lent(&mut room)),
+        Question::JournalCheck => model::journal_check(bytes),
+        Question::JournalWrite => model::journal_write(bytes, lent(&mut room)),
+        Question::JournalList => model::journal_list(bytes, lent(&mut room)),
+        Question::JournalNext => model::journal_next(bytes, input.place),
+        // The journal stands in the first part of the room, the list that is read from it in the second; then the
+        // journal is written once more, from that list.
+        Question::JournalTrip => {
+            let (journal, list) = lent(&mut room).split_at_mut(input.journal_bytes());
+            let written = model::journal_write(bytes, journal);
+            let read = model::journal_list(journal, list);
+            journal.fill(0);
+            let again = model::journal_write(list, journal);
+            Answer { values: [written.number, read.number, again.number], ..written }
+        }
     };
     let [first, second, third] = answer.values;
     let out = [UNWRITTEN, answer.place, first, second, third, UNWRITTEN];
@@ -225,6 +258,21 @@ impl Lender {
                     let (calls, count) = (bytes.cast::<Call>(), bytes_length / 4);
                     siren_run_records(table, length, set, calls, count, cells, cells_length, room, room_length, out)
                 }
+                Question::JournalCheck => siren_journal_check(bytes, bytes_length, out),
+                Question::JournalWrite => siren_journal_write(bytes, bytes_length, room, room_length, out),
+                Question::JournalList => siren_journal_list(bytes, bytes_length, room, room_length, out),
+                Question::JournalNext => siren_journal_next(bytes, bytes_length, input.place, out),
+                Question::JournalTrip => {
+                    let part = input.journal_bytes();
+                    let list = room.add(part);
+                    let written = siren_journal_write(bytes, bytes_length, room, part, out);
+                    let place = *out;
+                    let read = siren_journal_list(room, part, list, room_length - part, out);
+                    room.write_bytes(0, part);
+                    let again = siren_journal_write(list, room_length - part, room, part, out);
+                    [place, written, read, again].as_ptr().copy_to(out, 4);
+                    written
+                }
             }
         };
         let kept = self.table.holds(&input.table, 0)
@@ -272,7 +320,11 @@ impl fmt::Display for Input {
             }
         }
         match self.question {
-            Question::ImageRead | Question::BlockCheck => {
+            Question::ImageRead
+            | Question::BlockCheck
+            | Question::JournalCheck
+            | Question::JournalList
+            | Question::JournalNext => {
                 writeln!(f, "bytes: {}", self.bytes.len())?;
                 for (place, block) in self.bytes.chunks(model::BLOCK).enumerate() {
                     for (at, bytes) in block.chunks(8).enumerate().filter(|(_, bytes)| bytes.iter().any(|b| *b != 0)) {
@@ -280,7 +332,7 @@ impl fmt::Display for Input {
                     }
                 }
             }
-            Question::Run | Question::RunRecords => {
+            Question::Run | Question::RunRecords | Question::JournalWrite | Question::JournalTrip => {
                 writeln!(f, "calls: {} bytes (kind, from, to, side)", self.bytes.len())?;
                 for call in self.bytes.chunks(4) {
                     writeln!(f, "  {call:?}")?;
@@ -294,6 +346,9 @@ impl fmt::Display for Input {
             for (at, cell) in self.state.iter().enumerate().filter(|(_, cell)| **cell != 0) {
                 writeln!(f, "  cell {at}: {cell:#x}")?;
             }
+        }
+        if self.question == Question::JournalNext {
+            writeln!(f, "place {}", self.place)?;
         }
         write!(f, "room for {} numbers and {} bytes", self.cells_room, self.bytes_room)
     }

@@ -66,6 +66,22 @@ extern "C" {
         answers_length: usize,
         out: *mut u64,
     ) -> u64;
+    pub fn siren_journal_check(journal: *const u8, length: usize, out: *mut u64) -> u64;
+    pub fn siren_journal_write(
+        calls: *const u8,
+        calls_length: usize,
+        room: *mut u8,
+        room_length: usize,
+        out: *mut u64,
+    ) -> u64;
+    pub fn siren_journal_list(
+        journal: *const u8,
+        length: usize,
+        room: *mut u8,
+        room_length: usize,
+        out: *mut u64,
+    ) -> u64;
+    pub fn siren_journal_next(journal: *const u8, length: usize, place: u64, out: *mut u64) -> u64;
     pub fn siren_block_check(block: *const u8, length: usize) -> u8;
     pub fn siren_site_mark(site: u64, confirmed_drill: u64, confirmed_live: u64) -> u8;
 }

@@ -2,7 +2,7 @@
 //! other, as long as some difference stays.
 
 use crate::input::{Input, Question};
-use crate::model::{self, BLOCK, ROW};
+use crate::model::{self, BLOCK, CALLS_OF_A_BLOCK, ROW};
 use std::time::{Duration, Instant};
 
 /// The smallest input found for which `differs` holds.
@@ -40,10 +40,16 @@ fn is_list(input: &Input) -> bool {
     matches!(input.question, Question::Run | Question::RunRecords)
 }
 
+/// The bytes are the blocks of a journal.
+fn is_journal(input: &Input) -> bool {
+    matches!(input.question, Question::JournalCheck | Question::JournalList | Question::JournalNext)
+}
+
 /// Half of the calls, a quarter, and so on down to each single one. The rooms shrink with the list, so that they stay
 /// as they fit.
 fn drop_calls<'a>(input: &'a Input, steps: &mut Vec<Make<'a>>) {
-    if !is_list(input) {
+    let kept = matches!(input.question, Question::JournalWrite | Question::JournalTrip);
+    if !is_list(input) && !kept {
         return;
     }
     let calls = input.bytes.len() / 4;
@@ -54,7 +60,8 @@ fn drop_calls<'a>(input: &'a Input, steps: &mut Vec<Make<'a>>) {
             steps.push(Box::new(move || {
                 let mut less = input.clone();
                 less.bytes.drain(4 * first..4 * last);
-                less.bytes_room = less.bytes_room.saturating_sub(last - first);
+                let needed = if kept { input.journal_bytes() - less.journal_bytes() } else { last - first };
+                less.bytes_room = less.bytes_room.saturating_sub(needed);
                 less
             }));
         }
@@ -62,46 +69,64 @@ fn drop_calls<'a>(input: &'a Input, steps: &mut Vec<Make<'a>>) {
     }
 }
 
-/// One block of an image less, the others numbered anew; and each eight bytes of a block cleared.
+/// Half of the blocks of an image or a journal less, a quarter, and so on down to each single one, the others numbered
+/// anew; and half of a block's bytes cleared, an eighth, down to each eight bytes.
 fn drop_blocks<'a>(input: &'a Input, steps: &mut Vec<Make<'a>>) {
-    if input.question != Question::ImageRead && input.question != Question::BlockCheck {
+    let journal = is_journal(input);
+    if input.question != Question::ImageRead && input.question != Question::BlockCheck && !journal {
         return;
     }
     let blocks = input.bytes.len() / BLOCK;
-    if input.question == Question::ImageRead {
-        for place in 0..blocks {
-            steps.push(Box::new(move || {
-                let mut less = input.clone();
-                less.bytes.drain(BLOCK * place..BLOCK * (place + 1));
-                less.cells_room = less.cells_room.saturating_sub(ROW);
-                for (k, block) in less.bytes.chunks_mut(BLOCK).enumerate().filter(|(_, block)| block.len() == BLOCK) {
-                    let right = model::block_check(block).number == 0;
-                    if u16::from_le_bytes([block[0], block[1]]) as usize == k + 1 && k >= place {
-                        block[0] -= 1;
-                    }
-                    if u16::from_le_bytes([block[2], block[3]]) as usize == blocks {
-                        block[2] -= 1;
-                    }
+    let mut part = if input.question == Question::BlockCheck { 0 } else { blocks.div_ceil(2) };
+    while part > 0 {
+        for first in (0..blocks).step_by(part) {
+            let last = (first + part).min(blocks);
+            steps.push(Box::new(move || without_blocks(input, first, last)));
+        }
+        part /= 2;
+    }
+    // The sums of a block whose check is right follow from the rest.
+    for part in [256, 64, 8] {
+        for at in (0..blocks * BLOCK).step_by(part) {
+            let (start, inside) = (at / BLOCK * BLOCK, at % BLOCK);
+            let right = model::block_check(&input.bytes[start..start + BLOCK]).number == 0;
+            let end = (inside + part).min(if right { 504 } else { BLOCK });
+            if inside < end && input.bytes[at..start + end].iter().any(|byte| *byte != 0) {
+                steps.push(Box::new(move || {
+                    let mut less = input.clone();
+                    let block = &mut less.bytes[start..start + BLOCK];
+                    block[inside..end].fill(0);
                     if right {
                         mend(block);
                     }
-                }
-                less
-            }));
+                    less
+                }));
+            }
         }
     }
-    for at in (0..blocks * BLOCK).step_by(8).filter(|at| input.bytes[*at..*at + 8].iter().any(|byte| *byte != 0)) {
-        steps.push(Box::new(move || {
-            let mut less = input.clone();
-            let block = &mut less.bytes[at / BLOCK * BLOCK..][..BLOCK];
-            let right = model::block_check(block).number == 0;
-            block[at % BLOCK..][..8].fill(0);
-            if right {
-                mend(block);
-            }
-            less
-        }));
+}
+
+/// The input without some blocks of its image or journal.
+fn without_blocks(input: &Input, first: usize, last: usize) -> Input {
+    let mut less = input.clone();
+    let (blocks, gone) = (input.bytes.len() / BLOCK, last - first);
+    less.bytes.drain(BLOCK * first..BLOCK * last);
+    less.cells_room = less.cells_room.saturating_sub(ROW * gone);
+    less.bytes_room = less.bytes_room.saturating_sub(4 * CALLS_OF_A_BLOCK * gone);
+    less.place = less.place.saturating_sub((CALLS_OF_A_BLOCK * gone) as u64);
+    for (k, block) in less.bytes.chunks_mut(BLOCK).enumerate().filter(|(_, block)| block.len() == BLOCK) {
+        let right = model::block_check(block).number == 0;
+        if u16::from_le_bytes([block[0], block[1]]) as usize == k + gone && k >= first {
+            block[0..2].copy_from_slice(&(k as u16).to_le_bytes());
+        }
+        if !is_journal(input) && u16::from_le_bytes([block[2], block[3]]) as usize == blocks {
+            block[2..4].copy_from_slice(&((blocks - gone) as u16).to_le_bytes());
+        }
+        if right {
+            mend(block);
+        }
     }
+    less
 }
 
 /// Writes the right check into a block.
@@ -199,8 +224,8 @@ fn clear_bits<'a>(input: &'a Input, steps: &mut Vec<Make<'a>>) {
     }
 }
 
-/// Rooms that are longer than they need to be cut to what is needed, and bytes that need not stand apart from the
-/// forbidden page.
+/// Rooms that are longer than they need to be cut to what is needed, bytes that need not stand apart from the forbidden
+/// page, and a lower place in a journal.
 fn tighten_rooms<'a>(input: &'a Input, steps: &mut Vec<Make<'a>>) {
     let n = input.table.len() / ROW;
     let (cells, bytes) = match input.question {
@@ -208,6 +233,8 @@ fn tighten_rooms<'a>(input: &'a Input, steps: &mut Vec<Make<'a>>) {
         Question::ImageWrite => (0, BLOCK * n),
         Question::RoundTrip => (ROW * n, BLOCK * n),
         Question::Run | Question::RunRecords => (4 * n + 6, input.bytes.len() / 4),
+        Question::JournalWrite => (0, input.journal_bytes()),
+        Question::JournalList => (0, model::journal_calls(&input.bytes).map_or(0, |calls| 4 * calls.len())),
         _ => (0, 0),
     };
     if input.cells_room > cells {
@@ -218,5 +245,8 @@ fn tighten_rooms<'a>(input: &'a Input, steps: &mut Vec<Make<'a>>) {
     }
     if input.gap > 0 {
         steps.push(Box::new(move || Input { gap: 0, ..input.clone() }));
+    }
+    if input.place > 0 {
+        steps.push(Box::new(move || Input { place: input.place / 2, ..input.clone() }));
     }
 }

@@ -132,6 +132,38 @@ pub unsafe extern "C" fn siren_run_records(
 }
 
 #[no_mangle]
+pub unsafe extern "C" fn siren_journal_check(journal: *const u8, length: usize, out: *mut u64) -> u64 {
+    give(fast::journal_check(lent(journal, length)), out)
+}
+
+#[no_mangle]
+pub unsafe extern "C" fn siren_journal_write(
+    calls: *const u8,
+    calls_length: usize,
+    bytes: *mut u8,
+    bytes_length: usize,
+    out: *mut u64,
+) -> u64 {
+    give(fast::journal_write(lent(calls, calls_length), room(bytes, bytes_length)), out)
+}
+
+#[no_mangle]
+pub unsafe extern "C" fn siren_journal_list(
+    journal: *const u8,
+    length: usize,
+    bytes: *mut u8,
+    bytes_length: usize,
+    out: *mut u64,
+) -> u64 {
+    give(fast::journal_list(lent(journal, length), room(bytes, bytes_length)), out)
+}
+
+#[no_mangle]
+pub unsafe extern "C" fn siren_journal_next(journal: *const u8, length: usize, place: u64, out: *mut u64) -> u64 {
+    give(fast::journal_next(lent(journal, length), place), out)
+}
+
+#[no_mangle]
 pub unsafe extern "C" fn siren_block_check(block: *const u8, length: usize) -> u8 {
     fast::block_check(lent(block, length))
 }

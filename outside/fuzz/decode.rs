@@ -4,10 +4,12 @@
 
 use crate::generate::{damage_row, ROW_FAULTS};
 use crate::input::{Input, Question};
-use crate::model::{self, BLOCK, MOST_CALLS, MOST_SITES, MOST_SLICES, ROW};
+use crate::model::{self, BLOCK, CALLS_OF_A_BLOCK, MOST_CALLS, MOST_SITES, MOST_SLICES, ROW};
+use crate::shrink::mend;
 
-/// The questions, chosen by the first byte.
-pub const QUESTIONS: [Question; 14] = [
+/// The questions, chosen by the first byte: it is a place in this list, and if it is none it goes round among the first
+/// questions, so that kept inputs stay what they are when the list grows.
+pub const QUESTIONS: [Question; 18] = [
     Question::ImageRead,
     Question::Step,
     Question::Run,
@@ -22,13 +24,18 @@ pub const QUESTIONS: [Question; 14] = [
     Question::Shared,
     Question::Intact,
     Question::Mark,
+    Question::JournalCheck,
+    Question::JournalWrite,
+    Question::JournalList,
+    Question::JournalNext,
 ];
+const FIRST_QUESTIONS: usize = 14;
 
 /// The second byte: what is put right, and the rooms.
 pub mod ways {
-    /// Images: the bytes are the image itself, and no table comes before.
+    /// Images and journals: the bytes are the image or the journal itself.
     pub const RAW: u8 = 1;
-    /// Images and blocks: the sums of each whole block are put right.
+    /// Images, journals and blocks: the sums of each whole block are put right.
     pub const SUMS: u8 = 2;
     /// Lists: each call is brought into range.
     pub const RANGE: u8 = 2;
@@ -201,9 +208,22 @@ fn room(needed: usize, way: u8, short: u8, long: u8) -> usize {
 
 pub fn decode(bytes: &[u8]) -> Input {
     let mut reader = Reader(bytes);
-    let question = QUESTIONS[usize::from(reader.byte()) % QUESTIONS.len()];
+    let first = usize::from(reader.byte());
+    let question = QUESTIONS[if first < QUESTIONS.len() { first } else { first % FIRST_QUESTIONS }];
     let way = reader.byte();
     let mut input = Input::new(question);
+    match question {
+        Question::JournalWrite => {
+            input.bytes = list(&mut reader, 8, way);
+            input.bytes_room = room(input.journal_bytes(), way, ways::SHORT_BYTES, ways::LONG_BYTES);
+            return input;
+        }
+        Question::JournalCheck | Question::JournalList | Question::JournalNext => {
+            journal(&mut reader, &mut input, way);
+            return input;
+        }
+        _ => {}
+    }
     if matches!(question, Question::ImageRead | Question::BlockCheck) {
         image(&mut reader, &mut input, way);
         return input;
@@ -251,24 +271,59 @@ fn image(reader: &mut Reader, input: &mut Input, way: u8) {
         };
         let rows = memory.as_chunks::<ROW>().0.iter().enumerate();
         let mut bytes: Vec<u8> = rows.flat_map(|(site, cells)| model::block_on_file(site, n, &row(cells))).collect();
-        for _ in 0..reader.byte() % 32 {
-            let at = reader.number(2) as usize % (bytes.len() + 1);
-            let value = reader.byte();
-            match bytes.get_mut(at) {
-                Some(byte) => *byte ^= value,
-                None => bytes.resize(at.saturating_sub(value.into()), 1),
-            }
-        }
+        change(reader, &mut bytes);
         bytes
     };
     bytes.truncate(BLOCK * (MOST_SITES + 2));
-    if way & ways::SUMS != 0 {
-        for block in bytes.as_chunks_mut::<BLOCK>().0 {
-            let (s, t) = model::block_sums(block);
-            block[504..508].copy_from_slice(&(s as u32).to_le_bytes());
-            block[508..].copy_from_slice(&(t as u32).to_le_bytes());
+    put_sums_right(&mut bytes, way);
+    input.cells_room = room(bytes.len() / BLOCK * ROW, way, ways::SHORT_CELLS, ways::LONG_CELLS);
+    input.bytes = bytes;
+}
+
+/// Up to 31 bytes changed, or the length.
+fn change(reader: &mut Reader, bytes: &mut Vec<u8>) {
+    for _ in 0..reader.byte() % 32 {
+        let at = reader.number(2) as usize % (bytes.len() + 1);
+        let value = reader.byte();
+        match bytes.get_mut(at) {
+            Some(byte) => *byte ^= value,
+            None => bytes.resize(at.saturating_sub(value.into()), 1),
         }
     }
-    input.cells_room = room(bytes.len() / BLOCK * ROW, way, ways::SHORT_CELLS, ways::LONG_CELLS);
+}
+
+fn put_sums_right(bytes: &mut [u8], way: u8) {
+    if way & ways::SUMS != 0 {
+        bytes.as_chunks_mut::<BLOCK>().0.iter_mut().for_each(|block| mend(block));
+    }
+}
+
+/// A journal and a place in it: the bytes themselves, or blocks full of calls, the last with a number of its own, with
+/// bytes changed. The calls are numbers one above the other.
+fn journal(reader: &mut Reader, input: &mut Input, way: u8) {
+    input.gap = usize::from(way >> 3 & 3);
+    input.place = reader.number(if way & ways::CUT != 0 { 2 } else { 8 });
+    let mut bytes = if way & ways::RAW != 0 {
+        reader.0.to_vec()
+    } else {
+        let (blocks, last) = (usize::from(reader.byte()) % 36, usize::from(reader.byte()));
+        let mut call = reader.number(4) as u32;
+        let mut bytes = Vec::new();
+        for place in 0..blocks {
+            let count = if place + 1 == blocks { last } else { CALLS_OF_A_BLOCK };
+            let calls: Vec<[u8; 4]> = (call..).take(count.min(CALLS_OF_A_BLOCK)).map(u32::to_le_bytes).collect();
+            call = call.wrapping_add(count as u32);
+            let mut block = model::journal_block(place, &calls);
+            block[2] = count as u8;
+            mend(&mut block);
+            bytes.extend(block);
+        }
+        change(reader, &mut bytes);
+        bytes
+    };
+    bytes.truncate(BLOCK * 36);
+    put_sums_right(&mut bytes, way);
+    let needed = model::journal_calls(&bytes).map_or(bytes.len(), |calls| 4 * calls.len());
+    input.bytes_room = room(needed, way, ways::SHORT_BYTES, ways::LONG_BYTES);
     input.bytes = bytes;
 }

@@ -1,5 +1,5 @@
-//! The first inputs of the fuzzer, one file each, written to the folder named: images, states and lists that are right,
-//! and each with something wrong.
+//! The first inputs of the fuzzer, one file each, written to the folder named: images, states, lists and journals that
+//! are right, and each with something wrong.
 
 #[allow(dead_code)]
 #[path = "../model/model.rs"]
@@ -22,6 +22,10 @@ const BLOCKS: u8 = 10;
 const SHARED: u8 = 11;
 const INTACT: u8 = 12;
 const MARK: u8 = 13;
+const JOURNAL: u8 = 14;
+const KEEP: u8 = 15;
+const LIST: u8 = 16;
+const NEXT: u8 = 17;
 
 const RAW: u8 = 1;
 const SUMS: u8 = 2;
@@ -88,6 +92,20 @@ fn at_state(
     let n = rows.len();
     let lead = [vec![calls.len() as u8], calls.concat()].concat();
     seed(question, 0, &[&table(rows, MENDED), &set(n, faulty), &call, &lead, &patches(n, changes)])
+}
+
+/// A journal and a place in it: blocks, the calls of the last, the first call, and bytes to change, each with where it
+/// stands and the bits.
+fn journal(place: u64, blocks: u8, last: u8, call: Call, changes: &[(u16, u8)]) -> Vec<u8> {
+    let mut bytes = place.to_le_bytes().to_vec();
+    bytes.extend([blocks, last]);
+    bytes.extend(call);
+    bytes.push(changes.len() as u8);
+    for (at, bits) in changes {
+        bytes.extend(at.to_le_bytes());
+        bytes.push(*bits);
+    }
+    bytes
 }
 
 fn all_calls(n: u8) -> Vec<Call> {
@@ -251,6 +269,49 @@ fn main() {
     seeds.push(("records-day", list(&b, RANGE, RECORDS, 0, &all_calls(4))));
     seeds.push(("records-4097", list(&a, AGAIN, RECORDS, 8, &[&[[1, 0, 0, 0]], &all_calls(5)[..31]].concat())));
     seeds.push(("records-longest", list(&chain(6), LONG_BYTES, RECORDS, 0, &longest)));
+
+    // Journals.
+    for (name, question) in [("journal", JOURNAL), ("list", LIST), ("next", NEXT)] {
+        let mut add = |what: &str, way: u8, journal: &[u8]| {
+            seeds.push((format!("{name}-{what}").leak(), seed(question, way, &[journal])));
+        };
+        add("empty", 0, &journal(0, 0, 0, [0; 4], &[]));
+        add("one", 0, &journal(0, 1, 1, [0; 4], &[]));
+        add("126", 0, &journal(125, 2, 1, [255, 255, 0, 0], &[]));
+        add("4096", 0, &journal(4095, 33, 96, [1, 0, 1, 0], &[]));
+        add("4097", 0, &journal(0, 33, 97, [1, 0, 1, 0], &[]));
+        add("34-blocks", 0, &journal(0, 34, 1, [0; 4], &[]));
+        add("raw", RAW, &[&[0; 8], &model::journal_block(0, &[[0, 0, 0, 0], [1, 0, 1, 0]])[..]].concat());
+        add("zeros", RAW, &[0; 8 + 512]);
+        // Changes in a journal of 130 calls: a sum; the number and the count of the second block; the count of the
+        // first; the filler; the length.
+        for (what, way, at, bits) in [
+            ("sum", 0, 508u16, 1u8),
+            ("number", SUMS, 512, 2),
+            ("number-256", SUMS, 513, 1),
+            ("count-0", SUMS, 514, 5),
+            ("count-126", SUMS, 514, 123),
+            ("count-256", SUMS, 515, 1),
+            ("short-amid", SUMS, 2, 1),
+            ("filler", SUMS, 512 + 24, 1),
+            ("filler-503", SUMS, 512 + 503, 128),
+            ("cut", 0, 1024, 1),
+        ] {
+            add(what, way, &journal(0, 2, 5, [7; 4], &[(at, bits)]));
+        }
+    }
+    seeds.push(("list-short-room", seed(LIST, SHORT_BYTES, &[&journal(0, 2, 5, [7; 4], &[])])));
+    seeds.push(("list-long-room", seed(LIST, LONG_BYTES, &[&journal(0, 2, 5, [7; 4], &[])])));
+    seeds.push(("next-none-left", seed(NEXT, 0, &[&journal(130, 2, 5, [7; 4], &[])])));
+    seeds.push(("next-far-beyond", seed(NEXT, 0, &[&journal(u64::MAX, 2, 5, [7; 4], &[])])));
+    let keep = |way: u8, calls: &[Call]| seed(KEEP, way, &[&calls.concat()]);
+    seeds.push(("keep-empty", keep(0, &[])));
+    seeds.push(("keep-one", keep(0, &[[255; 4]])));
+    seeds.push(("keep-126", keep(LONG_BYTES, &all_calls(9)[..126])));
+    seeds.push(("keep-4096", keep(AGAIN, &all_calls(5)[..32])));
+    seeds.push(("keep-4097", keep(AGAIN, &[&[[1, 0, 0, 0]], &all_calls(5)[..31]].concat())));
+    seeds.push(("keep-short-room", keep(SHORT_BYTES, &votes)));
+    seeds.push(("keep-part-of-a-call", seed(KEEP, 0, &[&[0, 0, 0, 0, 1]])));
 
     for (name, bytes) in &seeds {
         std::fs::write(Path::new(&folder).join(name), bytes).unwrap_or_else(|error| panic!("{name}: {error}"));

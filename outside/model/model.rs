@@ -19,6 +19,10 @@ pub const MOST_SITES: usize = 64;
 pub const MOST_CALLS: usize = 4096;
 /// "Verdicts on shared sites and on intact sites are given for n up to 12."
 pub const MOST_SITES_OF_A_VERDICT: usize = 12;
+/// "up to 125 calls of four bytes": of a block of a journal.
+pub const CALLS_OF_A_BLOCK: usize = 125;
+/// 19: "length (not a multiple of 512 or over 16,896)"
+pub const LONGEST_JOURNAL: usize = 16896;
 
 /// "A call is four bytes: kind (0 propose, 1 vote, 2 accept), from, to, side."
 pub const PROPOSE: u8 = 0;
@@ -43,7 +47,8 @@ pub struct Refusal {
     pub place: u64,
 }
 
-/// "The refusal carries the block or site number for 2 to 8 (for 7: 0) and nothing else."
+/// "The refusal carries the block or site number for 2 to 8 (for 7: 0) and nothing else." With the journal: "From here on
+/// a fault in a block carries its number."
 fn refused_at<T>(number: u64, place: usize) -> Result<T, Refusal> {
     Err(Refusal { number, place: place as u64 })
 }
@@ -645,6 +650,11 @@ fn run_into(
     Ok([count, 0, 0])
 }
 
+/// The calls of a list of bytes, "four a call".
+fn calls_of(bytes: &[u8]) -> Vec<[u8; 4]> {
+    bytes.chunks(4).map(|call| [call[0], call[1], call[2], call[3]]).collect()
+}
+
 /// The run over bytes, "four a call". 17: "list not a multiple of 4 bytes, or over 16,384 bytes". Answers the passes.
 pub fn run(memory: &[u64], faulty: u64, calls: &[u8], state: &mut [u64], answers: &mut [u8]) -> Answer {
     let mut ask = || {
@@ -652,8 +662,7 @@ pub fn run(memory: &[u64], faulty: u64, calls: &[u8], state: &mut [u64], answers
         if !calls.len().is_multiple_of(4) || calls.len() > 4 * MOST_CALLS {
             return refused(17);
         }
-        let list: Vec<[u8; 4]> = calls.chunks(4).map(|call| [call[0], call[1], call[2], call[3]]).collect();
-        run_into(&table, faulty, &list, state, answers)
+        run_into(&table, faulty, &calls_of(calls), state, answers)
     };
     ask().into()
 }
@@ -683,6 +692,113 @@ pub fn mark(site: u64, confirmed_drill: u64, confirmed_live: u64) -> Answer {
         Ok([u64::from(contains(confirmed_drill, site) && !contains(confirmed_live, site)), 0, 0])
     };
     result.into()
+}
+
+// ---- The journal of calls
+
+/// "bytes 0 to 1 block number from 0, 2 to 3 count of calls, then up to 125 calls of four bytes, zeros to byte 503";
+/// "with the check of 01".
+pub fn journal_block(place: usize, calls: &[[u8; 4]]) -> Vec<u8> {
+    let mut block = Vec::new();
+    block.extend((place as u16).to_le_bytes());
+    block.extend((calls.len() as u16).to_le_bytes());
+    block.extend(calls.concat());
+    block.resize(504, 0);
+    let (s, t) = block_sums(&block);
+    block.extend((s as u32).to_le_bytes());
+    block.extend((t as u32).to_le_bytes());
+    block
+}
+
+/// "Every block but the last holds 125, the last 1 to 125; an empty list is an empty file."
+pub fn journal_of(calls: &[[u8; 4]]) -> Vec<u8> {
+    let blocks = calls.chunks(CALLS_OF_A_BLOCK).enumerate();
+    blocks.flat_map(|(place, calls)| journal_block(place, calls)).collect()
+}
+
+/// The calls of the block at a place: "then per block 2, 20 for number or count, 8".
+fn journal_block_calls(block: &[u8], place: usize, last: bool) -> Result<Vec<[u8; 4]>, Refusal> {
+    if block_check_differs(block) {
+        return refused_at(2, place);
+    }
+    if number(&block[0..2]) != place as u64 {
+        return refused_at(20, place);
+    }
+    let count = number(&block[2..4]) as usize;
+    let fewest = if last { 1 } else { CALLS_OF_A_BLOCK };
+    if count < fewest || count > CALLS_OF_A_BLOCK {
+        return refused_at(20, place);
+    }
+    let (calls, filler) = block[4..504].split_at(4 * count);
+    if filler.iter().any(|byte| *byte != 0) {
+        return refused_at(8, place);
+    }
+    Ok(calls_of(calls))
+}
+
+/// "reader 19 for length (not a multiple of 512 or over 16,896), then per block 2, 20 for number or count, 8; a 4,097th
+/// call is 17, after the blocks". The calls of a journal that none holds of, whatever their bytes are.
+pub fn journal_calls(journal: &[u8]) -> Result<Vec<[u8; 4]>, Refusal> {
+    if !journal.len().is_multiple_of(BLOCK) || journal.len() > LONGEST_JOURNAL {
+        return refused(19);
+    }
+    let blocks = journal.len() / BLOCK;
+    let mut calls = Vec::new();
+    for (place, block) in journal.chunks(BLOCK).enumerate() {
+        calls.extend(journal_block_calls(block, place, place + 1 == blocks)?);
+    }
+    if calls.len() > MOST_CALLS {
+        return refused(17);
+    }
+    Ok(calls)
+}
+
+/// "The journal is checked whole before its first call." Answers the blocks and the calls.
+pub fn journal_check(journal: &[u8]) -> Answer {
+    journal_calls(journal).map(|calls| [(journal.len() / BLOCK) as u64, calls.len() as u64, 0]).into()
+}
+
+/// "writer 17, 9": 17 as in a run, "list not a multiple of 4 bytes, or over 16,384 bytes". Answers the blocks.
+pub fn journal_write(calls: &[u8], room: &mut [u8]) -> Answer {
+    let mut ask = || {
+        if !calls.len().is_multiple_of(4) || calls.len() > 4 * MOST_CALLS {
+            return refused(17);
+        }
+        let journal = journal_of(&calls_of(calls));
+        if room.len() < journal.len() {
+            return refused(9);
+        }
+        room[..journal.len()].copy_from_slice(&journal);
+        Ok([(journal.len() / BLOCK) as u64, 0, 0])
+    };
+    ask().into()
+}
+
+/// The list of a journal, as a run takes it: the reader's refusals, then 9. "Reading what was written gives the list".
+/// Answers the bytes of the list.
+pub fn journal_list(journal: &[u8], room: &mut [u8]) -> Answer {
+    let mut ask = || {
+        let list = journal_calls(journal)?.concat();
+        if room.len() < list.len() {
+            return refused(9);
+        }
+        room[..list.len()].copy_from_slice(&list);
+        Ok([list.len() as u64, 0, 0])
+    };
+    ask().into()
+}
+
+/// "a reader that holds the journal and its place and gives one call at a time, and after the last says that none is
+/// left". Answers 1, the call's four bytes as one number and the next place; or nothing.
+pub fn journal_next(journal: &[u8], place: u64) -> Answer {
+    let ask = || {
+        let calls = journal_calls(journal)?;
+        Ok(match calls.iter().zip(0..).find(|(_, at)| *at == place) {
+            Some((call, _)) => [1, number(call), place + 1],
+            None => [0; 3],
+        })
+    };
+    ask().into()
 }
 
 // ---- The verdict program

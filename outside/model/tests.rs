@@ -490,6 +490,219 @@ fn steps_lead_from_sound_states_to_sound_states() {
     }
 }
 
+// ---- The journal of calls
+
+/// Calls that are all different: the place in the list in the first two bytes.
+fn numbered(count: usize) -> Vec<[u8; 4]> {
+    (0..count as u16).map(|i| [i as u8, (i >> 8) as u8, 255, 7]).collect()
+}
+
+/// A journal that is written, into room with bytes beyond it that must stay.
+fn written(calls: &[[u8; 4]], blocks: usize) -> Vec<u8> {
+    let mut room = vec![0x5a; BLOCK * blocks + 3];
+    assert_eq!(journal_write(&calls.concat(), &mut room).values, [blocks as u64, 0, 0]);
+    assert_eq!(room.split_off(BLOCK * blocks), [0x5a; 3]);
+    room
+}
+
+/// The list of a journal by `journal_list`, and once more call by call.
+fn read_back(journal: &[u8], count: usize) -> Vec<u8> {
+    let mut room = vec![0x5a; 4 * count + 3];
+    assert_eq!(journal_list(journal, &mut room).values, [4 * count as u64, 0, 0]);
+    assert_eq!(room.split_off(4 * count), [0x5a; 3]);
+    let mut place = 0;
+    for call in room.chunks(4) {
+        let value = u32::from_le_bytes(call.try_into().unwrap());
+        assert_eq!(journal_next(journal, place).values, [1, value.into(), place + 1]);
+        place += 1;
+    }
+    assert_eq!(place, count as u64);
+    for beyond in [place, place, place + 1, 4096, 1 << 32, u64::MAX] {
+        assert_eq!(journal_next(journal, beyond), Answer { number: 0, place: 0, values: [0; 3] }, "none is left");
+    }
+    room
+}
+
+/// What every call of the reader answers of a journal that is refused; the room is kept.
+fn journal_refusal(journal: &[u8]) -> (u64, u64) {
+    let mut room = vec![0x5a; 4 * 4200];
+    let refusal = refusal_of(journal_check(journal));
+    assert_ne!(refusal.0, 0);
+    assert_eq!(refusal_of(journal_list(journal, &mut room)), refusal);
+    assert_eq!(refusal_of(journal_list(journal, &mut [])), refusal, "9 comes last");
+    assert!(room.iter().all(|byte| *byte == 0x5a));
+    assert_eq!(refusal_of(journal_next(journal, 0)), refusal);
+    assert_eq!(refusal_of(journal_next(journal, u64::MAX)), refusal);
+    refusal
+}
+
+#[test]
+fn sums_of_a_journal() {
+    // One call of zeros: the one word that is not zero is the first, 1 << 16, and t counts it 126 times.
+    let one = written(&[[0; 4]], 1);
+    assert_eq!(block_sums(&one), (65536, 8257536));
+    assert_eq!(one[..4], [0, 0, 1, 0]);
+    // "vote 0 to 1 drill, propose 0 drill": words 2 << 16, counted 126 times, and 0x10001, counted 125 times.
+    let two = written(&[[1, 0, 1, 0], [0; 4]], 1);
+    assert_eq!(block_sums(&two), (196609, 24707197));
+    assert_eq!(two[..8], [0, 0, 2, 0, 1, 0, 1, 0], "the calls begin at byte 4");
+    assert_eq!(two[504..512], [1, 0, 3, 0, 125, 0, 121, 1], "196,609 is 0x30001, and 24,707,197 is 0x179007d");
+}
+
+#[test]
+fn blocks_and_calls_of_a_journal() {
+    for (count, blocks, last) in [
+        (1, 1, 1),
+        (124, 1, 124),
+        (125, 1, 125),
+        (126, 2, 1),
+        (250, 2, 125),
+        (251, 3, 1),
+        (4000, 32, 125),
+        (4096, 33, 96),
+    ] {
+        let calls = numbered(count);
+        let journal = written(&calls, blocks);
+        for (place, block) in journal.chunks(BLOCK).enumerate() {
+            let held = if place + 1 == blocks { last } else { 125 };
+            assert_eq!(block[..4], [place as u8, 0, held as u8, 0]);
+            assert_eq!(refusal_of(block_check(block)), (0, 0));
+        }
+        assert_eq!(journal_check(&journal).values, [blocks as u64, count as u64, 0]);
+        if count <= 251 {
+            assert_eq!(read_back(&journal, count), calls.concat());
+        }
+        // A byte less of room does not do, and stays.
+        let mut short = vec![0x5a; journal.len() - 1];
+        assert_eq!(refusal_of(journal_write(&calls.concat(), &mut short)), (9, 0));
+        assert!(short.iter().all(|byte| *byte == 0x5a));
+        let mut short = vec![0x5a; 4 * count - 1];
+        assert_eq!(refusal_of(journal_list(&journal, &mut short)), (9, 0));
+        assert!(short.iter().all(|byte| *byte == 0x5a));
+    }
+    // At the ends of the blocks of the longest journal.
+    let journal = written(&numbered(4096), 33);
+    for place in [0, 124, 125, 126, 3999, 4000, 4094, 4095] {
+        let value = place | 0x07ff_0000;
+        assert_eq!(journal_next(&journal, place).values, [1, value, place + 1]);
+    }
+    assert_eq!(journal_next(&journal, 4096).values, [0; 3]);
+}
+
+#[test]
+fn lists_that_are_not_kept() {
+    let mut room = vec![0x5a; 34 * BLOCK];
+    let list = numbered(4097).concat();
+    assert_eq!(refusal_of(journal_write(&list, &mut room)), (17, 0));
+    assert_eq!(refusal_of(journal_write(&list, &mut [])), (17, 0), "before 9");
+    assert_eq!(refusal_of(journal_write(&list[..4 * 4096 + 1], &mut room)), (17, 0));
+    for length in [1, 2, 3, 5, 503] {
+        assert_eq!(refusal_of(journal_write(&list[..length], &mut room)), (17, 0));
+    }
+    assert_eq!(refusal_of(journal_write(&list[..4], &mut [])), (9, 0));
+    assert!(room.iter().all(|byte| *byte == 0x5a));
+}
+
+#[test]
+fn empty_journal() {
+    assert_eq!(written(&[], 0), []);
+    assert_eq!(refusal_of(journal_check(&[])), (0, 0));
+    assert_eq!(journal_check(&[]).values, [0; 3]);
+    assert_eq!(read_back(&[], 0), []);
+    // 512 zero bytes have a right check and the right number, and hold no call.
+    assert_eq!(journal_refusal(&[0; 512]), (20, 0));
+}
+
+#[test]
+fn lengths_of_a_journal() {
+    let block = |place: usize, count: usize| journal_block(place, &numbered(count));
+    let full: Vec<u8> = (0..33).flat_map(|place| block(place, 125)).collect();
+    assert_eq!(journal_refusal(&full), (17, 0), "33 times 125 calls are 4,125");
+    assert_eq!(journal_check(&full[..32 * BLOCK]).values, [32, 4000, 0]);
+    assert_eq!(journal_refusal(&[&full[..32 * BLOCK], &block(32, 97)].concat()), (17, 0));
+    assert_eq!(journal_check(&[&full[..32 * BLOCK], &block(32, 96)].concat()).values, [33, 4096, 0]);
+    assert_eq!(journal_refusal(&[&full[..], &block(33, 1)].concat()), (19, 0));
+    for length in [1, 511, 513, 1023, 16895, 16897, 16898] {
+        let mut odd = full.clone();
+        odd.resize(length, 0);
+        assert_eq!(journal_refusal(&odd), (19, 0));
+    }
+    // Writing what was read gives the bytes.
+    for blocks in [1, 2, 3, 32] {
+        let journal = &full[..BLOCK * blocks];
+        let mut list = vec![0; 500 * blocks];
+        assert_eq!(journal_list(journal, &mut list).values, [500 * blocks as u64, 0, 0]);
+        assert_eq!(list, numbered(125).concat().repeat(blocks));
+        assert_eq!(written(&calls_of(&list), blocks), journal);
+    }
+    // The blocks come before the number of calls, the length before the blocks.
+    let mut damaged = full.clone();
+    damaged[31 * BLOCK + 100] ^= 1;
+    assert_eq!(journal_refusal(&damaged), (2, 31));
+    damaged.push(0);
+    assert_eq!(journal_refusal(&damaged), (19, 0));
+}
+
+#[test]
+fn order_of_refusals_in_a_journal() {
+    // One fault after the other is put into the last block, the last in the order first.
+    let good = written(&numbered(260), 3);
+    let mut bad = good.clone();
+    let at = 2 * BLOCK;
+    assert_eq!(bad[at..at + 4], [2, 0, 10, 0]);
+    bad[at + 503] = 1;
+    mend(&mut bad, 2);
+    assert_eq!(journal_refusal(&bad), (8, 2));
+    bad[at + 503] = 0;
+    bad[at + 44] = 1;
+    mend(&mut bad, 2);
+    assert_eq!(journal_refusal(&bad), (8, 2), "right behind the last call");
+    bad[at] = 3;
+    mend(&mut bad, 2);
+    assert_eq!(journal_refusal(&bad), (20, 2), "number and filler both wrong");
+    bad[at] = 2;
+    bad[at + 1] = 1;
+    mend(&mut bad, 2);
+    assert_eq!(journal_refusal(&bad), (20, 2), "the number has two bytes");
+    bad[at + 1] = 0;
+    for count in [[0, 0], [126, 0], [255, 0], [10, 1], [0, 1], [0, 128], [255, 255]] {
+        bad[at + 2..at + 4].copy_from_slice(&count);
+        mend(&mut bad, 2);
+        assert_eq!(journal_refusal(&bad), (20, 2), "count {count:?}");
+    }
+    bad[at + 511] ^= 128;
+    assert_eq!(journal_refusal(&bad), (2, 2));
+    // A block before it comes first, with whatever it has.
+    bad[BLOCK + 2] = 124;
+    mend(&mut bad, 1);
+    assert_eq!(journal_refusal(&bad), (20, 1));
+    bad[10] ^= 1;
+    assert_eq!(journal_refusal(&bad), (2, 0));
+}
+
+#[test]
+fn short_blocks_before_the_last() {
+    let two = [journal_block(0, &numbered(124)), journal_block(1, &numbered(1))].concat();
+    assert_eq!(journal_refusal(&two), (20, 0));
+    assert_eq!(journal_check(&two[..BLOCK]).values, [1, 124, 0]);
+    // A block of 125 that stands elsewhere than its number says.
+    let second = journal_block(1, &numbered(125));
+    assert_eq!(journal_refusal(&second), (20, 0));
+    assert_eq!(journal_refusal(&[second.clone(), second].concat()), (20, 0));
+}
+
+#[test]
+fn bytes_of_calls_are_not_judged() {
+    let calls = [[255, 255, 255, 255], [3, 64, 64, 2], [0; 4]];
+    let journal = written(&calls, 1);
+    assert_eq!(read_back(&journal, 3), calls.concat());
+    assert_eq!(journal_next(&journal, 0).values, [1, 0xffff_ffff, 1]);
+    // The run takes them as they are, and answers 11.
+    let (mut state, mut answers) = (vec![0; 10], vec![0; 3]);
+    assert_eq!(run(&loners(1), 0, &read_back(&journal, 3), &mut state, &mut answers).number, 0);
+    assert_eq!(answers, [11, 11, 0]);
+}
+
 // ---- The mark and the program
 
 #[test]
