@@ -31,20 +31,24 @@ fn unread(call: &[u8], path: &[u8]) {
 }
 
 // Says of a word what is wrong with it.
-fn wrong(call: &[u8], word: &[u8], what: &[u8]) {
+pub fn wrong(call: &[u8], word: &[u8], what: &[u8]) {
     complain(call);
     complain(b": ");
     complain(word);
     complain(what);
 }
 
-// Reads an open file to its end. A file that fills the room is longer than any table or list of calls.
+// Reads an open file to its end. A file that fills the room is longer than any table, list of calls or journal.
 fn read_whole(call: &[u8], path: &[u8], fd: i32, room: &mut [u8]) -> Fetched
     ensures { λ r. ⌜ fetchedBytes r (now (room .exit)) ⌝ }
 {
     let n = io::read_full(fd, room);
     if n == room.len() {
-        wrong(call, path, b": too long for a table or a list of calls\n");
+        wrong(
+            call,
+            path,
+            b": too long for a table, a list of calls or a journal\n",
+        );
         return Fetched::Unused;
     }
     let mut more = [0u8; 1];

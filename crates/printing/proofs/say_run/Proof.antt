@@ -1,8 +1,8 @@
 -- `say_run` meets its contract: what it hands on is a text that may be printed, since its caller shows so.
 use borrow.Author.Needs.{needs}
-use Rattle.shell.specs.Said.{Said}
-use Rattle.shell.proofs.say_run.Statement.{statement}
-use Rattle.shell.proofs.say_run.Tie as tie
+use Rattle.printing.specs.Said.{Said}
+use Rattle.printing.proofs.say_run.Statement.{statement}
+use Rattle.printing.proofs.say_run.Tie as tie
 
 pub say-run-spec : {M : Type 1} → statement M
 say-run-spec =

@@ -3,6 +3,7 @@ use Prim.Native.Nat.{ℕ}
 use mathlib.Core.List.{List}
 use mathlib.Core.Path.{_≡_}
 use Rattle.check_text.specs.Table.{checkText}
+use Rattle.journal_text.specs.JournalText.{journalText, keptText, replayText}
 use Rattle.verdict_text.specs.Verdict.{verdictText, inputText}
 use Rattle.run_text.specs.Run.{runText}
 
@@ -11,3 +12,6 @@ pub data Said (text : List ℕ) : Type 0 where
   ofCheck : (image : List ℕ) → text ≡ checkText image → Said text
   ofVerdict : (faulty : ℕ) (image : List ℕ) → text ≡ verdictText faulty image → Said text
   ofRun : (faulty : ℕ) (image list : List ℕ) → text ≡ runText faulty image list → Said text
+  ofKept : (list : List ℕ) → text ≡ keptText list → Said text
+  ofJournal : (journal : List ℕ) → text ≡ journalText journal → Said text
+  ofReplay : (faulty : ℕ) (image journal : List ℕ) → text ≡ replayText faulty image journal → Said text

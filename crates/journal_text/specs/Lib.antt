@@ -1,0 +1,2 @@
+pub mod JournalText
+pub mod Theorems

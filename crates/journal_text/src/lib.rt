@@ -1,0 +1,83 @@
+// What the desk prints of a journal, as bytes in a lent room: its check, what is said of a list that is kept, and the run of its list.
+ghost use mathlib.Core.Path.{_≡_};
+ghost use Prim.Native.Nat.{_≤_};
+ghost use lib.ListN.{length};
+ghost use Rattle.io.specs.Counts.{Counts};
+ghost use Rattle.journal.specs.Keep.{keep};
+ghost use Rattle.text.specs.Written.{Writes};
+ghost use Rattle.journal_text.specs.JournalText.{keptLines, journalText, keptText, askedCheck, replayText};
+use check_text::ROOM;
+use image::Reading;
+use journal::Checked;
+use journal::Kept;
+use journal::Listed;
+use refusals::Check;
+
+// `blocks K` and `calls N`
+fn put_counts(room: &mut [u8], blocks: u64, calls: u64) -> usize
+    requires { ⌜ 196608 ≤ length (now room) ⌝ }
+    ensures { λ r. ⌜ Writes (keptLines blocks calls) (now (room .entry)) 0 r (now (room .exit)) ⌝ }
+{
+    let at = lines::line_decimal(room, 0, b"blocks ", blocks);
+    lines::line_decimal(room, at, b"calls ", calls)
+}
+
+// The check of a journal: how many blocks and calls it has, or the refusal and what it means. Answers the length of the text, as do the others.
+pub fn check(journal: &[u8], room: &mut [u8; ROOM]) -> usize
+    ensures text { λ r. ⌜ Writes (journalText (now (journal .entry))) (now (room .entry)) 0 r (now (room .exit)) ⌝ }
+    ensures counts { λ r. ⌜ Counts r (now (room .exit)) ⌝ }
+{
+    let q = journal::check(journal);
+    match q {
+        Checked::Sound { blocks, calls } => put_counts(room, blocks, calls),
+        Checked::Refused(r) => lines::put_explained(room, 0, r),
+    }
+}
+
+// What is said of a list that the writer was asked to keep, by the writer's answer.
+pub fn kept(list: &[u8], answer: Kept, room: &mut [u8; ROOM]) -> usize
+    requires { ⌜ answer ≡ keep (now list) 16896 ⌝ }
+    ensures text { λ r. ⌜ Writes (keptText (now (list .entry))) (now (room .entry)) 0 r (now (room .exit)) ⌝ }
+    ensures counts { λ r. ⌜ Counts r (now (room .exit)) ⌝ }
+{
+    let calls = (list.len() / 4) as u64;
+    match answer {
+        Kept::Blocks(blocks) => put_counts(room, blocks, calls),
+        Kept::Refused(r) => lines::put_explained(room, 0, r),
+    }
+}
+
+// The table as in reading, then 10.
+fn asked(faulty: u64, image: &[u8]) -> Check
+    ensures { λ r. ⌜ r ≡ askedCheck faulty (now (image .entry)) ⌝ }
+{
+    let mut table = [0u64; 4032];
+    let q = image::read(image, &mut table);
+    match q {
+        Reading::Sites(n) => {
+            let end = 63 * (n as usize);
+            table::check_set(&table[..end], faulty)
+        }
+        Reading::Refused(r) => Check::Refused(r),
+    }
+}
+
+// The run of a journal's list on an image: its lines, or the refusal and what it means..
+pub fn replay(faulty: u64, image: &[u8], journal: &[u8], room: &mut [u8; ROOM]) -> usize
+    ensures text { λ r. ⌜ Writes (replayText faulty (now (image .entry)) (now (journal .entry))) (now (room .entry)) 0 r (now (room .exit)) ⌝ }
+    ensures counts { λ r. ⌜ Counts r (now (room .exit)) ⌝ }
+{
+    let q = asked(faulty, image);
+    if let Check::Refused(r) = q {
+        return lines::put_explained(room, 0, r);
+    }
+    let mut calls = [0u8; 16384];
+    let q = journal::list(journal, &mut calls);
+    match q {
+        Listed::Bytes(n) => {
+            let list = &calls[..n as usize];
+            run_text::run(faulty, image, list, room)
+        }
+        Listed::Refused(r) => lines::put_explained(room, 0, r),
+    }
+}

@@ -1,0 +1,64 @@
+// What the programs print. Standard output is written by `say` alone, which has the text in hand and nothing else; it is called by the functions behind it,
+// and each of these is lent the bytes that were read.
+ghost use mathlib.Core.Path.{_≡_};
+ghost use Rattle.check_text.specs.Table.{checkText};
+ghost use Rattle.journal_text.specs.JournalText.{journalText, keptText, replayText};
+ghost use Rattle.verdict_text.specs.Verdict.{verdictText, inputText};
+ghost use Rattle.run_text.specs.Run.{runText};
+ghost use Rattle.printing.specs.Said.{Said};
+
+// Prints a text that some bytes have, and no other.
+fn say(text: &[u8])
+    requires { ⌜ Said (now text) ⌝ }
+{
+    files::answer(text);
+}
+
+// Prints what the verdict program answers to its input.
+pub fn say_input(input: &[u8], answer: &[u8])
+    requires { ⌜ now answer ≡ inputText (now input) ⌝ }
+{
+    say(answer);
+}
+
+// Prints the check of an image.
+pub fn say_check(image: &[u8], check: &[u8])
+    requires { ⌜ now check ≡ checkText (now image) ⌝ }
+{
+    say(check);
+}
+
+// Prints the verdict on an image.
+pub fn say_verdict(faulty: u64, image: &[u8], verdict: &[u8])
+    requires { ⌜ now verdict ≡ verdictText faulty (now image) ⌝ }
+{
+    say(verdict);
+}
+
+// Prints the run of a list of calls on an image.
+pub fn say_run(faulty: u64, image: &[u8], list: &[u8], run: &[u8])
+    requires { ⌜ now run ≡ runText faulty (now image) (now list) ⌝ }
+{
+    say(run);
+}
+
+// Prints what is said of a list that was kept.
+pub fn say_kept(list: &[u8], kept: &[u8])
+    requires { ⌜ now kept ≡ keptText (now list) ⌝ }
+{
+    say(kept);
+}
+
+// Prints the check of a journal.
+pub fn say_journal(journal: &[u8], check: &[u8])
+    requires { ⌜ now check ≡ journalText (now journal) ⌝ }
+{
+    say(check);
+}
+
+// Prints the run of a journal's list on an image.
+pub fn say_replay(faulty: u64, image: &[u8], journal: &[u8], run: &[u8])
+    requires { ⌜ now run ≡ replayText faulty (now image) (now journal) ⌝ }
+{
+    say(run);
+}
