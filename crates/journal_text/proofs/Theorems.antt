@@ -13,7 +13,7 @@ use Rattle.journal_blocks.proofs.Journal.{journal-long, list-written, written-s
 use Rattle.journal_blocks.specs.Journal.{blocksIn, blocksFor, journalBlocksCheck, listOf, journalOf}
 use Rattle.journal_text.specs.JournalText.{keptLines, journalText, keptText, askedCheck, replayCheck, replayText}
 use Rattle.journal_text.specs.Theorems.{KeptSaysSo, ReplayPrintsRun}
-use Rattle.lines.specs.Lines.{explained}
+use Rattle.refusal_lines.specs.Refused.{explained}
 use Rattle.refusals.specs.First.{orElse}
 use Rattle.refusals.specs.declared.Check.{Check}
 use Rattle.refusals.specs.declared.Check.the-variants.{Sound, Refused}

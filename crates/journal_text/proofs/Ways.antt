@@ -8,8 +8,8 @@ use lib.ListN.{length, take, drop}
 use lib.Seq.{take-at}
 use borrow.Author.Tests.{le-ltb}
 use Rattle.check_text.proofs.Ways.{image-sound, image-refused}
-use Rattle.image.proofs.Load.{loads-front}
-use Rattle.image.specs.Image.{loads}
+use Rattle.image_blocks.proofs.Load.{loads-front}
+use Rattle.image_blocks.specs.Image.{loads}
 use Rattle.image.specs.Read.{read, readInto}
 use Rattle.image.specs.declared.Reading.{Reading}
 use Rattle.journal.proofs.Checking.{Whole, whole}
@@ -20,7 +20,7 @@ use Rattle.journal.specs.declared.Kept.{Kept}
 use Rattle.journal.specs.declared.Listed.{Listed}
 use Rattle.journal_blocks.specs.Journal.{blocksIn, blocksFor, listOf}
 use Rattle.journal_text.specs.JournalText.{keptLines, journalText, keptText, askedCheck, replayCheck, replayText}
-use Rattle.lines.specs.Lines.{explained}
+use Rattle.refusal_lines.specs.Refused.{explained}
 use Rattle.refusals.specs.First.{refuse}
 use Rattle.refusals.specs.declared.Check.{Check}
 use Rattle.refusals.specs.declared.Check.the-variants.{Sound, Refused}

@@ -6,7 +6,8 @@ use Rattle.check_text.specs.Table.{tableOn, imageCheck, unless}
 use Rattle.journal.specs.Journal.{callCount, journalCheck}
 use Rattle.journal.specs.Keep.{keepCheck}
 use Rattle.journal_blocks.specs.Journal.{blocksIn, blocksFor, listOf}
-use Rattle.lines.specs.Lines.{line, explained}
+use Rattle.lines.specs.Lines.{line}
+use Rattle.refusal_lines.specs.Refused.{explained}
 use Rattle.refusals.specs.First.{orElse}
 use Rattle.refusals.specs.declared.Check.{Check}
 use Rattle.run_text.specs.Run.{runText}

@@ -30,7 +30,7 @@ pub fn check(journal: &[u8], room: &mut [u8; ROOM]) -> usize
     let q = journal::check(journal);
     match q {
         Checked::Sound { blocks, calls } => put_counts(room, blocks, calls),
-        Checked::Refused(r) => lines::put_explained(room, 0, r),
+        Checked::Refused(r) => refusal_lines::put_explained(room, 0, r),
     }
 }
 
@@ -43,7 +43,7 @@ pub fn kept(list: &[u8], answer: Kept, room: &mut [u8; ROOM]) -> usize
     let calls = (list.len() / 4) as u64;
     match answer {
         Kept::Blocks(blocks) => put_counts(room, blocks, calls),
-        Kept::Refused(r) => lines::put_explained(room, 0, r),
+        Kept::Refused(r) => refusal_lines::put_explained(room, 0, r),
     }
 }
 
@@ -69,7 +69,7 @@ pub fn replay(faulty: u64, image: &[u8], journal: &[u8], room: &mut [u8; ROOM]) 
 {
     let q = asked(faulty, image);
     if let Check::Refused(r) = q {
-        return lines::put_explained(room, 0, r);
+        return refusal_lines::put_explained(room, 0, r);
     }
     let mut calls = [0u8; 16384];
     let q = journal::list(journal, &mut calls);
@@ -78,6 +78,6 @@ pub fn replay(faulty: u64, image: &[u8], journal: &[u8], room: &mut [u8; ROOM]) 
             let list = &calls[..n as usize];
             run_text::run(faulty, image, list, room)
         }
-        Listed::Refused(r) => lines::put_explained(room, 0, r),
+        Listed::Refused(r) => refusal_lines::put_explained(room, 0, r),
     }
 }
