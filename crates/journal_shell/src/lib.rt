@@ -83,6 +83,6 @@ pub fn replay_of(table: usize, sites: usize, kept: usize) {
     };
     let journal = &journal[..m];
     let mut room = [0u8; 196608];
-    let end = journal_text::replay(faulty, image, journal, &mut room);
+    let end = replay_text::replay(faulty, image, journal, &mut room);
     printing::say_replay(faulty, image, journal, &room[..end]);
 }

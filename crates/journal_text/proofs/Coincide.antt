@@ -7,8 +7,6 @@ use Rattle.journal_text.proofs.check.Kinds as check-kinds
 use Rattle.journal_text.proofs.check.Reads as check-reads
 use Rattle.journal_text.proofs.kept.Kinds as kept-kinds
 use Rattle.journal_text.proofs.kept.Reads as kept-reads
-use Rattle.journal_text.proofs.replay.Kinds as replay-kinds
-use Rattle.journal_text.proofs.replay.Reads as replay-reads
 use Rattle.text.proofs.Written.{once}
 
 pub check-coincide : All check-kinds.ps check-kinds.r (List ℕ) (λ κs s. now (s .1 .0)) check-reads.Post
@@ -16,6 +14,3 @@ check-coincide κs a x y s t p q = once (p .0) (q .0)
 
 pub kept-coincide : All kept-kinds.ps kept-kinds.r (List ℕ) (λ κs s. now (s .1 .1 .0)) kept-reads.Post
 kept-coincide κs a x y s t p q = once (p .0) (q .0)
-
-pub replay-coincide : All replay-kinds.ps replay-kinds.r (List ℕ) (λ κs s. now (s .1 .1 .1 .0)) replay-reads.Post
-replay-coincide κs a x y s t p q = once (p .0) (q .0)

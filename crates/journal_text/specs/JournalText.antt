@@ -1,17 +1,13 @@
--- What the desk prints of a journal, of a list that is kept as one, and of the run of a journal's list.
+-- What the desk prints of a journal, and of a list that is kept as one.
 use Prim.Native.Nat.{ℕ}
 use mathlib.Core.List.{List, _++_}
 use lib.ListN.{length}
-use Rattle.check_text.specs.Table.{tableOn, imageCheck, unless}
+use Rattle.check_text.specs.Table.{unless}
 use Rattle.journal.specs.Journal.{callCount, journalCheck}
 use Rattle.journal.specs.Keep.{keepCheck}
 use Rattle.journal_blocks.specs.Journal.{blocksIn, blocksFor, listOf}
 use Rattle.lines.specs.Lines.{line}
 use Rattle.refusal_lines.specs.Refused.{explained}
-use Rattle.refusals.specs.First.{orElse}
-use Rattle.refusals.specs.declared.Check.{Check}
-use Rattle.run_text.specs.Run.{runText}
-use Rattle.table.specs.Table.{setCheck}
 use Rattle.text.specs.Text.{ascii, decimal}
 
 -- `blocks K` and `calls N`
@@ -28,18 +24,3 @@ journalText journal = unless (journalCheck journal) explained (keptLines (blocks
 unfoldable pub keptText : List ℕ → List ℕ
 unfolding keepCheck explained keptLines
 keptText list = unless (keepCheck list 16896) explained (keptLines (blocksFor (length list)) (callCount list))
-
--- the table as in reading, then 10
-unfoldable pub askedCheck : ℕ → List ℕ → Check
-unfolding imageCheck setCheck
-askedCheck F image = orElse (imageCheck image) (setCheck (tableOn image) F)
-
--- the refusals of a replay: the table's, 10, then the journal's
-unfoldable pub replayCheck : ℕ → List ℕ → List ℕ → Check
-unfolding askedCheck journalCheck
-replayCheck F image journal = orElse (askedCheck F image) (journalCheck journal)
-
--- `desk replay`: what `desk run` prints for the journal's list, or the refusal and what it means
-unfoldable pub replayText : ℕ → List ℕ → List ℕ → List ℕ
-unfolding replayCheck explained runText listOf
-replayText F image journal = unless (replayCheck F image journal) explained (runText F image (listOf journal))

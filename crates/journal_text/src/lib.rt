@@ -1,17 +1,14 @@
-// What the desk prints of a journal, as bytes in a lent room: its check, what is said of a list that is kept, and the run of its list.
+// What the desk prints of a journal, as bytes in a lent room: its check, and what is said of a list that is kept.
 ghost use mathlib.Core.Path.{_≡_};
 ghost use Prim.Native.Nat.{_≤_};
 ghost use lib.ListN.{length};
 ghost use Rattle.io.specs.Counts.{Counts};
 ghost use Rattle.journal.specs.Keep.{keep};
 ghost use Rattle.text.specs.Written.{Writes};
-ghost use Rattle.journal_text.specs.JournalText.{keptLines, journalText, keptText, askedCheck, replayText};
+ghost use Rattle.journal_text.specs.JournalText.{keptLines, journalText, keptText};
 use check_text::ROOM;
-use image::Reading;
 use journal::Checked;
 use journal::Kept;
-use journal::Listed;
-use refusals::Check;
 
 // `blocks K` and `calls N`
 fn put_counts(room: &mut [u8], blocks: u64, calls: u64) -> usize
@@ -44,40 +41,5 @@ pub fn kept(list: &[u8], answer: Kept, room: &mut [u8; ROOM]) -> usize
     match answer {
         Kept::Blocks(blocks) => put_counts(room, blocks, calls),
         Kept::Refused(r) => refusal_lines::put_explained(room, 0, r),
-    }
-}
-
-// The table as in reading, then 10.
-fn asked(faulty: u64, image: &[u8]) -> Check
-    ensures { λ r. ⌜ r ≡ askedCheck faulty (now (image .entry)) ⌝ }
-{
-    let mut table = [0u64; 4032];
-    let q = image::read(image, &mut table);
-    match q {
-        Reading::Sites(n) => {
-            let end = 63 * (n as usize);
-            table::check_set(&table[..end], faulty)
-        }
-        Reading::Refused(r) => Check::Refused(r),
-    }
-}
-
-// The run of a journal's list on an image: its lines, or the refusal and what it means..
-pub fn replay(faulty: u64, image: &[u8], journal: &[u8], room: &mut [u8; ROOM]) -> usize
-    ensures text { λ r. ⌜ Writes (replayText faulty (now (image .entry)) (now (journal .entry))) (now (room .entry)) 0 r (now (room .exit)) ⌝ }
-    ensures counts { λ r. ⌜ Counts r (now (room .exit)) ⌝ }
-{
-    let q = asked(faulty, image);
-    if let Check::Refused(r) = q {
-        return refusal_lines::put_explained(room, 0, r);
-    }
-    let mut calls = [0u8; 16384];
-    let q = journal::list(journal, &mut calls);
-    match q {
-        Listed::Bytes(n) => {
-            let list = &calls[..n as usize];
-            run_text::run(faulty, image, list, room)
-        }
-        Listed::Refused(r) => refusal_lines::put_explained(room, 0, r),
     }
 }

@@ -3,7 +3,8 @@ use Prim.Native.Nat.{ℕ}
 use mathlib.Core.List.{List}
 use mathlib.Core.Path.{_≡_}
 use Rattle.check_text.specs.Table.{checkText}
-use Rattle.journal_text.specs.JournalText.{journalText, keptText, replayText}
+use Rattle.journal_text.specs.JournalText.{journalText, keptText}
+use Rattle.replay_text.specs.Replay.{replayText}
 use Rattle.verdict_text.specs.Verdict.{verdictText, inputText}
 use Rattle.run_text.specs.Run.{runText}
 

@@ -2,7 +2,8 @@
 // and each of these is lent the bytes that were read.
 ghost use mathlib.Core.Path.{_≡_};
 ghost use Rattle.check_text.specs.Table.{checkText};
-ghost use Rattle.journal_text.specs.JournalText.{journalText, keptText, replayText};
+ghost use Rattle.journal_text.specs.JournalText.{journalText, keptText};
+ghost use Rattle.replay_text.specs.Replay.{replayText};
 ghost use Rattle.verdict_text.specs.Verdict.{verdictText, inputText};
 ghost use Rattle.run_text.specs.Run.{runText};
 ghost use Rattle.printing.specs.Said.{Said};

@@ -1,4 +1,4 @@
--- `replay_of` meets its contract: the bytes that were fetched stand in the rooms, and what is printed is the text that `journal_text` wrote for them.
+-- `replay_of` meets its contract: the bytes that were fetched stand in the rooms, and what is printed is the text that `replay_text` wrote for them.
 use Rattle.files.proofs.Fetching.{counts}
 use borrow.Author.Needs.{needs}
 use Rattle.printing.proofs.Told.{told}

@@ -8,9 +8,9 @@ use lib.ListN.{take}
 use lib.Seq.{length-take-le}
 use Rattle.check_text.proofs.Ways.{few}
 use Rattle.image.specs.Read.{readInto}
-use Rattle.journal_text.proofs.Ways.{asked-refused, asked-read}
-use Rattle.journal_text.proofs.asked.Statement.{statement}
-use Rattle.journal_text.proofs.asked.Tie as tie
+use Rattle.replay_text.proofs.Ways.{asked-refused, asked-read}
+use Rattle.replay_text.proofs.asked.Statement.{statement}
+use Rattle.replay_text.proofs.asked.Tie as tie
 
 mul-end : tie.Need-mul-end
 mul-end c =

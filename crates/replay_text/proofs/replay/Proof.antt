@@ -7,9 +7,9 @@ use lib.ListN.{take}
 use lib.Seq.{length-take-le}
 use Rattle.journal.specs.Journal.{listInto}
 use Rattle.lines.proofs.Chain.{as-text, both}
-use Rattle.journal_text.proofs.Ways.{list-short, replay-unasked, replay-refused, replay-read}
-use Rattle.journal_text.proofs.replay.Statement.{statement}
-use Rattle.journal_text.proofs.replay.Tie as tie
+use Rattle.replay_text.proofs.Ways.{list-short, replay-unasked, replay-refused, replay-read}
+use Rattle.replay_text.proofs.replay.Statement.{statement}
+use Rattle.replay_text.proofs.replay.Tie as tie
 
 returns : tie.Need-returns
 returns c =
