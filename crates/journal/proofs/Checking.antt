@@ -71,11 +71,12 @@ pub record Whole (j : List ℕ) (blocks calls : ℕ) : Type 0 where
   pub bytes : length (listOf j) ≡ 4 * calls
   pub few-calls : calls ≤ 4096
 
+-- what an answer says of the check
 answer-sound : (a b m n : ℕ) (x : Check) → toChecked a b x ≡ Checked.Sound m n → (x ≡ Sound) × (a ≡ m) × (b ≡ n)
 answer-sound a b m n Sound h = (refl, cc, cc)
 answer-sound a b m n (Refused r) h = let z : _≡_ {A = ℕ} 0 1 = cc in absurd (omega arith)
 
-answer-refused : (a b : ℕ) (x : Check) (r : Refusal) → toChecked a b x ≡ Checked.Refused r → x ≡ Refused r
+pub answer-refused : (a b : ℕ) (x : Check) (r : Refusal) → toChecked a b x ≡ Checked.Refused r → x ≡ Refused r
 answer-refused a b Sound r h = let z : _≡_ {A = ℕ} 0 1 = cc in absurd (omega arith)
 answer-refused a b (Refused s) r h = cc
 
@@ -98,6 +99,14 @@ whole j blocks calls h =
       bytes = list-whole j (blocksIn (length j)) len (z .0) ∙ ap (λ (c : ℕ). 4 * c) (a .2);
       few-calls = let m = ltb-false 4096 (callCount (listOf j)) (kept _ Refusal.List (z .1)) in omega (arith, m, a .2);
     }
+
+pub listed-taken : (m n : ℕ) (s : Check) → toListed m s ≡ Listed.Bytes n → (s ≡ Sound) × (m ≡ n)
+listed-taken m n Sound h = (refl, cc)
+listed-taken m n (Refused r) h = let z : _≡_ {A = ℕ} 0 1 = cc in absurd (omega arith)
+
+pub listed-stopped : (m : ℕ) (s : Check) (r : Refusal) → toListed m s ≡ Listed.Refused r → s ≡ Refused r
+listed-stopped m Sound r h = let z : _≡_ {A = ℕ} 0 1 = cc in absurd (omega arith)
+listed-stopped m (Refused x) r h = cc
 
 -- reading the list
 module _ (j : List ℕ) (room : ℕ) where

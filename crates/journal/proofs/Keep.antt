@@ -36,6 +36,15 @@ module _ (list : List ℕ) (room : ℕ) where
     unfolding keep keepCheck listMisshapen
     written h = rw (eq-eqb (length list % 4) 0 e, le-ltb 16384 (length list) l, le-ltb room (512 * blocksFor (length list)) h) refl
 
+-- what an answer says of the check
+pub kept-taken : (n k : ℕ) (s : Check) → toKept n s ≡ Kept.Blocks k → (s ≡ Sound) × (n ≡ k)
+kept-taken n k Sound h = (refl, cc)
+kept-taken n k (Refused r) h = let z : _≡_ {A = ℕ} 0 1 = cc in absurd (omega arith)
+
+pub kept-stopped : (n : ℕ) (s : Check) (r : Refusal) → toKept n s ≡ Kept.Refused r → s ≡ Refused r
+kept-stopped n Sound r h = let z : _≡_ {A = ℕ} 0 1 = cc in absurd (omega arith)
+kept-stopped n (Refused x) r h = cc
+
 -- a list that is written
 pub record Writable (list : List ℕ) (room k : ℕ) : Type 0 where
   pub calls : length list % 4 ≡ 0
@@ -46,7 +55,7 @@ pub record Writable (list : List ℕ) (room k : ℕ) : Type 0 where
 pub writable : (list : List ℕ) (room k : ℕ) → keep list room ≡ Kept.Blocks k → Writable list room k
 unfolding keep keepCheck listMisshapen
 writable list room k h =
-    let a = answer (blocksFor (length list)) (keepCheck list room) h in
+    let a = kept-taken (blocksFor (length list)) k (keepCheck list room) h in
     let x = missed (listMisshapen (length list)) Refusal.List _ (a .0) in
     let y = or-none (not (eqb (length list % 4) 0)) (ltb 16384 (length list)) (x .0) in
     let m = ltb-false room (512 * blocksFor (length list)) (kept _ Room (x .1)) in
@@ -56,7 +65,3 @@ writable list room k h =
       blocks = a .1;
       room-for = omega (arith, m, a .1);
     }
-  where
-    answer : (n : ℕ) (x : Check) → toKept n x ≡ Kept.Blocks k → (x ≡ Sound) × (n ≡ k)
-    answer n Sound h = (refl, cc)
-    answer n (Refused r) h = let z : _≡_ {A = ℕ} 0 1 = cc in absurd (omega arith)

@@ -5,10 +5,10 @@ use mathlib.Core.Path.{_≡_, refl, sym, ap, subst, _∙_}
 use native.Mathlib.Omega.{arith}
 use lib.ListN.{length, take, drop}
 use lib.Seq.{take-at}
-use Rattle.journal.proofs.Checking.{Whole, whole, taken, list-read}
+use Rattle.journal.proofs.Checking.{Whole, whole, taken, listed-taken, list-read}
 use Rattle.journal.proofs.Keep.{writable, written}
 use Rattle.journal.proofs.Reading.{gives-list}
-use Rattle.journal.specs.Journal.{callCount, journalCheck, toChecked, toListed, check, listCheck, listed, listInto}
+use Rattle.journal.specs.Journal.{callCount, journalCheck, toChecked, check, listCheck, listed, listInto}
 use Rattle.journal.specs.Keep.{keep, keepInto}
 use Rattle.journal.specs.Theorems.{Gives, ReaderGives, WriteThenRead, ReadThenWrite}
 use Rattle.journal.specs.declared.Checked.{Checked}
@@ -17,8 +17,7 @@ use Rattle.journal.specs.declared.Listed.{Listed}
 use Rattle.journal_blocks.proofs.Journal.{journal-long, list-written, written-sound, blocks-back, journal-back}
 use Rattle.journal_blocks.specs.Journal.{blocksIn, blocksFor, journalBlocksCheck, listOf, journalOf}
 use Rattle.refusals.proofs.First.{orElse-sound}
-use Rattle.refusals.specs.declared.Check.{Check}
-use Rattle.refusals.specs.declared.Check.the-variants.{Sound, Refused}
+use Rattle.refusals.specs.declared.Check.the-variants.{Sound}
 
 pub reader-gives : ReaderGives
 reader-gives j blocks calls h = let w = whole j blocks calls h in gives-list j blocks (w .long) (w .sound)
@@ -52,11 +51,7 @@ write-then-read list room out k h fits =
 -- the answer that a list was read, taken apart
 read-list : (j : List ℕ) (room n : ℕ) → listed j room ≡ Listed.Bytes n → (journalCheck j ≡ Sound) × (length (listOf j) ≡ n)
 unfolding listed listCheck
-read-list j room n h = let a = answer (length (listOf j)) (listCheck j room) h in (orElse-sound (journalCheck j) _ (a .0) .0, a .1)
-  where
-    answer : (m : ℕ) (x : Check) → toListed m x ≡ Listed.Bytes n → (x ≡ Sound) × (m ≡ n)
-    answer m Sound h = (refl, cc)
-    answer m (Refused r) h = let z : _≡_ {A = ℕ} 0 1 = cc in absurd (omega arith)
+read-list j room n h = let a = listed-taken (length (listOf j)) n (listCheck j room) h in (orElse-sound (journalCheck j) _ (a .0) .0, a .1)
 
 pub read-then-write : ReadThenWrite
 unfolding keepInto listInto check

@@ -4,30 +4,16 @@ use mathlib.Core.List.{List}
 use mathlib.Core.Path.{_≡_, refl}
 use native.Mathlib.Omega.{arith}
 use lib.ListN.{length}
-use Rattle.journal.proofs.Checking.{Whole, whole}
-use Rattle.journal.specs.Journal.{callCount, journalCheck, toChecked, check}
-use Rattle.journal.specs.Keep.{keepCheck, toKept, keep}
+use Rattle.journal.proofs.Checking.{Whole, whole, answer-refused}
+use Rattle.journal.proofs.Keep.{kept-taken, kept-stopped}
+use Rattle.journal.specs.Journal.{callCount, journalCheck, check}
+use Rattle.journal.specs.Keep.{keepCheck, keep}
 use Rattle.journal.specs.declared.Checked.{Checked}
 use Rattle.journal.specs.declared.Kept.{Kept}
 use Rattle.journal_blocks.specs.Journal.{blocksIn, blocksFor, listOf}
 use Rattle.journal_text.specs.JournalText.{keptLines, journalText, keptText}
 use Rattle.refusal_lines.specs.Refused.{explained}
-use Rattle.refusals.specs.declared.Check.{Check}
-use Rattle.refusals.specs.declared.Check.the-variants.{Sound, Refused}
 use Rattle.refusals.specs.declared.Refusal.{Refusal}
-
--- what an answer says of the check
-checked-stopped : (a b : ℕ) (s : Check) (r : Refusal) → toChecked a b s ≡ Checked.Refused r → s ≡ Refused r
-checked-stopped a b Sound r h = let z : _≡_ {A = ℕ} 0 1 = cc in absurd (omega arith)
-checked-stopped a b (Refused x) r h = cc
-
-kept-taken : (n k : ℕ) (s : Check) → toKept n s ≡ Kept.Blocks k → (s ≡ Sound) × (n ≡ k)
-kept-taken n k Sound h = (refl, cc)
-kept-taken n k (Refused r) h = let z : _≡_ {A = ℕ} 0 1 = cc in absurd (omega arith)
-
-kept-stopped : (n : ℕ) (s : Check) (r : Refusal) → toKept n s ≡ Kept.Refused r → s ≡ Refused r
-kept-stopped n Sound r h = let z : _≡_ {A = ℕ} 0 1 = cc in absurd (omega arith)
-kept-stopped n (Refused x) r h = cc
 
 module _ (journal : List ℕ) where
   -- of a journal
@@ -40,7 +26,7 @@ module _ (journal : List ℕ) where
 
   pub check-refused : (r : Refusal) → check journal ≡ Checked.Refused r → explained r ≡ journalText journal
   unfolding journalText check
-  check-refused r h = rw (checked-stopped (blocksIn (length journal)) (callCount (listOf journal)) (journalCheck journal) r h) refl
+  check-refused r h = rw (answer-refused (blocksIn (length journal)) (callCount (listOf journal)) (journalCheck journal) r h) refl
 
 -- of a list that is kept
 module _ (list : List ℕ) where

@@ -12,8 +12,8 @@ use Rattle.image_blocks.proofs.Load.{loads-front}
 use Rattle.image_blocks.specs.Image.{loads}
 use Rattle.image.specs.Read.{read, readInto}
 use Rattle.image.specs.declared.Reading.{Reading}
-use Rattle.journal.proofs.Checking.{Whole, whole}
-use Rattle.journal.specs.Journal.{callCount, journalCheck, toChecked, check, toListed, listCheck, listed, listInto}
+use Rattle.journal.proofs.Checking.{Whole, whole, listed-taken, listed-stopped}
+use Rattle.journal.specs.Journal.{callCount, journalCheck, toChecked, check, listCheck, listed, listInto}
 use Rattle.journal.specs.declared.Listed.{Listed}
 use Rattle.journal_blocks.specs.Journal.{blocksIn, listOf}
 use Rattle.refusal_lines.specs.Refused.{explained}
@@ -25,15 +25,6 @@ use Rattle.refusals.specs.declared.Refusal.the-variants.{Room}
 use Rattle.replay_text.specs.Replay.{askedCheck, replayCheck, replayText}
 use Rattle.run_text.specs.Run.{runText}
 use Rattle.table.specs.Table.{setCheck}
-
--- what the answer about a list says of its check
-listed-taken : (m n : ℕ) (s : Check) → toListed m s ≡ Listed.Bytes n → (s ≡ Sound) × (m ≡ n)
-listed-taken m n Sound h = (refl, cc)
-listed-taken m n (Refused r) h = let z : _≡_ {A = ℕ} 0 1 = cc in absurd (omega arith)
-
-listed-stopped : (m : ℕ) (s : Check) (r : Refusal) → toListed m s ≡ Listed.Refused r → s ≡ Refused r
-listed-stopped m Sound r h = let z : _≡_ {A = ℕ} 0 1 = cc in absurd (omega arith)
-listed-stopped m (Refused x) r h = cc
 
 -- the list of a journal
 module _ (journal : List ℕ) where
