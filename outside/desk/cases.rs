@@ -102,6 +102,8 @@ pub fn desk_files() -> Vec<File> {
     let proposals: Vec<[u8; 4]> = (0..4096).map(|i| propose((i % 4) as u8, DRILL)).collect();
     let late = [vote(0, 1, DRILL), propose(0, DRILL)];
     let opposite = [propose(2, LIVE), propose(2, DRILL), propose(0, DRILL), propose(1, DRILL), vote(2, 0, LIVE)];
+    let two = model::journal_of(&window_of(20));
+    let over: Vec<[u8; 4]> = (0..34 * 125).map(|i| propose((i % 4) as u8, DRILL)).collect();
     let bad = [[3, 0, 0, 0], [0, 4, 4, 0], [1, 0, 1, 2], [0, 0, 1, 0], [1, 0, 3, 0], [2, 1, 0, 0], [0, 0, 0, 0]];
     vec![
         ("a.table", a.clone()),
@@ -129,11 +131,29 @@ pub fn desk_files() -> Vec<File> {
         ("opposite.calls", bytes(&opposite)),
         ("late.calls", bytes(&late)),
         ("bad.calls", bytes(&bad)),
-        ("window.calls", bytes(&window_of_64())),
+        ("window.calls", bytes(&window_of(64))),
         ("most.calls", bytes(&proposals)),
         ("over.calls", bytes(&[&proposals[..], &[propose(0, DRILL)]].concat())),
         ("cut.calls", bytes(&late)[..7].to_vec()),
         ("one.calls", bytes(&[propose(0, DRILL)])),
+        ("full.calls", bytes(&over[..125])),
+        ("two.calls", bytes(&over[..126])),
+        ("drill.journal", model::journal_of(&whole_vote(&[0, 1, 2, 3], DRILL))),
+        ("two-faced.journal", model::journal_of(&two_faced())),
+        ("bad.journal", model::journal_of(&[&bad[..], &[[255; 4]]].concat())),
+        ("two.journal", two.clone()),
+        ("most.journal", model::journal_of(&proposals)),
+        ("last.journal", model::journal_of(&over[..4097])),
+        ("over.journal", model::journal_of(&over)),
+        ("cut.journal", two[..1000].to_vec()),
+        ("damaged.journal", damaged(&two, 512 + 9)),
+        ("number.journal", resealed(&two, 1, |block| put16(block, 0, 2))),
+        ("swapped.journal", [&two[512..], &two[..512]].concat()),
+        ("few.journal", resealed(&two, 0, |block| put16(block, 2, 124))),
+        ("many.journal", resealed(&two, 1, |block| put16(block, 2, 126))),
+        ("zeros.journal", vec![0; 512]),
+        ("filler.journal", resealed(&two, 1, |block| block[503] = 1)),
+        ("behind.journal", resealed(&two, 1, |block| put16(block, 2, 14))),
     ]
 }
 
@@ -154,14 +174,33 @@ pub fn desk_calls() -> Vec<Vec<&'static str>> {
         |run b.table 0 most.calls|run b.table 0 over.calls|run b.table 0 cut.calls|run b.table 10 over.calls|run b.table 10 drill.calls\
         |run damaged.table 10 cut.calls|run owner.table 0 drill.calls|run cut.table 0 drill.calls|run b.table 0 missing.calls\
         |run b.table 0 too-long|run b.table 0 folder|run missing.table 0 drill.calls|run b.table zz drill.calls|run b.table 0\
-        |run b.table 0 drill.calls drill.calls|run";
+        |run b.table 0 drill.calls drill.calls|run\
+        |journal two.journal|journal drill.journal|journal bad.journal|journal empty|journal most.journal|journal last.journal\
+        |journal over.journal|journal cut.journal|journal damaged.journal|journal number.journal|journal swapped.journal\
+        |journal few.journal|journal many.journal|journal zeros.journal|journal filler.journal|journal behind.journal\
+        |journal drill.calls|journal longest|journal too-long|journal missing.journal|journal folder|journal|journal two.journal empty\
+        |replay b.table 0 drill.journal|replay b.table 8 two-faced.journal|replay b.table 8 bad.journal|replay b.table 0 empty\
+        |replay most.table 0 two.journal|replay most.table f two.journal|replay b.table 0 last.journal|replay b.table 0 cut.journal\
+        |replay b.table 0 damaged.journal|replay b.table 0 number.journal|replay b.table 0 behind.journal|replay b.table 0 drill.calls\
+        |replay b.table 10 drill.journal|replay b.table 10 damaged.journal|replay b.table 10 last.journal|replay b.table 10 cut.journal\
+        |replay damaged.table 10 damaged.journal|replay owner.table 0 cut.journal|replay cut.table 0 last.journal\
+        |replay b.table 0 missing.journal|replay b.table 0 too-long|replay b.table 0 folder|replay missing.table 0 drill.journal\
+        |replay b.table zz drill.journal|replay b.table 0|replay\
+        |keep drill.calls new|journal new|replay b.table 0 new|keep two-faced.calls new|replay b.table 0 new\
+        |keep empty new-empty|journal new-empty|replay b.table 0 new-empty|keep full.calls new-full|journal new-full|keep two.calls new-two\
+        |journal new-two|keep most.calls new-most|journal new-most|keep bad.calls new-bad|replay b.table 8 new-bad\
+        |keep cut.calls none|keep over.calls none|keep longest none|journal none|keep cut.calls new|keep missing.calls none|keep too-long none\
+        |keep folder none|journal none|keep drill.calls folder|keep drill.calls a.table|check a.table|keep drill.calls no-such/new\
+        |keep drill.calls a.table/new|keep drill.calls|keep|keep drill.calls none none";
     lines.split('|').map(|line| line.split_whitespace().collect()).collect()
 }
 
-/// What a call of the desk is to print on standard output; nothing where the call itself is wrong.
-pub fn desk_answer(leaflet: &Leaflet, files: &[File], words: &[&str]) -> Option<String> {
+/// What a call of the desk is to print on standard output; nothing where the call itself is wrong. A file that it keeps
+/// is one of the files then.
+pub fn desk_answer(leaflet: &Leaflet, files: &mut Vec<File>, words: &[&'static str]) -> Option<String> {
     let file =
         |name: &str| files.iter().find(|(file, bytes)| *file == name && bytes.len() < 65536).map(|(_, bytes)| bytes);
+    let free = |name: &str| !name.contains('/') && name != "folder" && files.iter().all(|(file, _)| *file != name);
     let mask = |word: &str| {
         let digits = (1..=16).contains(&word.len()) && word.bytes().all(|byte| byte.is_ascii_hexdigit());
         digits.then(|| u64::from_str_radix(word, 16).expect("up to 16 digits fit"))
@@ -171,20 +210,33 @@ pub fn desk_answer(leaflet: &Leaflet, files: &[File], words: &[&str]) -> Option<
         ["check", table] => Some(expected::check(leaflet, file(table)?)),
         ["verdict", table, faulty] => Some(expected::verdict(file(table)?, mask(faulty)?)),
         ["run", table, faulty, calls] => Some(expected::run(leaflet, file(table)?, mask(faulty)?, file(calls)?)),
+        ["keep", calls, name] => {
+            let (text, journal) = expected::keep(leaflet, file(calls).filter(|_| free(name))?);
+            files.extend(journal.map(|bytes| (*name, bytes)));
+            Some(text)
+        }
+        ["journal", journal] => Some(expected::journal(leaflet, file(journal)?)),
+        ["replay", table, faulty, journal] => {
+            Some(expected::replay(leaflet, file(table)?, mask(faulty)?, file(journal)?))
+        }
         _ => None,
     }
 }
 
 /// What `desk` alone prints.
 const USAGE: &str = "\
-desk check TABLE               is the table sound?
-desk verdict TABLE FAULTY      which sites can be relied on when the sites of FAULTY are faulty?
-desk run TABLE FAULTY CALLS    the vote: its passes, what was confirmed, drill or live for each site
-TABLE and CALLS name files; FAULTY is 1 to 16 hexadecimal digits, bit v for site v, 0 for nobody
+desk check TABLE                    is the table sound?
+desk verdict TABLE FAULTY           which sites can be relied on when the sites of FAULTY are faulty?
+desk run TABLE FAULTY CALLS         the vote: its passes, what was confirmed, drill or live for each site
+desk keep CALLS JOURNAL             keeps the list of calls as a new file, whole or not at all
+desk journal JOURNAL                is the journal sound, and how many calls does it keep?
+desk replay TABLE FAULTY JOURNAL    the vote, as desk run prints it, of the calls that the journal keeps
+TABLE, CALLS and JOURNAL name files; FAULTY is 1 to 16 hexadecimal digits, bit v for site v, 0 for nobody
 ";
 
-/// What the desk's cases are to print, each with its call before it.
-pub fn desk_text(leaflet: &Leaflet, files: &[File], calls: &[Vec<&str>]) -> String {
+/// What the desk's cases are to print, one after the other, each with its call before it.
+pub fn desk_text(leaflet: &Leaflet, files: &[File], calls: &[Vec<&'static str>]) -> String {
     let heading = |words: &[&str]| words.iter().fold("desk".to_string(), |line, word| line + " " + word) + "\n";
-    calls.iter().map(|words| heading(words) + &desk_answer(leaflet, files, words).unwrap_or_default()).collect()
+    let mut files = files.to_vec();
+    calls.iter().map(|words| heading(words) + &desk_answer(leaflet, &mut files, words).unwrap_or_default()).collect()
 }

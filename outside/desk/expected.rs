@@ -73,3 +73,42 @@ pub fn run(leaflet: &Leaflet, image: &[u8], faulty: u64, calls: &[u8]) -> String
     }
     text
 }
+
+/// `blocks K` and `calls N`
+fn counts(blocks: u64, calls: usize) -> String {
+    format!("blocks {blocks}\ncalls {calls}\n")
+}
+
+/// `desk keep`: what is printed, and the file; none where the list is refused
+pub fn keep(leaflet: &Leaflet, calls: &[u8]) -> (String, Option<Vec<u8>>) {
+    let mut room = vec![0; model::LONGEST_JOURNAL];
+    let written = model::journal_write(calls, &mut room);
+    if written.number != 0 {
+        return (leaflet.refused(written), None);
+    }
+    room.truncate(model::BLOCK * written.values[0] as usize);
+    (counts(written.values[0], calls.len() / 4), Some(room))
+}
+
+/// `desk journal`
+pub fn journal(leaflet: &Leaflet, journal: &[u8]) -> String {
+    let checked = model::journal_check(journal);
+    match checked.number {
+        0 => counts(checked.values[0], checked.values[1] as usize),
+        _ => leaflet.refused(checked),
+    }
+}
+
+/// `desk replay`: the refusals of the table and 10, which a run without calls has alone, then the journal's, then the run
+pub fn replay(leaflet: &Leaflet, image: &[u8], faulty: u64, journal: &[u8]) -> String {
+    let asked = run(leaflet, image, faulty, &[]);
+    if asked.starts_with("refused") {
+        return asked;
+    }
+    let mut list = vec![0; model::LONGEST_JOURNAL];
+    let listed = model::journal_list(journal, &mut list);
+    match listed.number {
+        0 => run(leaflet, image, faulty, &list[..listed.values[0] as usize]),
+        _ => leaflet.refused(listed),
+    }
+}

@@ -94,10 +94,10 @@ pub fn whole_vote(sites: &[u8], side: u8) -> Vec<[u8; 4]> {
     proposals.chain(votes).chain(accepts).collect()
 }
 
-/// A test window in a table of 64 sites round table B: the four in the middle vote, the others hear them.
-pub fn window_of_64() -> Vec<[u8; 4]> {
+/// A test window in a table of sites round table B: the four in the middle vote, the others below n hear them.
+pub fn window_of(n: u8) -> Vec<[u8; 4]> {
     let mut calls = whole_vote(&[0, 1, 2, 3], DRILL);
-    for site in 4..64 {
+    for site in 4..n {
         calls.push(propose(site, DRILL));
         calls.extend((0..3).map(|from| vote(from, site, DRILL)));
         calls.extend((0..3).map(|from| accept(from, site, DRILL)));

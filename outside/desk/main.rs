@@ -17,6 +17,7 @@ use std::path::Path;
 fn samples() -> Vec<File> {
     use files::*;
     let b = image(&table_b());
+    let twenty = model::journal_of(&window_of(20));
     let late = [vote(0, 1, DRILL), propose(0, DRILL)];
     let opposite = [propose(2, LIVE), propose(2, DRILL), propose(0, DRILL), propose(1, DRILL), vote(2, 0, LIVE)];
     vec![
@@ -31,9 +32,11 @@ fn samples() -> Vec<File> {
         ("late.calls", bytes(&late)),
         ("opposite.calls", bytes(&opposite)),
         ("leaning.calls", bytes(&leaning())),
-        ("sixty-four.calls", bytes(&window_of_64())),
+        ("sixty-four.calls", bytes(&window_of(64))),
         ("cut.calls", bytes(&late)[..7].to_vec()),
         ("empty.calls", vec![]),
+        ("twenty.journal", twenty.clone()),
+        ("damaged.journal", damaged(&twenty, 512 + 9)),
     ]
 }
 
@@ -42,6 +45,12 @@ fn put(folder: &Path, files: &[File]) {
     for (name, bytes) in files {
         fs::write(folder.join(name), bytes).expect("a file");
     }
+}
+
+/// The folder in which the desk's cases run.
+fn put_data(folder: &Path, files: &[File]) {
+    put(folder, files);
+    put(&folder.join("folder"), &[("inside", vec![])]);
 }
 
 /// The words of a program, one to a line.
@@ -61,13 +70,12 @@ fn write(root: &Path, leaflet: &Leaflet) {
     put(&program, &[("stdin", input.clone()), ("stdout", model::verdict(input).into_bytes())]);
     let desk = root.join("crates/desk_cases");
     let (files, calls) = (cases::desk_files(), cases::desk_calls());
-    put(&desk.join("data"), &files);
-    put(&desk.join("data/folder"), &[("inside", vec![])]);
+    put_data(&desk.join("data"), &files);
     fs::write(desk.join("args"), args(&calls.join(&"--"))).expect("args");
     fs::write(desk.join("stdout"), cases::desk_text(leaflet, &files, &calls)).expect("stdout");
     let (program, call) = (root.join("crates/desk"), ["run", "b.table", "8", "two-faced.calls"]);
     let named: Vec<File> = files.iter().filter(|(name, _)| call.contains(name)).cloned().collect();
-    let text = cases::desk_answer(leaflet, &files, &call).expect("an answer");
+    let text = cases::desk_answer(leaflet, &mut files.clone(), &call).expect("an answer");
     put(&program.join("data"), &named);
     put(&program, &[("args", args(&call).into_bytes()), ("stdout", text.into_bytes())]);
 }
@@ -75,7 +83,7 @@ fn write(root: &Path, leaflet: &Leaflet) {
 fn main() {
     let words: Vec<String> = std::env::args().collect();
     let leaflet = Leaflet::of(&fs::read_to_string("docs/LEAFLET.md").expect("the leaflet"));
-    assert_eq!(leaflet.len(), 18, "the leaflet has a row for each number");
+    assert_eq!(leaflet.len(), 20, "the leaflet has a row for each number");
     match words.iter().map(String::as_str).collect::<Vec<_>>()[1..] {
         ["write", root] => write(Path::new(root), &leaflet),
         ["try", root] => programs::try_all(Path::new(root), &leaflet, &samples()),

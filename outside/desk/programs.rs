@@ -43,6 +43,9 @@ fn blame(words: &[&str]) -> &'static str {
         ["check", _] => "desk check TABLE: ",
         ["verdict", _, _] => "desk verdict TABLE FAULTY: ",
         ["run", _, _, _] => "desk run TABLE FAULTY CALLS: ",
+        ["keep", _, _] => "desk keep CALLS JOURNAL: ",
+        ["journal", _] => "desk journal JOURNAL: ",
+        ["replay", _, _, _] => "desk replay TABLE FAULTY JOURNAL: ",
         _ => "desk: ",
     }
 }
@@ -82,12 +85,86 @@ fn random(dice: &mut Dice) -> (Vec<u8>, u64, Vec<u8>) {
     (image, faulty, calls.concat())
 }
 
+/// The names in a folder.
+fn names(folder: &Path) -> Vec<String> {
+    let entries = std::fs::read_dir(folder).expect("a folder");
+    let mut names: Vec<String> =
+        entries.map(|entry| entry.expect("a name").file_name().to_string_lossy().into_owned()).collect();
+    names.sort();
+    names
+}
+
+/// The folder holds the files, each with its bytes, and nothing else but the names told.
+fn holds(folder: &Path, files: &[File], besides: &[&str]) {
+    let mut expected: Vec<String> = files.iter().map(|(name, _)| name.to_string()).collect();
+    expected.extend(besides.iter().map(|name| name.to_string()));
+    expected.sort();
+    assert_eq!(names(folder), expected, "what the folder holds");
+    for (name, bytes) in files {
+        assert!(&std::fs::read(folder.join(name)).expect("a file") == bytes, "{name} has other bytes");
+    }
+}
+
+/// `desk keep` where there is something in the way, or no room: one line that names it, no file more, none changed.
+fn try_keep(desk: &Path, folder: &Path) -> usize {
+    let list = files::bytes(&files::window_of(64));
+    let journal = model::journal_of(&files::window_of(64));
+    let there: Vec<File> =
+        vec![("list", list), ("there", vec![1, 2, 3]), ("left.part", vec![4, 5]), ("five", vec![0; 5])];
+    crate::put(folder, &there);
+    std::fs::create_dir(folder.join("taken")).expect("a folder");
+    std::os::unix::fs::symlink("there", folder.join("link")).expect("a link");
+    std::os::unix::fs::symlink("nowhere", folder.join("loose")).expect("a link");
+    let besides = ["taken", "link", "loose"];
+    let line = |name: &str, told: &str| {
+        let output = run(desk, folder, &["keep", "list", name], &[]);
+        held(name, &output, &None, &format!("desk keep CALLS JOURNAL: {told}"));
+        holds(folder, &there, &besides);
+        assert_eq!(names(&folder.join("taken")), Vec::<String>::new(), "the folder is empty");
+    };
+    let long = "x".repeat(252);
+    line("there", "there: the name is taken");
+    line("list", "list: the name is taken");
+    line("taken", "taken: the name is taken");
+    line("link", "link: the name is taken");
+    line("loose", "loose: the name is taken");
+    line("left", "cannot make left.part: File exists");
+    line("no-such/new", "cannot make no-such/new.part: ");
+    line("there/new", "cannot make there/new.part: ");
+    line("/proc/new", "cannot make /proc/new.part: ");
+    line(&long, &format!("cannot make {long}.part: "));
+    line(&"x/".repeat(2500), "cannot make ");
+    line("", "cannot make : ");
+    // a file may have 1,024 bytes and not more, as on a disk that is full then; and the same with a journal that fits
+    let limited = |list: &str, name: &str| {
+        let script = "trap '' XFSZ; ulimit -f 1; exec \"$0\" keep \"$1\" \"$2\"";
+        let mut command = Command::new("bash");
+        command.arg("-c").arg(script).arg(desk).args([list, name]).current_dir(folder).output().expect("bash")
+    };
+    held("a full disk", &limited("list", "new"), &None, "desk keep CALLS JOURNAL: cannot write new.part: ");
+    holds(folder, &there, &besides);
+    let refused = text(&run(desk, folder, &["keep", "five", "new"], &[]).stdout);
+    assert!(refused.starts_with("refused 17 0\n"), "{refused}");
+    holds(folder, &there, &besides);
+    let closed = Command::new("sh").arg("-c").arg("\"$0\" keep list new >&-").arg(desk).current_dir(folder).output();
+    held("keep, no standard output", &closed.expect("sh"), &None, "the answer could not be written whole: ");
+    holds(folder, &[&there[..], &[("new", journal)]].concat(), &besides);
+    std::fs::remove_file(folder.join("new")).expect("the file goes");
+    let small = files::bytes(&files::window_of(20));
+    std::fs::write(folder.join("small"), &small).expect("a file");
+    held("a disk with room", &limited("small", "new"), &Some("blocks 2\ncalls 140\n".to_string()), "");
+    let kept = model::journal_of(&files::window_of(20));
+    holds(folder, &[&there[..], &[("small", small), ("new", kept)]].concat(), &besides);
+    16
+}
+
 pub fn try_all(root: &Path, leaflet: &Leaflet, samples: &[File]) {
     let root = root.canonicalize().expect("the repository");
-    // the folder that outside/programs prints
+// the folder that outside/programs prints
     let programs = root.join(std::env::var("PROGRAMS").unwrap_or("target/bin".into()));
     let (desk, verdict) = (programs.join("desk"), programs.join("verdict"));
-    let data = root.join("crates/desk_cases/data");
+    let folder = std::env::temp_dir().join(format!("siren-desk-{}", std::process::id()));
+    let data = folder.join("data");
     let none = Path::new("/dev/null");
 
     // the cases, each by the program itself
@@ -95,14 +172,17 @@ pub fn try_all(root: &Path, leaflet: &Leaflet, samples: &[File]) {
     for (name, bytes) in &files {
         held(name, &run(&verdict, &root, &[], bytes), &Some(model::verdict(bytes)), "");
     }
-    let (kept, calls) = (desk_files(), desk_calls());
+    let (mut kept, calls) = (desk_files(), desk_calls());
+    crate::put_data(&data, &kept);
     for words in &calls {
-        held(&words.join(" "), &run(&desk, &data, words, &[]), &desk_answer(leaflet, &kept, words), blame(words));
+        let output = run(&desk, &data, words, &[]);
+        held(&words.join(" "), &output, &desk_answer(leaflet, &mut kept, words), blame(words));
     }
+    holds(&data, &kept, &["folder"]);
 
     // what the cases cannot hold: words that are empty or very long, files that no one can read, files without an end
     let long = "x".repeat(5000);
-    let odd: [&[&str]; 10] = [
+    let odd: [&[&str]; 14] = [
         &["check", ""],
         &["check", &long],
         &["check", "/proc/self/mem"],
@@ -112,6 +192,10 @@ pub fn try_all(root: &Path, leaflet: &Leaflet, samples: &[File]) {
         &["verdict", "a.table", &long],
         &["run", "b.table", "0", "/proc/self/mem"],
         &["run", "b.table", "0", "/dev/zero"],
+        &["journal", "/dev/zero"],
+        &["journal", &long],
+        &["replay", "b.table", "0", "/proc/self/mem"],
+        &["keep", "/dev/zero", "none"],
         &["help"],
     ];
     for words in odd {
@@ -148,13 +232,20 @@ pub fn try_all(root: &Path, leaflet: &Leaflet, samples: &[File]) {
         "the answer could not be written whole: ",
     );
 
+    // what stands in the way of a new file
+    let kept_or_not = try_keep(&desk, &folder.join("keep"));
+
     // the samples are what a reader is told that they are
-    for (name, bytes) in samples.iter().filter(|(name, _)| name.ends_with(".table")) {
+    for (name, bytes) in samples {
         let path = root.join("samples").join(name);
-        let answer = expected::check(leaflet, bytes);
+        let (word, answer) = match name.rsplit('.').next() {
+            Some("table") => ("check", expected::check(leaflet, bytes)),
+            Some("journal") => ("journal", expected::journal(leaflet, bytes)),
+            _ => continue,
+        };
         held(
             name,
-            &run(&desk, none.parent().expect("a folder"), &["check", path.to_str().expect("a path")], &[]),
+            &run(&desk, none.parent().expect("a folder"), &[word, path.to_str().expect("a path")], &[]),
             &Some(answer),
             "",
         );
@@ -163,8 +254,6 @@ pub fn try_all(root: &Path, leaflet: &Leaflet, samples: &[File]) {
     // tables and lists that are in no file of the repository
     let seed = std::env::var("SEED").ok().and_then(|seed| seed.parse().ok()).unwrap_or(20261115);
     let mut dice = Dice(seed);
-    let folder = std::env::temp_dir().join(format!("siren-desk-{}", std::process::id()));
-    std::fs::create_dir_all(&folder).expect("a folder");
     let mut drills = 0;
     for round in 0..500 {
         let (image, faulty, list) = random(&mut dice);
@@ -176,12 +265,27 @@ pub fn try_all(root: &Path, leaflet: &Leaflet, samples: &[File]) {
         held(&what, &run(&desk, &folder, &["verdict", "t", &mask], &[]), &Some(expected::verdict(&image, faulty)), "");
         let ran = expected::run(leaflet, &image, faulty, &list);
         drills += usize::from(ran.contains(" drill\n"));
+        let (told, journal) = expected::keep(leaflet, &list);
+        let mut journal = journal.expect("a list of whole calls is kept");
+        let _ = std::fs::remove_file(folder.join("j"));
+        held(&what, &run(&desk, &folder, &["keep", "l", "j"], &[]), &Some(told.clone()), "");
+        assert!(std::fs::read(folder.join("j")).expect("a file") == journal, "{what}: the journal has other bytes");
+        held(&what, &run(&desk, &folder, &["journal", "j"], &[]), &Some(told), "");
+        held(&what, &run(&desk, &folder, &["replay", "t", &mask, "j"], &[]), &Some(ran.clone()), "");
         held(&what, &run(&desk, &folder, &["run", "t", &mask, "l"], &[]), &Some(ran), "");
+        if let Some(last) = journal.len().checked_sub(1) {
+            let at = dice.below(last as u64 + 1) as usize;
+            journal[at] = journal[at].wrapping_add(1 + dice.below(255) as u8);
+            std::fs::write(folder.join("d"), &journal).expect("a file");
+            held(&what, &run(&desk, &folder, &["journal", "d"], &[]), &Some(expected::journal(leaflet, &journal)), "");
+            let replayed = expected::replay(leaflet, &image, faulty, &journal);
+            held(&what, &run(&desk, &folder, &["replay", "t", &mask, "d"], &[]), &Some(replayed), "");
+        }
     }
     std::fs::remove_dir_all(&folder).expect("the folder goes");
     assert!(drills > 50, "some of the lists end in a drill");
     println!(
-        "desk: {} verdicts, {} calls, {} odd ones, 500 random tables (seed {seed}; {drills} with a drill)",
+        "desk: {} verdicts, {} calls, {} odd ones, {kept_or_not} files kept or not, 500 random tables and lists (seed {seed}; {drills} with a drill)",
         files.len(),
         calls.len(),
         odd.len() + 7
