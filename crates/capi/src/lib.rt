@@ -9,14 +9,14 @@ ghost use Rattle.journal.specs.Keep.{keep, keepInto};
 ghost use Rattle.journal.specs.Next.{next};
 ghost use Rattle.image.specs.Write.{write, writeInto};
 ghost use Rattle.questions.specs.Answers.{quorum, largest, blocks, shared, intact};
-ghost use Rattle.records.specs.Pack.{bytesOf};
+ghost use Rattle.packing.specs.Pack.{bytesOf};
 ghost use Rattle.said.specs.Said.{ofCheck, ofReading, ofWriting, ofStepped};
 ghost use Rattle.said_sets.specs.Said.{ofHolds, ofGreatest, ofSharing, ofStanding};
 ghost use Rattle.said_journal.specs.Said.{ofChecked, ofKept, ofListed, ofTaken};
 ghost use Rattle.table.specs.Table.{check};
 ghost use Rattle.voting.specs.Step.{soundCheck, stepCheck, stepInto, toStepped};
 ghost use Rattle.votes.specs.Call.{call};
-use records::Call;
+use packing::Call;
 
 // The check of a table in memory.
 #[no_mangle]
