@@ -7,7 +7,7 @@ ghost use Rattle.journal.specs.Journal as Journal;
 ghost use Rattle.journal.specs.Journal.{listed, listInto};
 ghost use Rattle.journal.specs.Keep.{keep, keepInto};
 ghost use Rattle.journal.specs.Next.{next};
-ghost use Rattle.image.specs.Write.{write, writeInto};
+ghost use Rattle.image_write.specs.Write.{write, writeInto};
 ghost use Rattle.questions.specs.Answers.{quorum, largest, blocks, shared, intact};
 ghost use Rattle.packing.specs.Pack.{bytesOf};
 ghost use Rattle.said.specs.Said.{ofCheck, ofReading, ofWriting, ofStepped};
@@ -44,7 +44,7 @@ pub extern "C" fn siren_image_write(table: &[u64], room: &mut [u8], out: &mut [u
     ensures told { λ r. ⌜ now (out .exit) ≡ ofWriting (write (now (table .entry)) (length (now (room .entry)))) .out ⌝ }
     ensures memory { λ r. ⌜ now (room .exit) ≡ writeInto (write (now (table .entry)) (length (now (room .entry)))) (now (table .entry)) (now (room .entry)) ⌝ }
 {
-    said::writing(image::write(table, room), out)
+    said::writing(image_write::write(table, room), out)
 }
 
 // Is the set a quorum?
