@@ -80,7 +80,7 @@ pub extern "C" fn siren_shared(table: &[u64], out: &mut [u64; 4]) -> u64
     ensures answer { λ r. ⌜ r ≡ ofSharing (shared (now (table .entry))) .number ⌝ }
     ensures told { λ r. ⌜ now (out .exit) ≡ ofSharing (shared (now (table .entry))) .out ⌝ }
 {
-    said_sets::sharing(questions::shared(table), out)
+    said_sets::sharing(verdict_questions::shared(table), out)
 }
 
 // Which sites are intact when those of the set are faulty?
@@ -89,7 +89,7 @@ pub extern "C" fn siren_intact(table: &[u64], faulty: u64, out: &mut [u64; 4]) -
     ensures answer { λ r. ⌜ r ≡ ofStanding (intact (now (table .entry)) faulty) .number ⌝ }
     ensures told { λ r. ⌜ now (out .exit) ≡ ofStanding (intact (now (table .entry)) faulty) .out ⌝ }
 {
-    said_sets::standing(questions::intact(table, faulty), out)
+    said_sets::standing(verdict_questions::intact(table, faulty), out)
 }
 
 // Is the state sound?
