@@ -14,7 +14,7 @@ use prog.Memory.{Memory}
 use prog.Routine.{Routine}
 use prog.Wp.{Heap}
 use Rattle.ground.specs.Coincide.{All}
-use Rattle.records.proofs.Facts.{both}
+use Rattle.packing.proofs.Facts.{both}
 use Rattle.capi.proofs.siren_blocks.Kinds as siren-blocks-kinds
 use Rattle.capi.proofs.siren_blocks.Reads as siren-blocks-reads
 use Rattle.capi.proofs.siren_image_read.Kinds as siren-image-read-kinds

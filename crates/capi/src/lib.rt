@@ -7,16 +7,16 @@ ghost use Rattle.journal.specs.Journal as Journal;
 ghost use Rattle.journal.specs.Journal.{listed, listInto};
 ghost use Rattle.journal.specs.Keep.{keep, keepInto};
 ghost use Rattle.journal.specs.Next.{next};
-ghost use Rattle.image.specs.Write.{write, writeInto};
+ghost use Rattle.image_write.specs.Write.{write, writeInto};
 ghost use Rattle.questions.specs.Answers.{quorum, largest, blocks, shared, intact};
-ghost use Rattle.records.specs.Pack.{bytesOf};
+ghost use Rattle.packing.specs.Pack.{bytesOf};
 ghost use Rattle.said.specs.Said.{ofCheck, ofReading, ofWriting, ofStepped};
 ghost use Rattle.said_sets.specs.Said.{ofHolds, ofGreatest, ofSharing, ofStanding};
 ghost use Rattle.said_journal.specs.Said.{ofChecked, ofKept, ofListed, ofTaken};
 ghost use Rattle.table.specs.Table.{check};
 ghost use Rattle.voting.specs.Step.{soundCheck, stepCheck, stepInto, toStepped};
 ghost use Rattle.votes.specs.Call.{call};
-use records::Call;
+use packing::Call;
 
 // The check of a table in memory.
 #[no_mangle]
@@ -44,7 +44,7 @@ pub extern "C" fn siren_image_write(table: &[u64], room: &mut [u8], out: &mut [u
     ensures told { λ r. ⌜ now (out .exit) ≡ ofWriting (write (now (table .entry)) (length (now (room .entry)))) .out ⌝ }
     ensures memory { λ r. ⌜ now (room .exit) ≡ writeInto (write (now (table .entry)) (length (now (room .entry)))) (now (table .entry)) (now (room .entry)) ⌝ }
 {
-    said::writing(image::write(table, room), out)
+    said::writing(image_write::write(table, room), out)
 }
 
 // Is the set a quorum?
@@ -80,7 +80,7 @@ pub extern "C" fn siren_shared(table: &[u64], out: &mut [u64; 4]) -> u64
     ensures answer { λ r. ⌜ r ≡ ofSharing (shared (now (table .entry))) .number ⌝ }
     ensures told { λ r. ⌜ now (out .exit) ≡ ofSharing (shared (now (table .entry))) .out ⌝ }
 {
-    said_sets::sharing(questions::shared(table), out)
+    said_sets::sharing(verdict_questions::shared(table), out)
 }
 
 // Which sites are intact when those of the set are faulty?
@@ -89,7 +89,7 @@ pub extern "C" fn siren_intact(table: &[u64], faulty: u64, out: &mut [u64; 4]) -
     ensures answer { λ r. ⌜ r ≡ ofStanding (intact (now (table .entry)) faulty) .number ⌝ }
     ensures told { λ r. ⌜ now (out .exit) ≡ ofStanding (intact (now (table .entry)) faulty) .out ⌝ }
 {
-    said_sets::standing(questions::intact(table, faulty), out)
+    said_sets::standing(verdict_questions::intact(table, faulty), out)
 }
 
 // Is the state sound?

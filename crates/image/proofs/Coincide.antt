@@ -5,18 +5,10 @@ use mathlib.Core.Path.{sym, ap, _∙_}
 use denote.Ref.{now}
 use Rattle.ground.specs.Coincide.{All}
 use Rattle.image.specs.Read.{readInto}
-use Rattle.image.specs.Write.{writeInto}
 use Rattle.image.proofs.read.Kinds as read-kinds
 use Rattle.image.proofs.read.Reads as read-reads
-use Rattle.image.proofs.write.Kinds as write-kinds
-use Rattle.image.proofs.write.Reads as write-reads
 
 pub read-coincide : All read-kinds.ps read-kinds.r (List ℕ) (λ κs s. now (s .1 .0)) read-reads.Post
 read-coincide κs a x y s t p q =
     let e = p .0 ∙ sym (q .0) in
     (e, p .1 ∙ ap (λ r. readInto r (now (a .0)) (now (a .1 .0))) e ∙ sym (q .1))
-
-pub write-coincide : All write-kinds.ps write-kinds.r (List ℕ) (λ κs s. now (s .1 .0)) write-reads.Post
-write-coincide κs a x y s t p q =
-    let e = p .0 ∙ sym (q .0) in
-    (e, p .1 ∙ ap (λ r. writeInto r (now (a .0)) (now (a .1 .0))) e ∙ sym (q .1))

@@ -1,4 +1,3 @@
 pub mod ReadLaws
-pub mod WriteLaws
 pub mod RoundTrip
 pub mod Coincide

@@ -11,11 +11,11 @@ use Rattle.ground.specs.Pieces.{part}
 use Rattle.image_blocks.specs.Image.{blocksCheck, loads, stores}
 use Rattle.image.specs.Read.{read, readInto}
 use Rattle.image.specs.RoundTrip.{Words, ReadThenWrite, WriteThenRead}
-use Rattle.image.specs.Write.{write, writeInto}
+use Rattle.image_write.specs.Write.{write, writeInto}
 use Rattle.image_blocks.proofs.Load.{length-loads, loads-front, loads-site}
 use Rattle.image.proofs.ReadLaws.{blocks-shape, read-taken, loads-sound, read-all}
 use Rattle.image_blocks.proofs.Store.{stores-block, length-stores, stores-front}
-use Rattle.image.proofs.WriteLaws.{write-taken, write-all}
+use Rattle.image_write.proofs.WriteLaws.{write-taken, write-all}
 use Rattle.le.proofs.Laws.{bytes-part}
 use Rattle.le.specs.Le.{Bytes}
 use Rattle.refusals.proofs.First.{first-all, first-sound}

@@ -5,9 +5,9 @@ use mathlib.Core.List.{List, _++_}
 use mathlib.Core.Path.{_≡_}
 use lib.ListN.{length, getD, take, drop}
 use Rattle.image.specs.Read.{read, readInto}
-use Rattle.image.specs.Write.{write, writeInto}
+use Rattle.image_write.specs.Write.{write, writeInto}
 use Rattle.image.specs.declared.Reading as Reading
-use Rattle.image.specs.declared.Writing as Writing
+use Rattle.image_write.specs.declared.Writing as Writing
 use Rattle.le.specs.Le.{Bytes}
 
 abbrev pub Words : List ℕ → Type 0

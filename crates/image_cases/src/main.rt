@@ -20,7 +20,7 @@
 use cases::number;
 use cases::word;
 use image::Reading;
-use image::Writing;
+use image_write::Writing;
 
 // Reads an image into a table.
 fn read(image: &[u8], table: &mut [u64]) {
@@ -33,7 +33,7 @@ fn read(image: &[u8], table: &mut [u64]) {
 
 // Writes a table into an image, and is silent of the answer where the letter is W.
 fn write(letter: u8, table: &[u64], image: &mut [u8]) {
-    let writing = image::write(table, image);
+    let writing = image_write::write(table, image);
     if letter == b'W' {
         return;
     }

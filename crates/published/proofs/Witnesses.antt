@@ -17,9 +17,9 @@ use Rattle.image.proofs.RoundTrip.{write-then-read}
 use Rattle.image_blocks.specs.Image.{loads}
 use Rattle.image.specs.Read.{read, readInto, readCheck, toReading}
 use Rattle.image.specs.RoundTrip.{Words}
-use Rattle.image.specs.Write.{write, writeCheck}
+use Rattle.image_write.specs.Write.{write, writeCheck}
 use Rattle.image.specs.declared.Reading as Reading
-use Rattle.image.specs.declared.Writing as Writing
+use Rattle.image_write.specs.declared.Writing as Writing
 use Rattle.masks.specs.Mask.{has, within, minus, gather}
 use Rattle.questions.specs.Answers.{quorum, largest, blocks, shared, intact, setSiteCheck}
 use Rattle.questions.specs.declared.Greatest.the-variants.{Set}

@@ -4,8 +4,8 @@ use mathlib.Core.List.{List, [], _∷_}
 use mathlib.Core.Path.{_≡_}
 use lib.ListN.{length, take, replicate}
 use Rattle.check_text.specs.Table.{tableOn, imageCheck}
-use Rattle.image.specs.Write.{writeInto}
-use Rattle.image.specs.declared.Writing as Writing
+use Rattle.image_write.specs.Write.{writeInto}
+use Rattle.image_write.specs.declared.Writing as Writing
 use Rattle.questions.specs.Answers.{quorum, largest, blocks, shared, intact}
 use Rattle.questions.specs.declared.Greatest.the-variants.{Set}
 use Rattle.questions.specs.declared.Holds.the-variants.{Yes, No}

@@ -1,11 +1,8 @@
-// The set questions as public calls: each checks table, set and site itself, in the order table, 10, 11, 16.
+// The set questions as public calls, but for the two verdicts: each checks table, set and site itself, in the order table, 10, 11. The answers of all.
 ghost use mathlib.Core.Path.{_≡_};
-ghost use Rattle.questions.specs.Answers.{quorum, largest, blocks, shared, intact};
+ghost use Rattle.questions.specs.Answers.{quorum, largest, blocks};
 use refusals::Check;
 use refusals::Refusal;
-
-// Verdicts on shared sites and on intact sites are given for so many sites at most.
-const MOST: usize = 12;
 
 // Whether it holds, or the refusal.
 pub enum Holds {
@@ -81,41 +78,4 @@ pub fn blocks(table: &[u64], set: u64, site: u64) -> Holds
         return Holds::Yes;
     }
     Holds::No
-}
-
-// Do every two quorums have a common site?
-pub fn shared(table: &[u64]) -> Sharing
-    ensures { λ r. ⌜ r ≡ shared (now (table .entry)) ⌝ }
-{
-    let q = table::check(table);
-    if let Check::Refused(r) = q {
-        return Sharing::Refused(r);
-    }
-    let n = table.len() / 63;
-    if MOST < n {
-        return Sharing::Refused(Refusal::Large);
-    }
-    let first = verdicts::first_apart(table, n);
-    if first == masks::single(n as u64) {
-        return Sharing::Meet;
-    }
-    Sharing::Apart {
-        first,
-        second: verdicts::beside(table, n, first),
-    }
-}
-
-// Which sites are intact when those of the set are faulty?
-pub fn intact(table: &[u64], faulty: u64) -> Standing
-    ensures { λ r. ⌜ r ≡ intact (now (table .entry)) faulty ⌝ }
-{
-    let q = table::check_set(table, faulty);
-    if let Check::Refused(r) = q {
-        return Standing::Refused(r);
-    }
-    let n = table.len() / 63;
-    if MOST < n {
-        return Standing::Refused(Refusal::Large);
-    }
-    Standing::Intact(verdicts::intact(table, n, faulty))
 }

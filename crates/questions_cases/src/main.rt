@@ -67,8 +67,8 @@ fn ask(line: &[u8], table: &[u64]) {
         b'q' => holds(questions::quorum(table, x)),
         b'b' => holds(questions::blocks(table, x, word(line, 4))),
         b'l' => greatest(questions::largest(table, x)),
-        b's' => sharing(questions::shared(table)),
-        _ => standing(questions::intact(table, x)),
+        b's' => sharing(verdict_questions::shared(table)),
+        _ => standing(verdict_questions::intact(table, x)),
     }
     io::write_all(1, b"\n");
 }

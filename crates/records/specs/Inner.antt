@@ -1,38 +1,10 @@
--- The calls put into a room of bytes, and how a run of that room ends.
-use Prim.Native.Nat.{ℕ, zero, suc, _+_, _*_, _≤_}
-use mathlib.Core.Bool.{Bool, true, false, cond}
+-- How a run of a room of bytes ends.
+use Prim.Native.Nat.{ℕ, _*_, _≤_}
 use mathlib.Core.List.{List}
 use mathlib.Core.Path.{_≡_}
-use lib.Dec.{ltb}
-use lib.ListN.{length, getD, set, take}
-use Rattle.records.specs.declared.Call.{Call}
+use lib.ListN.{length, take}
 use Rattle.run.specs.Run.{ran, stateInto, answersInto}
 use Rattle.run.specs.declared.Ran.{Ran}
-
--- what a call past the end reads as
-abbrev pub none : Call
-none = record { kind = 0; from = 0; to = 0; side = 0 }
-
--- four bytes stored at 4 * i
-abbrev pub stored : List ℕ → ℕ → Call → List ℕ
-stored b i c = set (set (set (set b (4 * i) (c .kind)) (4 * i + 1) (c .from)) (4 * i + 2) (c .to)) (4 * i + 3) (c .side)
-
-abbrev pub pick : Bool → List ℕ → List ℕ → List ℕ
-pick true a b = a
-pick false a b = b
-
--- the room with call i put in its place; past the end nothing changes
-unfoldable pub putAt : List ℕ → ℕ → Call → List ℕ
-putAt b i c = pick (ltb i 4096) (stored b i c) b
-
--- the room with the first n calls of the list put one after the other
-unfoldable pub packTo : List ℕ → List Call → ℕ → List ℕ
-packTo b cs zero = b
-packTo b cs (suc n) = putAt (packTo b cs n) n (getD cs n none)
-
--- how many calls of a list of n are put: none of a list that is too long
-unfoldable pub packable : ℕ → ℕ
-packable n = cond (ltb 4096 n) 0 n
 
 -- how a run of n calls that stand in a room of bytes ends: as the run of any list of 4n bytes that the room begins with, and if there are more calls
 -- than the room holds, as the run of any list of 4n bytes at all

@@ -11,7 +11,7 @@
 //   r ..                     the same as a list of records
 ghost use Prim.Native.Nat.{_≤_};
 use cases::word;
-use records::Call;
+use packing::Call;
 use run::Ran;
 
 // The run of the first n calls of an array, as a list of records.

@@ -1,6 +1,6 @@
 -- What a call from C or Rust says of each answer of the library but those to questions about sets: a refusal as `told`, anything else as `given`.
 use Rattle.image.specs.declared.Reading.{Reading}
-use Rattle.image.specs.declared.Writing.{Writing}
+use Rattle.image_write.specs.declared.Writing.{Writing}
 use Rattle.refusals.specs.declared.Check.{Check}
 use Rattle.run.specs.declared.Ran.{Ran}
 use Rattle.telling.specs.Telling.{Said, told, given}

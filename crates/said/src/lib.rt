@@ -2,7 +2,7 @@
 ghost use mathlib.Core.Path.{_≡_};
 ghost use Rattle.said.specs.Said.{ofCheck, ofReading, ofWriting, ofStepped, ofRan};
 use image::Reading;
-use image::Writing;
+use image_write::Writing;
 use refusals::Check;
 use run::Ran;
 use voting::Stepped;

@@ -34,12 +34,12 @@ fn judge(table: &[u64], sites: u64, faulty: u64, room: &mut [u8]) -> usize
     requires { ⌜ sites ≤ 64 ⌝ }
     ensures { λ r. ⌜ Writes (judgedText faulty (now (table .entry))) (now (room .entry)) 0 r (now (room .exit)) ⌝ }
 {
-    let standing = questions::intact(table, faulty);
+    let standing = verdict_questions::intact(table, faulty);
     match standing {
         Standing::Refused(r) => refusal_lines::put_refused(room, 0, r),
         Standing::Intact(intact) => {
             let others = masks::minus(masks::all_below(sites), faulty);
-            let shared = questions::shared(table);
+            let shared = verdict_questions::shared(table);
             let greatest = questions::largest(table, others);
             match greatest {
                 Greatest::Refused(r) => refusal_lines::put_refused(room, 0, r),

@@ -3,7 +3,7 @@ use borrow.Author.Needs.{needs}
 use mathlib.Core.Path.{ap, _∙_}
 use denote.Ref.{now}
 use Rattle.said.specs.Said.{ofWriting}
-use Rattle.image.specs.Write.{writeInto}
+use Rattle.image_write.specs.Write.{writeInto}
 use Rattle.telling.proofs.Laws.{said}
 use Rattle.capi.proofs.siren_image_write.Statement.{statement}
 use Rattle.capi.proofs.siren_image_write.Tie as tie

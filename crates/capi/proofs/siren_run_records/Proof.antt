@@ -39,14 +39,14 @@ use denote.Triple.Clauses.{ensured, lasts}
 use denote.Exit.{yes}
 use Rattle.capi.specs.Run.{runSays, runState, runAnswers}
 use Rattle.said.specs.Said.{ofRan}
-use Rattle.records.specs.Pack.{bytesOf}
-use Rattle.records.specs.declared.Call.{Call}
+use Rattle.packing.specs.Pack.{bytesOf}
+use Rattle.packing.specs.declared.Call.{Call}
 use Rattle.run.specs.Run.{ran, stateInto, answersInto}
 use Rattle.run.specs.declared.Ran.{Ran}
 use Rattle.run.proofs.Ran as R
 use Rattle.run.proofs.Ran.Laws as R′
-use Rattle.records.proofs.Facts.{shown, and-shown, beside}
-use Rattle.records.proofs.Call as T
+use Rattle.packing.proofs.Facts.{shown, and-shown, beside}
+use Rattle.packing.proofs.Call as T
 use Rattle.records.proofs.run_records as run-records
 use Rattle.records.proofs.run_records.Symbol as run-records-def
 use Rattle.records.proofs.run_records.Symbol.{name as #records·run-records}

@@ -44,21 +44,22 @@ use denote.Triple.Walked.{Stays, stay-dropped, gave-slice, walkOf, goes-dropped,
 use denote.Triple.Clauses.{ensured, lasts}
 use denote.Exit.{yes}
 use borrow.Table.OneValue.{part-in-at, part-out-at}
-use Rattle.records.specs.Inner.{packTo, packable, Ended}
-use Rattle.records.specs.Pack.{bytesOf}
+use Rattle.packing.specs.Inner.{packTo, packable}
+use Rattle.records.specs.Inner.{Ended}
+use Rattle.packing.specs.Pack.{bytesOf}
 use Rattle.run.specs.Run.{ran, stateInto, answersInto}
 use Rattle.run.specs.declared.Ran.{Ran}
 use Rattle.run.proofs.Ran as R
 use Rattle.run.proofs.Ran.Laws as R′
-use Rattle.records.specs.declared.Call.{Call}
-use Rattle.records.proofs.Facts.{shown, and-shown, beside}
-use Rattle.records.proofs.Packing.{bytesOf-length, packed, packable-all}
-use Rattle.records.proofs.Room.{Bytes, bytes, left-at}
-use Rattle.records.proofs.Call as T
-use Rattle.records.proofs.pack as pack
-use Rattle.records.proofs.pack.Symbol as pack-def
-use Rattle.records.proofs.pack.Symbol.{name as #records·pack}
-use Rattle.records.proofs.pack.Met as pack-thm
+use Rattle.packing.specs.declared.Call.{Call}
+use Rattle.packing.proofs.Facts.{shown, and-shown, beside}
+use Rattle.packing.proofs.Packing.{bytesOf-length, packed, packable-all}
+use Rattle.packing.proofs.Room.{Bytes, bytes, left-at}
+use Rattle.packing.proofs.Call as T
+use Rattle.packing.proofs.pack as pack
+use Rattle.packing.proofs.pack.Symbol as pack-def
+use Rattle.packing.proofs.pack.Symbol.{name as #packing·pack}
+use Rattle.packing.proofs.pack.Met as pack-thm
 use Rattle.records.proofs.run_packed as run-packed
 use Rattle.records.proofs.run_packed.Symbol as run-packed-def
 use Rattle.records.proofs.run_packed.Symbol.{name as #records·run-packed}
@@ -222,7 +223,7 @@ module _ {M : Type 1} (𝓤 : URA M) (H : Heap 𝓤) (A : Atoms 𝓤) (W : Given
       -- [the result; the last answers; true; the last state]
       move ! (1 ∷ 2 ∷ []) $ fjoin ! $ move ! (2 ∷ 0 ∷ []) $ fjoin ! $ nothing ! $ fjoin ! $ nothing ! $ fjoin ! $ nothing ! $ fjoin ! $ frame ! $ done !
 
-  module _ (C : Calls 𝓤 H) (Λ : Loops 𝓤 H) (fm : FmC 𝓤 H (W .laws) C) (known-pack : Triple 𝓤 (C #records·pack) (Pack 𝓤 H A mem run)) (known-run : Triple 𝓤 (C #records·run-packed) (Run 𝓤 H A mem run)) where
+  module _ (C : Calls 𝓤 H) (Λ : Loops 𝓤 H) (fm : FmC 𝓤 H (W .laws) C) (known-pack : Triple 𝓤 (C #packing·pack) (Pack 𝓤 H A mem run)) (known-run : Triple 𝓤 (C #records·run-packed) (Run 𝓤 H A mem run)) where
     walk : ent 𝓤 (onEntry 𝓤 H A run-records.signature (κ₀, (κ₁, (κ₂, (κ₃, tt)))) (q₀, (q₁, (q₂, (q₃, tt)))) x at) (WpFn 𝓤 H C Λ code.function (vt ∷ vF ∷ vc ∷ vs ∷ va ∷ []) Post)
     walk =
         qed W (Toks ∷ ‵ (owns (ShrSlice (named 0) κ₀ u64 ∷ u64 ∷ ShrSlice (named 1) κ₁ T.the-row ∷ MutSlice (named 2) κ₂ u64 ∷ MutSlice (named 3) κ₃ u8 ∷ []) x at) ∷ []) ∵
@@ -297,7 +298,7 @@ module _ {M : Type 1} (𝓤 : URA M) (H : Heap 𝓤) (A : Atoms 𝓤) (W : Given
         by ! (exits r w (zs .1 .1 .1 .1 .0) (zs .1 .1 .1 .1 .1 .0) (answer-is (now c) ended) (states-are (now c) ended) (bytes-are (now c) ended) ls la)))))))))))))))))))))))))))))))
 
 module _ {M : Type 1} (𝓤 : URA M) (H : Heap 𝓤) (A : Atoms 𝓤) (W : Given 𝓤 H A) (mem : Memory → SProp 𝓤) (run : Routine → Fun 𝓤) (𝓣 : Tables 𝓤 H)
-    (known-pack : Triple 𝓤 (𝓣 .C #records·pack) (Pack 𝓤 H A mem run)) (known-run : Triple 𝓤 (𝓣 .C #records·run-packed) (Run 𝓤 H A mem run)) where
+    (known-pack : Triple 𝓤 (𝓣 .C #packing·pack) (Pack 𝓤 H A mem run)) (known-run : Triple 𝓤 (𝓣 .C #records·run-packed) (Run 𝓤 H A mem run)) where
   run-records-walks : Walks 𝓤 H A run-records.ended stayed (WpFn 𝓤 H (𝓣 .C) (𝓣 .Λ) code.function) (run-records.clauses 𝓤 H A mem run)
   run-records-walks = walked 𝓤 H A run-records.ended stayed (run-records.clauses 𝓤 H A mem run) (WpFn 𝓤 H (𝓣 .C) (𝓣 .Λ) code.function)
       (λ κs. (slice-vals, (uint-vals w64, (slice-vals, (slice-vals, (slice-vals, tt))))))
@@ -325,5 +326,5 @@ run-records-spec 𝓤 H 𝓜 𝓖 𝓡 =
     entered 𝓤 H (tripleOf 𝓤 H (𝓖 .A) run-records.signature (run-records.spec 𝓤 H (𝓖 .A) (𝓜 .mem) (𝓡 .run)))
     (tables 𝓤 H 𝓜 𝓡 code.env .C) (tables 𝓤 H 𝓜 𝓡 code.env .Λ) #records·run-records code.function (code.unfolded 𝓤 H 𝓜 𝓡)
     (run-records-meets 𝓤 H (𝓖 .A) (givenOf 𝓤 H 𝓜 𝓖) (𝓜 .mem) (𝓡 .run) (tablesOf 𝓤 H 𝓜 (tables 𝓤 H 𝓜 𝓡 code.env))
-    (cited 𝓤 H (Pack 𝓤 H (𝓖 .A) (𝓜 .mem) (𝓡 .run)) 𝓜 𝓡 code.env #records·pack pack-def.routine code.calls-records·pack (pack-thm.met 𝓤 H 𝓜 𝓖 𝓡))
+    (cited 𝓤 H (Pack 𝓤 H (𝓖 .A) (𝓜 .mem) (𝓡 .run)) 𝓜 𝓡 code.env #packing·pack pack-def.routine code.calls-packing·pack (pack-thm.met 𝓤 H 𝓜 𝓖 𝓡))
     (cited 𝓤 H (Run 𝓤 H (𝓖 .A) (𝓜 .mem) (𝓡 .run)) 𝓜 𝓡 code.env #records·run-packed run-packed-def.routine code.calls-records·run-packed (run-packed-thm.met 𝓤 H 𝓜 𝓖 𝓡)))

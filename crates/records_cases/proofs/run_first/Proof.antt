@@ -51,10 +51,10 @@ use denote.Exit.{yes}
 use borrow.Table.Elements.{at, cut-app, join-app}
 use borrow.Table.OneValue.{part-in-at, part-out-at}
 use borrow.Rule.Slice.Shared.{Sh, parts-cells}
-use Rattle.records.specs.Pack.{bytesOf}
-use Rattle.records.specs.declared.Call.{Call}
-use Rattle.records.proofs.Call as T
-use Rattle.records.proofs.Call.Laws as T′
+use Rattle.packing.specs.Pack.{bytesOf}
+use Rattle.packing.specs.declared.Call.{Call}
+use Rattle.packing.proofs.Call as T
+use Rattle.packing.proofs.Call.Laws as T′
 use Rattle.records.proofs.run_records as run-records
 use Rattle.records.proofs.run_records.Symbol as run-records-def
 use Rattle.records.proofs.run_records.Symbol.{name as #records·run-records}

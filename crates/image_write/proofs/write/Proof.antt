@@ -3,11 +3,11 @@ use mathlib.Core.Path.{refl, sym, _∙_}
 use lib.ListN.{length}
 use borrow.Author.Needs.{needs}
 use denote.Ref.{now}
-use Rattle.image.specs.Write.{writeInto}
-use Rattle.image.proofs.WriteLaws.{write-length, write-room, write-sites}
-use Rattle.image.proofs.write.Statement.{statement}
+use Rattle.image_write.specs.Write.{writeInto}
+use Rattle.image_write.proofs.WriteLaws.{write-length, write-room, write-sites}
+use Rattle.image_write.proofs.write.Statement.{statement}
 use Rattle.table.proofs.Table.{odd-length, no-sites, too-many-sites, well-shaped}
-use Rattle.image.proofs.write.Tie as tie
+use Rattle.image_write.proofs.write.Tie as tie
 
 returns : tie.Need-returns
 unfolding writeInto

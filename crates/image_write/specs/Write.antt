@@ -4,8 +4,8 @@ use mathlib.Core.List.{List, _++_}
 use lib.Dec.{ltb}
 use lib.ListN.{length, drop}
 use Rattle.image_blocks.specs.Image.{stores}
-use Rattle.image.specs.declared.Writing.{Writing}
-use Rattle.image.specs.declared.Writing.the-variants.{Sites}
+use Rattle.image_write.specs.declared.Writing.{Writing}
+use Rattle.image_write.specs.declared.Writing.the-variants.{Sites}
 use Rattle.refusals.specs.First.{orElse, refuse}
 use Rattle.refusals.specs.declared.Check.{Check}
 use Rattle.refusals.specs.declared.Check.the-variants.{Sound}

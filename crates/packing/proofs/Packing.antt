@@ -9,9 +9,9 @@ use lib.Dec.{ltb}
 use lib.ListN.{length, getD, set, take, length-set}
 use lib.Seq.{take-suc-set, take-suc, take-length}
 use borrow.Author.Tests.{lt-ltb, le-ltb}
-use Rattle.records.specs.Inner.{none, stored, putAt, packTo, packable}
-use Rattle.records.specs.Pack.{bytesOf}
-use Rattle.records.specs.declared.Call.{Call}
+use Rattle.packing.specs.Inner.{none, stored, putAt, packTo, packable}
+use Rattle.packing.specs.Pack.{bytesOf}
+use Rattle.packing.specs.declared.Call.{Call}
 
 pub packTo-zero : (b : List ℕ) (cs : List Call) → packTo b cs 0 ≡ b
 unfolding packTo

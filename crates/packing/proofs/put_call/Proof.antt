@@ -1,9 +1,9 @@
 -- `put_call` meets its contract: four stores at 4 * i, or nothing past the room.
 use borrow.Author.Needs.{needs}
 use borrow.Author.Tests.{lt-ltb, le-ltb}
-use Rattle.records.specs.Inner.{putAt}
-use Rattle.records.proofs.put_call.Statement.{statement}
-use Rattle.records.proofs.put_call.Tie as tie
+use Rattle.packing.specs.Inner.{putAt}
+use Rattle.packing.proofs.put_call.Statement.{statement}
+use Rattle.packing.proofs.put_call.Tie as tie
 
 returns : tie.Need-returns
 unfolding putAt

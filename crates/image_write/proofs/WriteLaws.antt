@@ -7,9 +7,9 @@ use native.Mathlib.Omega.{arith}
 use lib.Dec.{ltb}
 use lib.ListN.{length}
 use borrow.Author.Tests.{lt-ltb, le-ltb}
-use Rattle.image.specs.Write.{writeCheck, toWriting, write}
-use Rattle.image.specs.declared.Writing.{Writing}
-use Rattle.image.specs.declared.Writing.the-variants.{Sites}
+use Rattle.image_write.specs.Write.{writeCheck, toWriting, write}
+use Rattle.image_write.specs.declared.Writing.{Writing}
+use Rattle.image_write.specs.declared.Writing.the-variants.{Sites}
 use Rattle.refusals.proofs.First.{missed}
 use Rattle.refusals.specs.declared.Check.{Check}
 use Rattle.refusals.specs.declared.Check.the-variants.{Sound}

@@ -51,25 +51,25 @@ use denote.Triple.Walked.{says, Stays, stay-dropped, stay-ref, walkOf, goes-drop
 use denote.Triple.Clauses.{ensured, lasts}
 use denote.Exit.{yes}
 use borrow.Author.Tests.{ltb-true, ltb-false, lt-ltb, le-ltb}
-use Rattle.records.specs.Inner.{none, putAt, packTo, packable}
-use Rattle.records.specs.declared.Call.{Call}
-use Rattle.records.proofs.Packing.{packTo-zero, packTo-suc, packable-le}
-use Rattle.records.proofs.Room.{Bytes, bytes, left-at}
-use Rattle.records.proofs.Call as T
-use Rattle.records.proofs.Call.Laws as T′
-use Rattle.records.proofs.put_call as put-call
-use Rattle.records.proofs.put_call.Symbol as put-call-def
-use Rattle.records.proofs.put_call.Symbol.{name as #records·put-call}
-use Rattle.records.proofs.put_call.Met as put-call-thm
-use Rattle.records.proofs.packable as packable-fn
-use Rattle.records.proofs.packable.Symbol as packable-def
-use Rattle.records.proofs.packable.Symbol.{name as #records·packable}
-use Rattle.records.proofs.packable.Met as packable-thm
-use Rattle.records.proofs.pack.Key.{name as #records·pack}
-use Rattle.records.proofs.pack as pack
-use Rattle.records.proofs.pack.Statement as stated
-use Rattle.records.proofs.pack.Code as code
-use Rattle.records.proofs.pack.Code.Mir as mir
+use Rattle.packing.specs.Inner.{none, putAt, packTo, packable}
+use Rattle.packing.specs.declared.Call.{Call}
+use Rattle.packing.proofs.Packing.{packTo-zero, packTo-suc, packable-le}
+use Rattle.packing.proofs.Room.{Bytes, bytes, left-at}
+use Rattle.packing.proofs.Call as T
+use Rattle.packing.proofs.Call.Laws as T′
+use Rattle.packing.proofs.put_call as put-call
+use Rattle.packing.proofs.put_call.Symbol as put-call-def
+use Rattle.packing.proofs.put_call.Symbol.{name as #packing·put-call}
+use Rattle.packing.proofs.put_call.Met as put-call-thm
+use Rattle.packing.proofs.packable as packable-fn
+use Rattle.packing.proofs.packable.Symbol as packable-def
+use Rattle.packing.proofs.packable.Symbol.{name as #packing·packable}
+use Rattle.packing.proofs.packable.Met as packable-thm
+use Rattle.packing.proofs.pack.Key.{name as #packing·pack}
+use Rattle.packing.proofs.pack as pack
+use Rattle.packing.proofs.pack.Statement as stated
+use Rattle.packing.proofs.pack.Code as code
+use Rattle.packing.proofs.pack.Code.Mir as mir
 
 abbrev stayed : Stays (pack.ended .signature .params) (pack.ended .kept)
 stayed = (stay-dropped (shrSliceOf (0 ∷ []) tt (plain (λ _. T.the-row))) yes, (stay-ref (1 ∷ []) tt (arrayOf (plain (λ _. u8)) 16384), tt))
@@ -171,7 +171,7 @@ module _ {M : Type 1} (𝓤 : URA M) (H : Heap 𝓤) (A : Atoms 𝓤) (W : Given
   gives : (α : ℕ) (β : GName) (i : ℕ) (w : Val) → ent 𝓤 (PutCall 𝓤 H A mem run .post (to-put α β i) w) (H .⇛ (guard 𝓤 (w ≡ vunit) (sep 𝓤 (mean 𝓤 H A (Toks-put α)) (A .res β (Bytes .coded .code (putAt (pk i) i (call i)))))))
   gives α β i = left-at 𝓤 H A W (Toks-put α) (Lasts-put α β i) (λ z. z .0) β (λ z. qed W (‵ (Lasts-put α β i z) ∷ []) ∵ fsplit ! $ keep ! (0 ∷ []) $ done !) (putAt (pk i) i (call i))
 
-  module _ (𝓣 : Tables 𝓤 H) (known-put : Triple 𝓤 (𝓣 .C #records·put-call) (PutCall 𝓤 H A mem run)) (l₀ l₁ l₂ l₃ l₄ l₅ l₆ l₇ l₈ l₉ l₁₀ l₁₁ : ℕ) where
+  module _ (𝓣 : Tables 𝓤 H) (known-put : Triple 𝓤 (𝓣 .C #packing·put-call) (PutCall 𝓤 H A mem run)) (l₀ l₁ l₂ l₃ l₄ l₅ l₆ l₇ l₈ l₉ l₁₀ l₁₁ : ℕ) where
     abbrev C : Calls 𝓤 H
     C = 𝓣 .C
 
@@ -281,8 +281,8 @@ module _ {M : Type 1} (𝓤 : URA M) (H : Heap 𝓤) (A : Atoms 𝓤) (W : Given
     looping : Sq W (At 0) (runs C Λ En (loop mir.turn-1) (anyQ Left))
     looping = subst (λ (j : ℕ). Sq W (At j) (runs C Λ En (loop mir.turn-1) (anyQ Left))) (omega arith) (loops ! 𝓣 _<_ (Nat·lt-wfRel .wf) I (λ t. turn-by t (ltb (m - t) m) refl) m)
 
-  module _ (𝓣 : Tables 𝓤 H) (known-packable : Triple 𝓤 (𝓣 .C #records·packable) (Packable 𝓤 H A mem run))
-      (known-put : Triple 𝓤 (𝓣 .C #records·put-call) (PutCall 𝓤 H A mem run)) where
+  module _ (𝓣 : Tables 𝓤 H) (known-packable : Triple 𝓤 (𝓣 .C #packing·packable) (Packable 𝓤 H A mem run))
+      (known-put : Triple 𝓤 (𝓣 .C #packing·put-call) (PutCall 𝓤 H A mem run)) where
     -- the number that the call answers, as its machine value
     is-number : (k : ℕ) (u : Val) → k ≡ m → Is usize k (u ∷ []) → u ≡ vint w64 m
     is-number k u e is = let h = is .0 in cc
@@ -309,8 +309,8 @@ module _ {M : Type 1} (𝓤 : URA M) (H : Heap 𝓤) (A : Atoms 𝓤) (W : Given
         -- [res; the borrow; the slice's fact; the room's token; the slice's; the room; _11 at 6; …]
         move ! (1 ∷ 4 ∷ 0 ∷ 2 ∷ 5 ∷ 3 ∷ []) $ first ! $ blocks ! $ looping 𝓣 known-put l₀ l₁ l₂ l₃ l₄ l₅ l₆ l₇ l₈ l₉ l₁₀ l₁₁)))))))))))))))))
 
-module _ {M : Type 1} (𝓤 : URA M) (H : Heap 𝓤) (A : Atoms 𝓤) (W : Given 𝓤 H A) (mem : Memory → SProp 𝓤) (run : Routine → Fun 𝓤) (𝓣 : Tables 𝓤 H) (known-packable : Triple 𝓤 (𝓣 .C #records·packable) (Packable 𝓤 H A mem run))
-    (known-put : Triple 𝓤 (𝓣 .C #records·put-call) (PutCall 𝓤 H A mem run)) where
+module _ {M : Type 1} (𝓤 : URA M) (H : Heap 𝓤) (A : Atoms 𝓤) (W : Given 𝓤 H A) (mem : Memory → SProp 𝓤) (run : Routine → Fun 𝓤) (𝓣 : Tables 𝓤 H) (known-packable : Triple 𝓤 (𝓣 .C #packing·packable) (Packable 𝓤 H A mem run))
+    (known-put : Triple 𝓤 (𝓣 .C #packing·put-call) (PutCall 𝓤 H A mem run)) where
   pack-walks : Walks 𝓤 H A pack.ended stayed (WpFn 𝓤 H (𝓣 .C) (𝓣 .Λ) code.function) (pack.clauses 𝓤 H A mem run)
   pack-walks = walked 𝓤 H A pack.ended stayed (pack.clauses 𝓤 H A mem run) (WpFn 𝓤 H (𝓣 .C) (𝓣 .Λ) code.function)
       (λ κs. (slice-vals, (ptr-vals, tt))) (λ κs. (shr-slice-tells (named 0) (κs .0) T.the-row, (mut-tells (named 1) (κs .1 .0) Bytes, tt)))
@@ -325,7 +325,7 @@ pub pack-spec : {M : Type 1} → stated.statement M
 unfolding code.routine tablesOf
 pack-spec 𝓤 H 𝓜 𝓖 𝓡 =
     entered 𝓤 H (tripleOf 𝓤 H (𝓖 .A) pack.signature (pack.spec 𝓤 H (𝓖 .A) (𝓜 .mem) (𝓡 .run)))
-    (tables 𝓤 H 𝓜 𝓡 code.env .C) (tables 𝓤 H 𝓜 𝓡 code.env .Λ) #records·pack code.function (code.unfolded 𝓤 H 𝓜 𝓡)
+    (tables 𝓤 H 𝓜 𝓡 code.env .C) (tables 𝓤 H 𝓜 𝓡 code.env .Λ) #packing·pack code.function (code.unfolded 𝓤 H 𝓜 𝓡)
     (pack-meets 𝓤 H (𝓖 .A) (givenOf 𝓤 H 𝓜 𝓖) (𝓜 .mem) (𝓡 .run) (tablesOf 𝓤 H 𝓜 (tables 𝓤 H 𝓜 𝓡 code.env))
-    (cited 𝓤 H (Packable 𝓤 H (𝓖 .A) (𝓜 .mem) (𝓡 .run)) 𝓜 𝓡 code.env #records·packable packable-def.routine code.calls-records·packable (packable-thm.met 𝓤 H 𝓜 𝓖 𝓡))
-    (cited 𝓤 H (PutCall 𝓤 H (𝓖 .A) (𝓜 .mem) (𝓡 .run)) 𝓜 𝓡 code.env #records·put-call put-call-def.routine code.calls-records·put-call (put-call-thm.met 𝓤 H 𝓜 𝓖 𝓡)))
+    (cited 𝓤 H (Packable 𝓤 H (𝓖 .A) (𝓜 .mem) (𝓡 .run)) 𝓜 𝓡 code.env #packing·packable packable-def.routine code.calls-packing·packable (packable-thm.met 𝓤 H 𝓜 𝓖 𝓡))
+    (cited 𝓤 H (PutCall 𝓤 H (𝓖 .A) (𝓜 .mem) (𝓡 .run)) 𝓜 𝓡 code.env #packing·put-call put-call-def.routine code.calls-packing·put-call (put-call-thm.met 𝓤 H 𝓜 𝓖 𝓡)))

@@ -2,9 +2,9 @@
 use mathlib.Core.Path.{sym, _∙_}
 use borrow.Author.Needs.{needs}
 use denote.Ref.{now}
 use Rattle.questions.proofs.Answers.{intact-refused, intact-large, intact-is}
-use Rattle.questions.proofs.intact.Statement.{statement}
-use Rattle.questions.proofs.intact.Tie as tie
+use Rattle.verdict_questions.proofs.intact.Statement.{statement}
+use Rattle.verdict_questions.proofs.intact.Tie as tie
 use Rattle.table.proofs.SetCheck.{set-table}
 
 returns : tie.Need-returns

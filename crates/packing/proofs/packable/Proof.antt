@@ -1,8 +1,8 @@
 -- `packable` meets its contract: none of a list that is too long, or all of it.
 use mathlib.Core.Path.{sym}
-use Rattle.records.proofs.Packing.{packable-none, packable-all}
-use Rattle.records.proofs.packable.Statement.{statement}
-use Rattle.records.proofs.packable.Tie as tie
+use Rattle.packing.proofs.Packing.{packable-none, packable-all}
+use Rattle.packing.proofs.packable.Statement.{statement}
+use Rattle.packing.proofs.packable.Tie as tie
 
 pub packable-spec : {M : Type 1} → statement M
 packable-spec =

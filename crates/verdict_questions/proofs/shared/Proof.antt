@@ -4,9 +4,9 @@ use native.Mathlib.Omega.{arith}
 use borrow.Author.Needs.{needs}
 use denote.Ref.{now}
 use Rattle.table.proofs.Exact.{checked}
 use Rattle.questions.proofs.Answers.{shared-refused, shared-large, shared-meet, shared-apart}
-use Rattle.questions.proofs.shared.Statement.{statement}
-use Rattle.questions.proofs.shared.Tie as tie
+use Rattle.verdict_questions.proofs.shared.Statement.{statement}
+use Rattle.verdict_questions.proofs.shared.Tie as tie
 
 returns : tie.Need-returns
 returns c = shared-refused (now (c .before .before .before .before .before .args .table)) _ (sym (c .before .before .before .check .ensures) ∙ c .before .q .given .1)

@@ -1,0 +1,4 @@
+pub mod Coincide
+pub mod Facts
+pub mod Packing
+pub mod Room
