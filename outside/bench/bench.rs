@@ -316,6 +316,11 @@ fn rows_of_sums(bench: &Bench, name: &str, model: Answer, library: Side, best: S
     bench.row_of_the_same_way(&format!("{name}, adding in order"), Some(model), library, in_order);
 }
 
+/// What was told of the calls so far, and one call more: another order tells something else.
+fn with_call(told: u64, call: u64) -> u64 {
+    told.wrapping_mul(31).wrapping_add(call)
+}
+
 /// The longest journal: 4,096 calls in 33 blocks. The C call for the next call checks the journal whole each time, and
 /// so does the Rust beside it.
 fn journals(bench: &Bench) {
@@ -370,6 +375,34 @@ fn journals(bench: &Bench) {
         let mut best = || fast::journal_next(black_box(journal), black_box(place));
         let mut in_order = || fast::journal_next_in_order(black_box(journal), black_box(place));
         rows_of_sums(bench, name, model::journal_next(journal, place), &mut library, &mut best, &mut in_order);
+    }
+
+    let name = "journal next, 4,096 calls one by one, beside a list and a plain loop";
+    if bench.wants(name) {
+        let told = |calls: &[u8]| {
+            let sum = calls
+                .chunks_exact(4)
+                .fold(0, |sum, call| with_call(sum, u32::from_le_bytes(call.try_into().unwrap()).into()));
+            Answer { number: 0, place: 0, values: [calls.len() as u64 / 4, sum, 0] }
+        };
+        let mut library = || {
+            let (mut place, mut sum) = (0, 0);
+            loop {
+                let next =
+                    answer(|out| unsafe { siren_journal_next(journal.as_ptr(), journal.len(), black_box(place), out) });
+                let [given, call, behind] = next.values;
+                if given == 0 {
+                    return Answer { number: next.number, place: next.place, values: [place, sum, 0] };
+                }
+                (place, sum) = (behind, with_call(sum, call));
+            }
+        };
+        let mut room = vec![0; calls.len()];
+        let mut plain = || {
+            let bytes = fast::journal_list_in_order(black_box(journal), &mut room).values[0] as usize;
+            told(&room[..bytes])
+        };
+        bench.row_of_the_same_way(name, Some(told(calls)), &mut library, &mut plain);
     }
 }
 
