@@ -92,9 +92,10 @@ uint64_t siren_quorum(const uint64_t *table, size_t length, uint64_t set, uint64
  */
 uint64_t siren_largest(const uint64_t *table, size_t length, uint64_t set, uint64_t out[4]);
 
-/* Does the set block the site: does it meet every slice of the site?
+/* Does the set block the site: do its members, the site itself not counted, meet every slice of the site? Then their accepts alone make the site accept. A
+ * site with a slice of itself alone is blocked by nobody.
  * Values: out[1] is 1 if it does, 0 if not.
- * Refusals: those of a table; then 10, the set names a site at or above n; then 11, the site is at or above n.
+ * Refusals: those of a table; then 10, the set names a site at or above n; then 11, the site is at or above n. Both are asked of the set as it is handed over.
  */
 uint64_t siren_blocks(const uint64_t *table, size_t length, uint64_t set, uint64_t site, uint64_t out[4]);
 

@@ -304,8 +304,8 @@ fn belongs(rows: &[[u64; ROW]], w: u64, site: usize) -> bool {
 }
 
 #[inline]
-fn is_blocked(row: &[u64; ROW], set: u64) -> bool {
-    slices(row).iter().all(|slice| slice & set != 0)
+fn is_blocked(row: &[u64; ROW], others: u64) -> bool {
+    slices(row).iter().all(|slice| slice & others != 0)
 }
 
 #[inline(always)]
@@ -354,7 +354,7 @@ pub fn blocks(table: &[u64], set: u64, site: u64) -> Answer {
         if site >= rows.len() as u64 {
             return Err((11, 0));
         }
-        Ok([u64::from(is_blocked(&rows[site as usize], set)), 0, 0])
+        Ok([u64::from(is_blocked(&rows[site as usize], set & !(1 << site))), 0, 0])
     })())
 }
 

@@ -154,6 +154,8 @@ static void questions(void)
     says("8 blocks 4", siren_blocks(a, TABLE, 8, 4, fresh()), 0, 0, 1, 0, 0);
     says("4 blocks 4", siren_blocks(a, TABLE, 4, 4, fresh()), 0, 0, 0, 0, 0);
     says("blocks, site 5", siren_blocks(a, TABLE, 8, 5, fresh()), 11, 0, 0, 0, 0);
+    says("0 does not block itself", siren_blocks(a, TABLE, 1, 0, fresh()), 0, 0, 0, 0, 0);
+    says("0 and 1 block 0", siren_blocks(a, TABLE, 3, 0, fresh()), 0, 0, 1, 0, 0);
     says("blocks, set 32 and site 5", siren_blocks(a, TABLE, 32, 5, fresh()), 10, 0, 0, 0, 0);
 }
 

@@ -323,9 +323,11 @@ pub fn largest_inside(table: &Table, w: u64) -> (u64, u64) {
     }
 }
 
-/// "A set blocks site v if it meets every slice of v. The empty set blocks nobody."
+/// "A set blocks site v if it meets every slice of v. The empty set blocks nobody." And W-201: "the owner's bit is taken
+/// out of the set before it is compared."
 pub fn blocks_site(table: &Table, set: u64, site: usize) -> bool {
-    table.slices[site].iter().all(|slice| slice & set != 0)
+    let others = set & !only(site);
+    table.slices[site].iter().all(|slice| slice & others != 0)
 }
 
 /// "the table meets if every two quorums have a common site. If not, the answer is the quorum P with the smallest mask

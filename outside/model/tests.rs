@@ -87,6 +87,14 @@ fn blocking_in_b() {
     assert_eq!(blocks(&memory(&B), 6, 0).values, [1, 0, 0]);
     assert_eq!(blocks(&memory(&B), 2, 0).values, [0, 0, 0]);
     assert_eq!(blocks(&memory(&B), 0, 0).values, [0, 0, 0]);
+    // The site itself does not count.
+    assert_eq!(blocks(&memory(&B), 1, 0).values, [0, 0, 0]);
+    assert_eq!(blocks(&memory(&B), 3, 0).values, [0, 0, 0]);
+    assert_eq!(blocks(&memory(&B), 7, 0).values, [1, 0, 0]);
+    // With a slice of itself alone it is blocked by nobody.
+    assert_eq!(blocks(&memory(&[&[1]]), 1, 0).values, [0, 0, 0]);
+    // The set is asked as it was handed over.
+    assert_eq!(refusal_of(blocks(&memory(&B), 16, 4)), (10, 0));
 }
 
 #[test]

@@ -22,6 +22,10 @@ within q u = eqb (bitAnd q u) q
 unfoldable pub minus : ℕ → ℕ → ℕ
 minus a b = bitXor a (bitAnd a b)
 
+-- the members of a but for site v
+abbrev pub others : ℕ → ℕ → ℕ
+others a v = minus a (single v)
+
 -- all sites below n
 abbrev pub allBelow : ℕ → ℕ
 allBelow n = 2 ^ n - 1

@@ -3,15 +3,15 @@ use Prim.Native.Nat.{ℕ}
 use mathlib.Core.Bool.{Bool, true, _||_}
 use mathlib.Core.List.{List}
 use mathlib.Core.Logic.{inl, inr, ⊎-elim, _↔_}
-use mathlib.Core.Path.{_≡_, refl, sym, ap, _∙_}
+use mathlib.Core.Path.{_≡_, refl, sym, ap, _∙_, subst}
 use lib.Bits.{bitOr}
 use Rattle.ground.proofs.Logic.{cases, or-i, or-e}
 use Rattle.masks.proofs.Laws.Apart.{apart-⊆}
 use Rattle.masks.proofs.Laws.Single.{∈-or}
-use Rattle.masks.proofs.Laws.Subsets.{mem, ⊆-refl, or-⊆-l, or-⊆-r}
-use Rattle.masks.specs.Mask.{_∈_}
+use Rattle.masks.proofs.Laws.Subsets.{mem, ⊆-refl, or-⊆-l, or-⊆-r, minus-again}
+use Rattle.masks.specs.Mask.{single, others, _∈_}
 use Rattle.rules.proofs.WorkWays.{table-rests}
-use Rattle.rules.specs.Rules.{others, accepting, confirming}
+use Rattle.rules.specs.Rules.{accepting, confirming}
 use Rattle.rules.specs.Sound.{Sound as SoundState}
 use Rattle.rules.specs.State.{votes, accepts, get}
 use Rattle.rules.specs.Theorems.{Rests}
@@ -27,11 +27,16 @@ module _ {S : ℕ → Fbqs} {Q : Questions} (P : Promises S Q) (v : ℕ) where
     λ x. P .of-quorum v w (x .0) (x .1) (x .3) (x .2),
   )
 
-  blocks : (w : ℕ) → (Q .blocked v w ≡ true) ↔ Blocking (S v) v w
+  blocks : (w : ℕ) → (Q .blocked v w ≡ true) ↔ Blocking (S v) v (others w v)
   blocks w = (
     λ e q x z. P .blocked-meets v w q q e x (⊆-refl q) z,
     λ f. ⊎-elim (λ e. e) (λ e. let x = P .unblocked-rest v w e in absurd (f (x .0) (x .1) (x .2))) (cases (Q .blocked v w)),
   )
+
+  -- of a set of others nobody is left out
+  others-block : (b : ℕ) → (Q .blocked v (others b v) ≡ true) ↔ Blocking (S v) v (others b v)
+  others-block b =
+      subst (λ (w : ℕ). (Q .blocked v (others b v) ≡ true) ↔ Blocking (S v) v w) (minus-again b (single v)) (blocks (others b v))
 
 pub accepts-as-published : AcceptsAsPublished
 unfolding accepting
@@ -40,12 +45,12 @@ accepts-as-published S Q n R v a b =
     let o = others b v in (
       λ e. ⊎-elim
           (λ k. let x = confirms P v (bitOr a o) .0 k in inl (x .0, x .1, x .2, λ u h. ∈-or a o (x .3 .each u h)))
-          (λ k. inr (o, blocks P v o .0 k, ⊆-refl o))
+          (λ k. inr (o, others-block P v b .0 k, ⊆-refl o))
           (or-e (Q .inQuorum v (bitOr a o)) (Q .blocked v o) e),
       λ x. ⊎-elim
           (λ y. ap (λ (z : Bool). z || Q .blocked v o) (confirms P v (bitOr a o) .1
           (y .0, y .1, y .2, record { each = λ u h. ⊎-elim (λ k. or-⊆-l a o .each u k) (λ k. or-⊆-r a o .each u k) (y .3 u h) })))
-          (λ y. or-i (Q .inQuorum v (bitOr a o)) (Q .blocked v o) (blocks P v o .1 (λ q s z. y .1 q s (apart-⊆ (⊆-refl q) (y .2) z))))
+          (λ y. or-i (Q .inQuorum v (bitOr a o)) (Q .blocked v o) (others-block P v b .1 (λ q s z. y .1 q s (apart-⊆ (⊆-refl q) (y .2) z))))
           x,
     )
 

@@ -64,11 +64,13 @@ unfolding quorum setCheck check tableMisshapen sitesCheck siteCheck rowCheck sli
 no-quorum = refl
 
 blocked : blocks tableB 6 0 ≡ Yes
-unfolding blocks setSiteCheck setCheck check tableMisshapen sitesCheck siteCheck rowCheck sliceCheck strange unordered rowUnfilled some every first has within slicesOf
+unfolding blocks setSiteCheck setCheck check tableMisshapen sitesCheck siteCheck rowCheck sliceCheck strange unordered rowUnfilled some every first has within minus
+    slicesOf
 blocked = refl
 
 unblocked : blocks tableB 2 0 ≡ No
-unfolding blocks setSiteCheck setCheck check tableMisshapen sitesCheck siteCheck rowCheck sliceCheck strange unordered rowUnfilled some every first has within slicesOf
+unfolding blocks setSiteCheck setCheck check tableMisshapen sitesCheck siteCheck rowCheck sliceCheck strange unordered rowUnfilled some every first has within minus
+    slicesOf
 unblocked = refl
 
 a-largest : largest tableA 23 ≡ Set 7 1

@@ -3,7 +3,7 @@ use Prim.Native.Nat.{ℕ, suc, _≤_, _<_}
 use mathlib.Core.List.{List}
 use mathlib.Core.Logic.{_⊎_, _↔_}
 use mathlib.Core.Path.{_≡_}
-use Rattle.masks.specs.Mask.{minus, allBelow, _∈_, _⊆_}
+use Rattle.masks.specs.Mask.{minus, others, allBelow, _∈_, _⊆_}
 use Rattle.questions.specs.Answers.{sitesOf, quorum, largest, blocks, shared, intact}
 use Rattle.questions.specs.declared.Greatest.the-variants.{Set}
 use Rattle.questions.specs.declared.Holds.the-variants.{Yes, No}
@@ -29,12 +29,13 @@ QuorumAsPublished =
     ((quorum t set ≡ Yes) ↔ (Proper t set × Quorum (named t) set))
     × ((quorum t set ≡ No) ↔ (Proper t set × (Quorum (named t) set → ⊥)))
 
--- "B overlaps every one of v's slices, i.e. ∀q ∈ Q(v). q ∩ B ≠ ∅. We say that such B is v-blocking."
+-- "B overlaps every one of v's slices, i.e. ∀q ∈ Q(v). q ∩ B ≠ ∅. We say that such B is v-blocking." So is what is left of the set when "the owner's bit is
+-- taken out".
 abbrev pub BlocksAsPublished : Type 0
 BlocksAsPublished =
     (t : List ℕ) (set site : ℕ) →
-    ((blocks t set site ≡ Yes) ↔ (Proper t set × (site < sitesOf t) × Blocking (named t) site set))
-    × ((blocks t set site ≡ No) ↔ (Proper t set × (site < sitesOf t) × (Blocking (named t) site set → ⊥)))
+    ((blocks t set site ≡ Yes) ↔ (Proper t set × (site < sitesOf t) × Blocking (named t) site (others set site)))
+    × ((blocks t set site ≡ No) ↔ (Proper t set × (site < sitesOf t) × (Blocking (named t) site (others set site) → ⊥)))
 
 -- "each round drops, all together, the members with no slice inside the set as it stood before the round": u is what a round leaves of w
 abbrev pub Round : Fbqs → ℕ → ℕ → Type 0

@@ -5,9 +5,9 @@ use mathlib.Core.List.{List}
 use mathlib.Core.Logic.{_⊎_, _↔_}
 use mathlib.Core.Path.{_≡_}
 use lib.ListN.{length}
-use Rattle.masks.specs.Mask.{_∈_, _⊆_}
+use Rattle.masks.specs.Mask.{others, _∈_, _⊆_}
 use Rattle.refusals.specs.declared.Check.the-variants.{Sound}
-use Rattle.rules.specs.Rules.{others, accepting, confirming}
+use Rattle.rules.specs.Rules.{accepting, confirming}
 use Rattle.rules.specs.State.{votes, accepts, accepted, confirmed, width, get}
 use Rattle.rules.specs.Theorems.{Rests}
 use Rattle.run.specs.Theorems.{Taken, endState}

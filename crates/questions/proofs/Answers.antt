@@ -1,14 +1,17 @@
 -- Laws of the public answers: one for each way out of a question.
 use Prim.Native.Nat.{ℕ, _^_, _≤_, _<_}
-use mathlib.Core.Bool.{true, false}
+use mathlib.Core.Bool.{true, false, not}
 use mathlib.Core.List.{List}
-use mathlib.Core.Path.{_≡_, refl, ap, ap₂, _∙_}
+use mathlib.Core.Path.{_≡_, refl, sym, ap, ap₂, _∙_}
+use lib.Dec.{ltb}
 use borrow.Author.Tests.{eq-eqb, ne-eqb, lt-ltb, le-ltb}
-use Rattle.questions.specs.Answers.{sitesOf, setSiteCheck, quorum, largest, blocks, shared, intact}
+use Rattle.questions.specs.Answers.{sitesOf, setSiteCheck, toHolds, quorum, largest, blocks, shared, intact}
 use Rattle.questions.specs.declared.Greatest.{Greatest}
 use Rattle.questions.specs.declared.Holds.{Holds}
 use Rattle.questions.specs.declared.Sharing.{Sharing}
 use Rattle.questions.specs.declared.Standing.{Standing}
+use Rattle.refusals.specs.First.{orElse, refuse}
+use Rattle.refusals.specs.declared.Check.{Check}
 use Rattle.refusals.specs.declared.Check.the-variants.{Sound, Refused}
 use Rattle.refusals.specs.declared.Refusal.{Refusal}
 use Rattle.refusals.specs.declared.Refusal.the-variants.{Set, Range, Large}
@@ -45,7 +48,8 @@ module _ (t : List ℕ) (set : ℕ) where
   module _ (site : ℕ) where
     pub blocks-refused : (r : Refusal) → setCheck t set ≡ Refused r → Holds.Refused r ≡ blocks t set site
     unfolding blocks setSiteCheck
-    blocks-refused r e = rw e refl
+    blocks-refused r e =
+        ap (λ (q : Check). toHolds (orElse q (refuse (not (ltb site (sitesOf t))) Range)) (slicesOf t .blocked site set)) (sym e)
 
     pub blocks-range : setCheck t set ≡ Sound → sitesOf t ≤ site → Holds.Refused Range ≡ blocks t set site
     unfolding blocks setSiteCheck

@@ -7,10 +7,10 @@ use lib.Bits.{bitOr}
 use Rattle.ground.proofs.Logic.{is-false, clash, or-i, or-e}
 use Rattle.masks.proofs.Laws.Single.{∈-single, single-⊆, ∈-or, or-grows, minus-grows, minus-added}
 use Rattle.masks.proofs.Laws.Subsets.{not-in-zero, ⊆-refl, ⊆-zero, minus-⊆}
-use Rattle.masks.specs.Mask.{single, minus, _∈_, _⊆_}
+use Rattle.masks.specs.Mask.{single, minus, others, _∈_, _⊆_}
 use Rattle.sets.specs.Paper.{Fbqs}
 use Rattle.sets.specs.Promises.{Questions, Promises}
-use Rattle.rules.specs.Rules.{only, others, accepting, confirming}
+use Rattle.rules.specs.Rules.{only, accepting, confirming}
 use Rattle.rules.specs.Theorems.{Rests}
 
 -- the site alone if the test holds

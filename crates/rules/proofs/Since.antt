@@ -12,12 +12,12 @@ use Rattle.ground.proofs.Logic.{is-false, clash}
 use Rattle.ground.proofs.Numbers.{same?}
 use Rattle.masks.proofs.Laws.Single.{not-in, ∈-eq, ∈-or}
 use Rattle.masks.proofs.Laws.Subsets.{mem, or-⊆-l, or-⊆-r, minus-⊆, ∈-minus, minus-not-in}
-use Rattle.masks.specs.Mask.{has, single, minus, _∈_}
+use Rattle.masks.specs.Mask.{has, single, minus, others, _∈_}
 use Rattle.sets.proofs.Without.{without}
 use Rattle.sets.specs.Paper.{Fbqs}
 use Rattle.sets.specs.Promises.{Questions, Promises}
 use Rattle.rules.specs.Inner.{InRange, New, Since}
-use Rattle.rules.specs.Rules.{others, accepting, confirming, hears, nowAccepts}
+use Rattle.rules.specs.Rules.{accepting, confirming, hears, nowAccepts}
 use Rattle.rules.specs.Sound.{Sound}
 use Rattle.rules.specs.State.{votes, accepts, accepted, confirmed, width, get}
 use Rattle.rules.proofs.Heard.{hears-alone, hears-cases, hears-kept, says-votes, says-accepts}

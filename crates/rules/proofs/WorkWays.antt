@@ -6,13 +6,13 @@ use mathlib.Core.Path.{_≡_, refl, sym, ap, ap₂, _∙_, subst}
 use lib.Bits.{bitOr}
 use Rattle.masks.proofs.Laws.AllBelow.{in-all}
 use Rattle.masks.proofs.Laws.Subsets.{mem}
-use Rattle.masks.specs.Mask.{has, single, minus, _∈_}
+use Rattle.masks.specs.Mask.{has, single, minus, others, _∈_}
 use Rattle.refusals.specs.declared.Check.{Check}
 use Rattle.sets.proofs.Promises.{table-promises}
 use Rattle.sets.specs.Promises.{Questions, questions}
 use Rattle.sets.specs.Slices.{fbqsOf}
 use Rattle.table.specs.Table.{Table, sites}
-use Rattle.rules.specs.Rules.{only, others, accepting, confirming, nowAccepts, nowConfirms, hears, taken}
+use Rattle.rules.specs.Rules.{only, accepting, confirming, nowAccepts, nowConfirms, hears, taken}
 use Rattle.rules.specs.State.{votes, accepts, voted, accepted, confirmed, get, add}
 use Rattle.rules.specs.Theorems.{Rests}
 use Rattle.rules.proofs.Heard.{hears-proposal, hears-vote, hears-accept}

@@ -4,7 +4,7 @@ use mathlib.Core.Bool.{Bool, _&&_, _||_, not, cond}
 use mathlib.Core.List.{List}
 use lib.Bits.{bitOr}
 use lib.Dec.{eqb, ltb}
-use Rattle.masks.specs.Mask.{has, single, minus}
+use Rattle.masks.specs.Mask.{has, single, others}
 use Rattle.refusals.specs.First.{orElse, refuse}
 use Rattle.refusals.specs.declared.Check.{Check}
 use Rattle.refusals.specs.declared.Refusal.the-variants.{Range, Receiver, Proposal, Voted, Unsent}
@@ -15,10 +15,6 @@ use Rattle.votes.specs.Call.{Call}
 -- the site alone if the test holds, else nobody
 abbrev pub only : Bool → ℕ → ℕ
 only b v = cond b (single v) 0
-
--- the sites of a but for v
-abbrev pub others : ℕ → ℕ → ℕ
-others a v = minus a (single v)
 
 module _ (Q : Questions) where
   -- "It accepts if it belongs to the largest quorum inside the sites it heard a vote or an accept from, its own accept not counted; or if the

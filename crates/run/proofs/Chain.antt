@@ -14,7 +14,7 @@ use Rattle.ground.specs.Pieces.{cat}
 use Rattle.masks.proofs.Laws.AllBelow.{in-all}
 use Rattle.masks.proofs.Laws.Apart.{apart-not-in}
 use Rattle.masks.proofs.Laws.Single.{∈-eq, ∈-or, ∈-single, single-∈, single-⊆}
-use Rattle.masks.proofs.Laws.Subsets.{or-⊆, or-⊆-l, or-⊆-r, not-in-zero}
+use Rattle.masks.proofs.Laws.Subsets.{or-⊆, or-⊆-l, or-⊆-r, not-in-zero, ∈-minus}
 use Rattle.masks.specs.Mask.{single, _∈_, _⊆_}
 use Rattle.rules.proofs.WorkWays.{table-rests}
 use Rattle.sets.specs.Paper.{Quorum}
@@ -124,7 +124,8 @@ module _ {n : ℕ} (two : 2 ≤ n) (few : n ≤ 64) where
   pub chained : Chained Q n
   chained = record {
     blocks = λ v w l h. ⊎-elim (λ e. e)
-        (λ e. let x = P .unblocked-rest v w e in absurd (apart-not-in (x .2) (∈-eq (sym (is-pair v l (x .1))) (other-in v)) h))
+        (λ e. let x = P .unblocked-rest v w e in
+        absurd (apart-not-in (x .2) (∈-eq (sym (is-pair v l (x .1))) (other-in v)) (∈-minus h (λ k. other-not v (single-∈ v k)))))
         (cases (Q .blocked v w));
     first-two = λ w h k. P .of-quorum 0 w (pair 0) both (pair-⊆ k h) (own-in 0);
     alone = λ v w l only e.

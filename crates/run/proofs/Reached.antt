@@ -14,7 +14,7 @@ use Rattle.ground.proofs.Logic.{clash}
 use Rattle.ground.specs.Alike.{alike}
 use Rattle.masks.proofs.Laws.Single.{∈-or, ∈-single}
 use Rattle.masks.proofs.Laws.Subsets.{not-in-zero, minus-⊆, minus-not-in, minus-lt}
-use Rattle.masks.specs.Mask.{single, minus, allBelow, _∈_, _⊆_}
+use Rattle.masks.specs.Mask.{single, minus, allBelow, others, _∈_, _⊆_}
 use Rattle.run.specs.Theorems.{Reached}
 use Rattle.run.proofs.Bound.{at, iter-at, few}
 use Rattle.run.proofs.Chain.{chain, chain-table, chain-rests, Chained, chained}
@@ -32,7 +32,7 @@ use Rattle.rules.proofs.SoundLaws.{fresh-sound, accepted-rule}
 use Rattle.rules.proofs.State.{fresh-none}
 use Rattle.rules.proofs.Steps.{step-sound, step-adds}
 use Rattle.rules.proofs.Taken.{taken-voted, taken-votes, taken-accepted}
-use Rattle.rules.specs.Rules.{others, accepting, taken}
+use Rattle.rules.specs.Rules.{accepting, taken}
 use Rattle.rules.specs.Sound.{Sound}
 use Rattle.rules.specs.State.{votes, accepts, voted, accepted, width, get}
 use Rattle.rules.specs.Theorems.{Rests}

@@ -11,7 +11,7 @@ use lib.ListN.{length}
 use Rattle.ground.proofs.Numbers.{same?}
 use Rattle.masks.proofs.Laws.Single.{single-∈}
 use Rattle.masks.proofs.Laws.Subsets.{mem, not-in-zero, or-⊆-l, ∈-minus}
-use Rattle.masks.specs.Mask.{_∈_}
+use Rattle.masks.specs.Mask.{others, _∈_}
 use Rattle.run.proofs.Chain.{Chained}
 use Rattle.votes.proofs.Passes.{pass-still}
 use Rattle.sets.specs.Paper.{Fbqs}
@@ -24,7 +24,6 @@ use Rattle.rules.proofs.SoundLaws.{voted-heard, rule-accepted}
 use Rattle.rules.proofs.Steps.{step-sound, step-adds}
 use Rattle.rules.proofs.Taken.{taken-accepts, taken-accepted}
 use Rattle.rules.specs.Inner.{heard}
-use Rattle.rules.specs.Rules.{others}
 use Rattle.rules.specs.Sound.{Sound}
 use Rattle.rules.specs.State.{votes, accepts, voted, accepted, get}
 use Rattle.rules.specs.Theorems.{Rests}

@@ -7,6 +7,7 @@ use lib.Dec.{eqb}
 use borrow.Author.Tests.{eqb-true, eqb-false}
 use Rattle.ground.proofs.Logic.{cases}
 use Rattle.masks.proofs.Laws.Subsets.{⊆-trans}
+use Rattle.masks.specs.Mask.{others}
 use Rattle.sets.specs.Decides.{Greatest, Decides, TableIsFbqs, TableDecides}
 use Rattle.sets.specs.Paper.{Fbqs, Quorum, Blocking}
 use Rattle.sets.specs.Quorum.{quorum, largest}
@@ -46,7 +47,7 @@ module _ {S : Fbqs} {s : ℕ → ℕ → Bool} {n : ℕ} (answers : Answers S s 
 -- of a lawful table
 
 module _ {S : Fbqs} {r : Slices} {n : ℕ} (lawful : Lawful S r n) where
-  pub blocked-is : (v w : ℕ) → (r .blocked v w ≡ true) ↔ Blocking S v w
+  pub blocked-is : (v w : ℕ) → (r .blocked v w ≡ true) ↔ Blocking S v (others w v)
   blocked-is v w = (
     λ e q x z. lawful .blocked-slice v w q e x z,
     λ f. ⊎-elim (λ e. e) (λ e. let x = lawful .unblocked-slice v w e in absurd (f (x .0) (x .1) (x .2))) (cases (r .blocked v w)),

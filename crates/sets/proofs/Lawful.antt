@@ -9,7 +9,7 @@ use lib.Pow.{ones-lt}
 use Rattle.ground.proofs.Logic.{and-l, and-r, and-i, is-false, clash, not-t}
 use Rattle.masks.proofs.Laws.Apart.{minus-⊆-or, or-⊆-minus}
 use Rattle.masks.proofs.Laws.Subsets.{mem, ⊆-refl, ⊆-trans, ∈-below, or-⊆, or-⊆-l, or-⊆-r, minus-⊆, ∈-minus, minus-not-in}
-use Rattle.masks.specs.Mask.{has, minus, allBelow, _∈_, _⊆_}
+use Rattle.masks.specs.Mask.{has, minus, others, allBelow, _∈_, _⊆_}
 use Rattle.sets.specs.Paper.{Fbqs, WellFormed, delete}
 use Rattle.sets.specs.Slices.{Slices, fbqsOf, slicesOf}
 use Rattle.sets.proofs.Quorum.{Rule}
@@ -32,9 +32,9 @@ pub record Lawful (S : Fbqs) (r : Slices) (n : ℕ) : Type 0 where
   pub inside-slice : (v u q : ℕ) → S .Slice v q → q ⊆ u → r .inside v u ≡ true
   -- `deleted`: the site stays, and some slice is inside u together with b
   pub deleted-or : (b v u : ℕ) → r .deleted b v u ≡ not (has b v) && r .inside v (bitOr u b)
-  -- `blocked`: no slice misses w, or one does
-  pub blocked-slice : (v w q : ℕ) → r .blocked v w ≡ true → S .Slice v q → bitAnd q w ≡ 0 → ⊥
-  pub unblocked-slice : (v w : ℕ) → r .blocked v w ≡ false → (q : ℕ) × S .Slice v q × (bitAnd q w ≡ 0)
+  -- `blocked`: no slice misses the others of w, or one does
+  pub blocked-slice : (v w q : ℕ) → r .blocked v w ≡ true → S .Slice v q → bitAnd q (others w v) ≡ 0 → ⊥
+  pub unblocked-slice : (v w : ℕ) → r .blocked v w ≡ false → (q : ℕ) × S .Slice v q × (bitAnd q (others w v) ≡ 0)
 
 module _ {S : Fbqs} {r : Slices} {n : ℕ} (lawful : Lawful S r n) where
   pub inside-grows : Rule (r .inside)
@@ -100,6 +100,6 @@ module _ {t : List ℕ} {n : ℕ} (table : Table t n) where
         slice-inside = λ v u e. let x = inside-ex t v u e in (sliceOf t v (x .0), (x .0, x .1, refl), x .2);
         inside-slice = λ v u q x sub. inside-of t v (x .0) (x .1) (subst (λ (y : ℕ). y ⊆ u) (x .2) sub);
         deleted-or = deleted-inside t;
-        blocked-slice = λ v w q e x z. blocked-meets t v w (x .0) e (x .1) (ap (λ (y : ℕ). bitAnd y w) (sym (x .2)) ∙ z);
+        blocked-slice = λ v w q e x z. blocked-meets t v w (x .0) e (x .1) (ap (λ (y : ℕ). bitAnd y (others w v)) (sym (x .2)) ∙ z);
         unblocked-slice = λ v w e. let x = unblocked-misses t v w e in (sliceOf t v (x .0), (x .0, x .1, refl), x .2);
       }

@@ -15,7 +15,7 @@ use Rattle.ground.proofs.Some.{some-of, some-ex}
 use Rattle.ground.specs.Search.{some}
 use Rattle.masks.proofs.Laws.Members.{has-zero}
 use Rattle.masks.proofs.Laws.Subsets.{within-⊆, ⊆-within, minus-within}
-use Rattle.masks.specs.Mask.{has, within, allBelow, _∈_, _⊆_}
+use Rattle.masks.specs.Mask.{has, within, others, allBelow, _∈_, _⊆_}
 use Rattle.sets.specs.Slices.{slicesOf}
 use Rattle.table.specs.Table.{countOf, sliceOf, Table}
 
@@ -49,19 +49,19 @@ module _ (t : List ℕ) where
   deleted-none =
       fun-ext (λ v. fun-ext (λ u. deleted-inside 0 v u ∙ ap₂ (λ (h : Bool) (x : ℕ). not h && slicesOf t .inside v x) (has-zero v) (or-zero-r u)))
 
-  -- blocking: no slice misses the set
+  -- blocking: no slice misses the others of the set
 
-  pub blocked-meets : (v w i : ℕ) → slicesOf t .blocked v w ≡ true → i < countOf t v → bitAnd (sliceOf t v i) w ≡ 0 → ⊥
+  pub blocked-meets : (v w i : ℕ) → slicesOf t .blocked v w ≡ true → i < countOf t v → bitAnd (sliceOf t v i) (others w v) ≡ 0 → ⊥
   unfolding slicesOf
   blocked-meets v w i e l =
-      eqb-false (bitAnd (sliceOf t v i) w) 0
-      (not-t (eqb (bitAnd (sliceOf t v i) w) 0) (every-at (countOf t v) (λ i. not (eqb (bitAnd (sliceOf t v i) w) 0)) e i l))
+      eqb-false (bitAnd (sliceOf t v i) (others w v)) 0
+      (not-t (eqb (bitAnd (sliceOf t v i) (others w v)) 0) (every-at (countOf t v) (λ i. not (eqb (bitAnd (sliceOf t v i) (others w v)) 0)) e i l))
 
-  pub unblocked-misses : (v w : ℕ) → slicesOf t .blocked v w ≡ false → (i : ℕ) × (i < countOf t v) × (bitAnd (sliceOf t v i) w ≡ 0)
+  pub unblocked-misses : (v w : ℕ) → slicesOf t .blocked v w ≡ false → (i : ℕ) × (i < countOf t v) × (bitAnd (sliceOf t v i) (others w v) ≡ 0)
   unfolding slicesOf
   unblocked-misses v w e =
-      let r = every-fails (countOf t v) (λ i. not (eqb (bitAnd (sliceOf t v i) w) 0)) e in
-      (r .0, r .1, eqb-true (bitAnd (sliceOf t v (r .0)) w) 0 (not-false (eqb (bitAnd (sliceOf t v (r .0)) w) 0) (r .2)))
+      let r = every-fails (countOf t v) (λ i. not (eqb (bitAnd (sliceOf t v i) (others w v)) 0)) e in
+      (r .0, r .1, eqb-true (bitAnd (sliceOf t v (r .0)) (others w v)) 0 (not-false (eqb (bitAnd (sliceOf t v (r .0)) (others w v)) 0) (r .2)))
 
 -- site v of the table t, and a set u: a slice is found inside, or none is
 module _ (t : List ℕ) (v u : ℕ) where

@@ -4,7 +4,7 @@ use mathlib.Core.Bool.{Bool, true}
 use mathlib.Core.List.{List}
 use mathlib.Core.Logic.{_⊎_, _↔_}
 use mathlib.Core.Path.{_≡_}
-use Rattle.masks.specs.Mask.{size, _⊆_}
+use Rattle.masks.specs.Mask.{size, others, _⊆_}
 use Rattle.sets.specs.Paper.{Fbqs, WellFormed, Quorum, Blocking}
 use Rattle.sets.specs.Promises.{Promises, questions}
 use Rattle.sets.specs.Quorum.{quorum, round, after, largest, rounds}
@@ -22,10 +22,11 @@ pub record Greatest (S : Fbqs) (s : ℕ → ℕ → Bool) (n w : ℕ) : Type 0 w
   pub still : round s n (largest s n w) ≡ largest s n w
   pub few : rounds s n w ≤ size w
 
--- quorums, blocking and the largest quorum: every answer decides the paper's statement, both ways
+-- quorums, blocking and the largest quorum: every answer decides the paper's statement, both ways. A set is said to block a site if what is left of it
+-- without the site blocks in the paper's sense.
 pub record Decides (S : Fbqs) (r : Slices) (n : ℕ) : Type 0 where
   pub quorum-decides : (q : ℕ) → (quorum (r .inside) n q ≡ true) ↔ Quorum S q
-  pub blocked-decides : (v w : ℕ) → (r .blocked v w ≡ true) ↔ Blocking S v w
+  pub blocked-decides : (v w : ℕ) → (r .blocked v w ≡ true) ↔ Blocking S v (others w v)
   pub largest-decides : (w : ℕ) → Greatest S (r .inside) n w
 
 -- a checked table is a well-formed FBQS, its answers decide the paper's statements, and it keeps the promises that the voting rests on

@@ -6,7 +6,7 @@ use mathlib.Core.Logic.{_↔_}
 use mathlib.Core.Path.{_≡_}
 use lib.Bits.{bitAnd}
 use lib.ListN.{length}
-use Rattle.masks.specs.Mask.{has, _∈_, _⊆_}
+use Rattle.masks.specs.Mask.{has, others, _∈_, _⊆_}
 use Rattle.sets.specs.Paper.{Fbqs, Quorum}
 use Rattle.sets.specs.Quorum.{largest}
 use Rattle.sets.specs.Slices.{Slices, slicesOf}
@@ -15,7 +15,7 @@ use Rattle.table.specs.Table.{sites}
 pub record Questions : Type 0 where
   -- site v belongs to the largest quorum inside w
   pub inQuorum : ℕ → ℕ → Bool
-  -- w blocks site v
+  -- w blocks site v, which does not count itself
   pub blocked : ℕ → ℕ → Bool
   -- site u has, as site v sees it, some slice inside w
   pub hasSlice : ℕ → ℕ → ℕ → Bool
@@ -39,8 +39,8 @@ pub record Promises (S : ℕ → Fbqs) (Q : Questions) : Type 0 where
   pub of-quorum : (v w u : ℕ) → Quorum (S v) u → u ⊆ w → v ∈ u → Q .inQuorum v w ≡ true
   -- the empty set blocks nobody
   pub nobody-blocked : (v : ℕ) → v ∈ S v .sites → Q .blocked v 0 ≡ false
-  -- a blocking set meets every set that holds a slice of v; who is not blocked by w has a slice in the rest
-  pub blocked-meets : (v w u q : ℕ) → Q .blocked v w ≡ true → S v .Slice v q → q ⊆ u → bitAnd u w ≡ 0 → ⊥
-  pub unblocked-rest : (v w : ℕ) → Q .blocked v w ≡ false → (q : ℕ) × S v .Slice v q × (bitAnd q w ≡ 0)
+  -- the others of a blocking set meet every set that holds a slice of v; who is not blocked by w has a slice that they miss
+  pub blocked-meets : (v w u q : ℕ) → Q .blocked v w ≡ true → S v .Slice v q → q ⊆ u → bitAnd u (others w v) ≡ 0 → ⊥
+  pub unblocked-rest : (v w : ℕ) → Q .blocked v w ≡ false → (q : ℕ) × S v .Slice v q × (bitAnd q (others w v) ≡ 0)
   -- who has a slice inside w, as site v sees it, and the other way
   pub slice-decides : (v u w : ℕ) → (Q .hasSlice v u w ≡ true) ↔ ((q : ℕ) × S v .Slice u q × (q ⊆ w))

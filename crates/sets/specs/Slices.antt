@@ -6,7 +6,7 @@ use mathlib.Core.Path.{_≡_}
 use lib.Bits.{bitAnd}
 use lib.Dec.{eqb}
 use Rattle.ground.specs.Search.{some, every}
-use Rattle.masks.specs.Mask.{has, within, minus, allBelow}
+use Rattle.masks.specs.Mask.{has, within, minus, others, allBelow}
 use Rattle.sets.specs.Paper.{Fbqs}
 use Rattle.table.specs.Table.{countOf, sliceOf}
 
@@ -20,7 +20,7 @@ pub record Slices : Type 0 where
   pub inside : ℕ → ℕ → Bool
   -- "Deleting B: the sites outside B stay, and every slice loses the members of B": site v stays and has some slice inside u then
   pub deleted : ℕ → ℕ → ℕ → Bool
-  -- "A set blocks site v if it meets every slice of v": site v is blocked by w
+  -- "A set blocks site v if it meets every slice of v", and "the owner's bit is taken out of the set before it is compared": site v is blocked by w
   pub blocked : ℕ → ℕ → Bool
 
 -- the answers of a table in memory
@@ -29,5 +29,5 @@ unfolding some every
 slicesOf t = record {
   inside = λ v u. some (countOf t v) (λ i. within (sliceOf t v i) u);
   deleted = λ b v u. not (has b v) && some (countOf t v) (λ i. within (minus (sliceOf t v i) b) u);
-  blocked = λ v w. every (countOf t v) (λ i. not (eqb (bitAnd (sliceOf t v i) w) 0));
+  blocked = λ v w. every (countOf t v) (λ i. not (eqb (bitAnd (sliceOf t v i) (others w v)) 0));
 }

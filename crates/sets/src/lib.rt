@@ -7,16 +7,17 @@ ghost use Rattle.table.specs.Table.{countOf, sliceOf, Table};
 ghost use Rattle.sets.specs.Slices.{slicesOf};
 ghost use Rattle.sets.specs.Quorum.{quorum};
 
-// The set w blocks site v: it meets every slice of v.
+// The set w blocks site v: without v itself it meets every slice of v.
 pub fn blocks(table: &[u64], n: usize, w: u64, v: usize) -> bool
     requires { ⌜ Table (now table) n ⌝ }
     requires { ⌜ v < n ⌝ }
     ensures { λ r. ⌜ r ≡ slicesOf (now (table .entry)) .blocked v w ⌝ }
 {
+    let others = masks::minus(w, masks::single(v as u64));
     let many = table[63 * v] as usize;
     let mut i: usize = 0;
     while i < many {
-        if table[63 * v + 1 + i] & w == 0 {
+        if table[63 * v + 1 + i] & others == 0 {
             return false;
         }
         i += 1;

@@ -101,6 +101,10 @@ member-of m ne = go m ne
     go k ne = ⊎-elim (λ r. r) (λ f. absurd (ne (empty m (λ v h. f v (∈-below (lt-pow m) h) h)))) (look m)
 
 -- deleting from a part, or adding to the whole
+-- taken out once is taken out
+pub minus-again : (a b : ℕ) → minus (minus a b) b ≡ minus a b
+minus-again a b = ⊆-antisym (minus-⊆ (minus a b) b) (record { each = λ v h. ∈-minus h (minus-not-in a h) })
+
 pub minus-within : (q b u : ℕ) → within (minus q b) u ≡ within q (bitOr u b)
 minus-within q b u =
     iff (within (minus q b) u) (within q (bitOr u b))
