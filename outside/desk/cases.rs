@@ -167,6 +167,10 @@ pub fn desk_calls() -> Vec<Vec<&'static str>> {
         |verdict a.table 00000000000000008|verdict a.table g|verdict a.table 0x8|verdict a.table -8|verdict a.table|verdict 8\
         |verdict b.table 3|verdict b.table f|verdict apart.table 0|verdict alone.table 1|verdict twelve.table 8|verdict thirteen.table 8\
         |verdict most.table 8000000000000000|verdict most.table ffffffffffffffff|verdict damaged.table 0|verdict damaged.table ffff\
+        |verdict a.table s3|verdict a.table s|verdict a.table s0,4|verdict a.table s4,2|verdict a.table s003|verdict a.table s5\
+        |verdict a.table s63|verdict a.table s64|verdict a.table s640|verdict a.table s3,3|verdict a.table s3,|verdict a.table s,3\
+        |verdict a.table s3,,4|verdict a.table S3|verdict a.table s3.4|verdict a.table s-1|verdict a.table s18446744073709551616\
+        |verdict b.table s1,0|verdict apart.table s|verdict twelve.table s11,10|verdict thirteen.table s12|verdict apart.table s0\
         |verdict empty 0|verdict missing.table 0|verdict folder 0|verdict too-long 0|verdict missing.table g\
         |run b.table 0 empty|run b.table 0 drill.calls|run b.table 8 three.calls|run b.table 8 live.calls|run b.table 8 two-faced.calls\
         |run b.table 0 late.calls|run b.table 0 opposite.calls|run b.table 8 bad.calls|run b.table f drill.calls|run a.table 8 three.calls\
@@ -201,10 +205,7 @@ pub fn desk_answer(leaflet: &Leaflet, files: &mut Vec<File>, words: &[&'static s
     let file =
         |name: &str| files.iter().find(|(file, bytes)| *file == name && bytes.len() < 65536).map(|(_, bytes)| bytes);
     let free = |name: &str| !name.contains('/') && name != "folder" && files.iter().all(|(file, _)| *file != name);
-    let mask = |word: &str| {
-        let digits = (1..=16).contains(&word.len()) && word.bytes().all(|byte| byte.is_ascii_hexdigit());
-        digits.then(|| u64::from_str_radix(word, 16).expect("up to 16 digits fit"))
-    };
+    let mask = expected::faulty;
     match words {
         [] => Some(USAGE.to_string()),
         ["check", table] => Some(expected::check(leaflet, file(table)?)),
@@ -231,7 +232,8 @@ desk run TABLE FAULTY CALLS         the vote: its passes, what was confirmed, dr
 desk keep CALLS JOURNAL             keeps the list of calls as a new file, whole or not at all
 desk journal JOURNAL                is the journal sound, and how many calls does it keep?
 desk replay TABLE FAULTY JOURNAL    the vote, as desk run prints it, of the calls that the journal keeps
-TABLE, CALLS and JOURNAL name files; FAULTY is 1 to 16 hexadecimal digits, bit v for site v, 0 for nobody
+TABLE, CALLS and JOURNAL name files; FAULTY is site numbers behind an s, as in s3,12, s alone for nobody;
+or 1 to 16 hexadecimal digits, bit v for site v, 0 for nobody
 ";
 
 /// What the desk's cases are to print, one after the other, each with its call before it.

@@ -41,9 +41,49 @@ pub fn check(leaflet: &Leaflet, image: &[u8]) -> String {
     }
 }
 
-/// `desk verdict`: the lines of the verdict program
+/// The sites of a set, each with a blank before it.
+fn members(set: u64) -> String {
+    (0..64).filter(|site| set >> site & 1 == 1).map(|site| format!(" {site}")).collect()
+}
+
+/// `desk verdict`: the lines of the verdict program; then its sets by their sites' numbers, and two quorums that have no
+/// common site where there are such
 pub fn verdict(image: &[u8], faulty: u64) -> String {
-    model::verdict(&[&faulty.to_le_bytes(), image].concat())
+    let seven = model::verdict(&[&faulty.to_le_bytes(), image].concat());
+    let Ok(memory) = read(image) else { return seven };
+    if seven.starts_with("refused") {
+        return seven;
+    }
+    let n = memory.len() / model::ROW;
+    let all = u64::MAX >> (64 - n);
+    let intact = model::intact(&memory, faulty).values[0];
+    let mut text = seven + &format!("faulty sites{}\n", members(faulty));
+    text += &format!("intact sites{}\nbefouled sites{}\n", members(intact), members(all & !intact));
+    text += &format!("quorum sites{}\n", members(model::largest(&memory, all & !faulty).values[0]));
+    match model::shared(&memory).values {
+        [0, p, q] => text + &format!("parted{} |{}\n", members(p), members(q)),
+        _ => text,
+    }
+}
+
+/// The faulty sites as they are typed: a mask in 1 to 16 hexadecimal digits, or sites behind an s
+pub fn faulty(word: &str) -> Option<u64> {
+    let Some(sites) = word.strip_prefix('s') else {
+        let digits = (1..=16).contains(&word.len()) && word.bytes().all(|byte| byte.is_ascii_hexdigit());
+        return digits.then(|| u64::from_str_radix(word, 16).expect("up to 16 digits fit"));
+    };
+    let mut set = 0;
+    for site in sites.split(',').filter(|_| !sites.is_empty()) {
+        let digits = !site.is_empty() && site.bytes().all(|byte| byte.is_ascii_digit());
+        // zeros in front count for nothing, and a number of more than two digits is no site
+        let site = match site.trim_start_matches('0') {
+            "" => 0,
+            few => few.parse().unwrap_or(64),
+        };
+        let one = 1u64.checked_shl(site).filter(|one| digits && set & one == 0)?;
+        set |= one;
+    }
+    Some(set)
 }
 
 /// `desk run`

@@ -19,7 +19,10 @@ fn usage() {
         b"desk replay TABLE FAULTY JOURNAL    the vote, as desk run prints it, of the calls that the journal keeps\n",
     );
     files::answer(
-        b"TABLE, CALLS and JOURNAL name files; FAULTY is 1 to 16 hexadecimal digits, bit v for site v, 0 for nobody\n",
+        b"TABLE, CALLS and JOURNAL name files; FAULTY is site numbers behind an s, as in s3,12, s alone for nobody;\n",
+    );
+    files::answer(
+        b"or 1 to 16 hexadecimal digits, bit v for site v, 0 for nobody\n",
     );
 }
 
@@ -52,7 +55,7 @@ fn of_three(word: &[u8], k: usize, l: usize) -> bool {
 // A call in four words, the last three of them arguments k, l and m.
 fn of_four(word: &[u8], k: usize, l: usize, m: usize) -> bool {
     if check::same(word, b"run") {
-        shell::run_of(k, l, m);
+        run_shell::run_of(k, l, m);
         return true;
     }
     if check::same(word, b"replay") {

@@ -83,12 +83,12 @@ pub fn fetch(call: &[u8], k: usize, room: &mut [u8]) -> Fetched
 pub fn faulty(call: &[u8], k: usize) -> Typed {
     let mut word = io::buffer();
     let n = os::arg(k, &mut word);
-    let typed = text::mask_typed(&word[..n]);
+    let typed = faulty_sites::faulty_typed(&word[..n]);
     if let Typed::NoMask = typed {
         wrong(
             call,
             &word[..n],
-            b": FAULTY is 1 to 16 hexadecimal digits\n",
+            b": FAULTY is 1 to 16 hexadecimal digits, or sites below 64 behind an s, each once, as in s3,12\n",
         );
     }
     typed

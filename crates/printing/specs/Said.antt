@@ -5,6 +5,7 @@ use mathlib.Core.Path.{_≡_}
 use Rattle.check_text.specs.Table.{checkText}
 use Rattle.journal_text.specs.JournalText.{journalText, keptText}
 use Rattle.replay_text.specs.Replay.{replayText}
+use Rattle.verdict_sites.specs.Sites.{verdictSites}
 use Rattle.verdict_text.specs.Verdict.{verdictText, inputText}
 use Rattle.run_text.specs.Run.{runText}
 
@@ -12,6 +13,7 @@ pub data Said (text : List ℕ) : Type 0 where
   ofInput : (input : List ℕ) → text ≡ inputText input → Said text
   ofCheck : (image : List ℕ) → text ≡ checkText image → Said text
   ofVerdict : (faulty : ℕ) (image : List ℕ) → text ≡ verdictText faulty image → Said text
+  ofSites : (faulty : ℕ) (image : List ℕ) → text ≡ verdictSites faulty image → Said text
   ofRun : (faulty : ℕ) (image list : List ℕ) → text ≡ runText faulty image list → Said text
   ofKept : (list : List ℕ) → text ≡ keptText list → Said text
   ofJournal : (journal : List ℕ) → text ≡ journalText journal → Said text

@@ -4,6 +4,7 @@ ghost use mathlib.Core.Path.{_≡_};
 ghost use Rattle.check_text.specs.Table.{checkText};
 ghost use Rattle.journal_text.specs.JournalText.{journalText, keptText};
 ghost use Rattle.replay_text.specs.Replay.{replayText};
+ghost use Rattle.verdict_sites.specs.Sites.{verdictSites};
 ghost use Rattle.verdict_text.specs.Verdict.{verdictText, inputText};
 ghost use Rattle.run_text.specs.Run.{runText};
 ghost use Rattle.printing.specs.Said.{Said};
@@ -34,6 +35,13 @@ pub fn say_verdict(faulty: u64, image: &[u8], verdict: &[u8])
     requires { ⌜ now verdict ≡ verdictText faulty (now image) ⌝ }
 {
     say(verdict);
+}
+
+// Prints the sets of the verdict on an image, by their sites' numbers.
+pub fn say_sites(faulty: u64, image: &[u8], sites: &[u8])
+    requires { ⌜ now sites ≡ verdictSites faulty (now image) ⌝ }
+{
+    say(sites);
 }
 
 // Prints the run of a list of calls on an image.

@@ -41,27 +41,7 @@ pub fn verdict_of(table: usize, sites: usize) {
     let mut room = [0u8; 196608];
     let end = verdict_text::verdict(faulty, image, &mut room);
     printing::say_verdict(faulty, image, &room[..end]);
-}
-
-// desk run TABLE FAULTY CALLS
-pub fn run_of(table: usize, sites: usize, calls: usize) {
-    let mut image = io::large_buffer();
-    let whole = files::fetch(b"desk run TABLE FAULTY CALLS", table, &mut image);
-    let Fetched::Bytes(n) = whole else {
-        return;
-    };
-    let image = &image[..n];
-    let typed = files::faulty(b"desk run TABLE FAULTY CALLS", sites);
-    let Typed::Mask(faulty) = typed else {
-        return;
-    };
-    let mut list = io::large_buffer();
-    let whole = files::fetch(b"desk run TABLE FAULTY CALLS", calls, &mut list);
-    let Fetched::Bytes(m) = whole else {
-        return;
-    };
-    let list = &list[..m];
     let mut room = [0u8; 196608];
-    let end = run_text::run(faulty, image, list, &mut room);
-    printing::say_run(faulty, image, list, &room[..end]);
+    let end = verdict_sites::verdict_sites(faulty, image, &mut room);
+    printing::say_sites(faulty, image, &room[..end]);
 }

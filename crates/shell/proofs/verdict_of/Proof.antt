@@ -1,4 +1,5 @@
--- `verdict_of` meets its contract: the bytes that were fetched stand in the room, and what is printed is the text that `verdict_text` wrote for them.
+-- `verdict_of` meets its contract: the bytes that were fetched stand in the room, and what is printed are the texts that `verdict_text` and
+-- `verdict_sites` wrote for them.
 use Rattle.files.proofs.Fetching.{counts}
 use borrow.Author.Needs.{needs}
 use Rattle.printing.proofs.Told.{told}
@@ -27,4 +28,8 @@ verdict-of-spec =
     (λ c. search needs)
     (λ c. search needs)
     (λ c κs. told (c .before .verdict .ensures .0))
+    (λ c κs. search needs)
+    (λ c. search needs)
+    (λ c. search needs)
+    (λ c κs. told (c .before .verdict-sites .ensures .0))
     (λ c. search needs))

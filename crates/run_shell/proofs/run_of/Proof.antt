@@ -2,8 +2,8 @@
 use Rattle.files.proofs.Fetching.{counts}
 use borrow.Author.Needs.{needs}
 use Rattle.printing.proofs.Told.{told}
-use Rattle.shell.proofs.run_of.Statement.{statement}
-use Rattle.shell.proofs.run_of.Tie as tie
+use Rattle.run_shell.proofs.run_of.Statement.{statement}
+use Rattle.run_shell.proofs.run_of.Tie as tie
 
 pub run-of-spec : {M : Type 1} → statement M
 run-of-spec =
