@@ -86,6 +86,26 @@ pub fn faulty(word: &str) -> Option<u64> {
     Some(set)
 }
 
+/// A table as text, given each site's slices: `desk show`
+pub fn shown(slices: &[Vec<u64>]) -> String {
+    let line = |own: &Vec<u64>| own.iter().map(|slice| members(*slice)).collect::<Vec<_>>().join(" |");
+    let rows = slices.iter().enumerate().map(|(site, own)| format!("{site}:{}\n", line(own)));
+    format!("sites {}\n", slices.len()) + &rows.collect::<String>()
+}
+
+/// Calls as text, a line each: `desk list` of calls that can be said in words
+pub fn listed(calls: &[u8]) -> String {
+    let line = |call: &[u8]| {
+        let side = ["drill", "live"][call[3] as usize];
+        match call[0] {
+            model::PROPOSE => format!("propose {} {side}\n", call[2]),
+            model::VOTE => format!("vote {} {} {side}\n", call[1], call[2]),
+            _ => format!("accept {} {} {side}\n", call[1], call[2]),
+        }
+    };
+    calls.chunks(4).map(line).collect()
+}
+
 /// `desk run`
 pub fn run(leaflet: &Leaflet, image: &[u8], faulty: u64, calls: &[u8]) -> String {
     let memory = match read(image) {

@@ -20,7 +20,25 @@ fn samples() -> Vec<File> {
     let twenty = model::journal_of(&window_of(20));
     let late = [vote(0, 1, DRILL), propose(0, DRILL)];
     let opposite = [propose(2, LIVE), propose(2, DRILL), propose(0, DRILL), propose(1, DRILL), vote(2, 0, LIVE)];
+    let comma = |calls: &[[u8; 4]]| expected::listed(&bytes(calls)).replace(' ', ",");
+    let window = [propose(0, DRILL), propose(1, DRILL), propose(2, DRILL), vote(1, 0, DRILL), vote(2, 0, DRILL)];
+    let mail = "# from the owner's mail of 12 November\nsites 4\n0: 0 1 2 | 0 3\n1: 0 1 2\n2: 0 1 2\n3: 0 3\n";
+    let head = "# kind,from,to,side\n";
     vec![
+        ("mail.table.txt", mail.into()),
+        ("mail.csv", (head.to_string() + &comma(&whole_vote(&[0, 1, 2], DRILL))).into()),
+        ("window.csv", (head.to_string() + &comma(&window)).into()),
+        ("a.table.txt", expected::shown(&table_a()).into()),
+        ("b.table.txt", expected::shown(&table_b()).into()),
+        ("apart.table.txt", expected::shown(&table_apart()).into()),
+        ("leaning.table.txt", expected::shown(&table_leaning()).into()),
+        ("sixty-four.table.txt", expected::shown(&table_round_b(64)).into()),
+        ("drill.calls.txt", expected::listed(&bytes(&two_faced())).into()),
+        ("live.calls.txt", expected::listed(&bytes(&whole_vote(&[0, 1, 2], LIVE))).into()),
+        ("late.calls.txt", expected::listed(&bytes(&late)).into()),
+        ("opposite.calls.txt", expected::listed(&bytes(&opposite)).into()),
+        ("leaning.calls.txt", expected::listed(&bytes(&leaning())).into()),
+        ("sixty-four.calls.txt", expected::listed(&bytes(&window_of(64))).into()),
         ("a.table", image(&table_a())),
         ("b.table", b.clone()),
         ("apart.table", image(&table_apart())),

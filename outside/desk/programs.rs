@@ -158,6 +158,12 @@ fn try_keep(desk: &Path, folder: &Path) -> usize {
     16
 }
 
+/// The text that stands beside a sample.
+fn beside(samples: &[File], name: &str) -> Option<String> {
+    let (_, text) = samples.iter().find(|(other, _)| *other == format!("{name}.txt"))?;
+    Some(String::from_utf8(text.clone()).expect("a text"))
+}
+
 pub fn try_all(root: &Path, leaflet: &Leaflet, samples: &[File]) {
     let root = root.canonicalize().expect("the repository");
     // the folder that outside/programs prints
@@ -235,12 +241,23 @@ pub fn try_all(root: &Path, leaflet: &Leaflet, samples: &[File]) {
     // what stands in the way of a new file
     let kept_or_not = try_keep(&desk, &folder.join("keep"));
 
+    // each text beside a table is what is shown of it
+    for (name, text) in samples.iter().filter(|(name, _)| name.ends_with(".table.txt")) {
+        let table = name.trim_end_matches(".txt");
+        if samples.iter().any(|(other, _)| *other == table) {
+            let path = root.join("samples").join(table);
+            let output = run(&desk, none.parent().expect("a folder"), &["show", path.to_str().expect("a path")], &[]);
+            held(name, &output, &Some(String::from_utf8(text.clone()).expect("a text")), "");
+        }
+    }
+
     // the samples are what a reader is told that they are
     for (name, bytes) in samples {
         let path = root.join("samples").join(name);
         let (word, answer) = match name.rsplit('.').next() {
             Some("table") => ("check", expected::check(leaflet, bytes)),
             Some("journal") => ("journal", expected::journal(leaflet, bytes)),
+            Some("calls") if beside(samples, name).is_some() => ("list", beside(samples, name).expect("its text")),
             _ => continue,
         };
         held(

@@ -2,10 +2,12 @@
 
 // What can be asked.
 fn usage() {
+    text_commands::usage_of_tables();
     files::answer(b"desk check TABLE                    is the table sound?\n");
     files::answer(
         b"desk verdict TABLE FAULTY           which sites can be relied on when the sites of FAULTY are faulty?\n",
     );
+    text_commands::usage_of_calls();
     files::answer(
         b"desk run TABLE FAULTY CALLS         the vote: its passes, what was confirmed, drill or live for each site\n",
     );
@@ -19,7 +21,7 @@ fn usage() {
         b"desk replay TABLE FAULTY JOURNAL    the vote, as desk run prints it, of the calls that the journal keeps\n",
     );
     files::answer(
-        b"TABLE, CALLS and JOURNAL name files; FAULTY is site numbers behind an s, as in s3,12, s alone for nobody;\n",
+        b"TEXT, TABLE, CALLS and JOURNAL name files; FAULTY is site numbers behind an s, as in s3,12, s alone for nobody;\n",
     );
     files::answer(
         b"or 1 to 16 hexadecimal digits, bit v for site v, 0 for nobody\n",
@@ -36,7 +38,7 @@ fn of_two(word: &[u8], k: usize) -> bool {
         journal_shell::check_of(k);
         return true;
     }
-    false
+    text_commands::of_two(word, k)
 }
 
 // A call in three words, the last two of them arguments k and l.
@@ -49,7 +51,7 @@ fn of_three(word: &[u8], k: usize, l: usize) -> bool {
         journal_shell::keep_of(k, l);
         return true;
     }
-    false
+    text_commands::of_three(word, k, l)
 }
 
 // A call in four words, the last three of them arguments k, l and m.
@@ -92,10 +94,7 @@ pub fn command(from: usize, n: usize) {
     let k = os::arg(from, &mut word);
     if !called(&word[..k], from, n) {
         files::complain(
-            b"desk: no such call; there are: desk check TABLE, desk verdict TABLE FAULTY, desk run TABLE FAULTY CALLS, ",
-        );
-        files::complain(
-            b"desk keep CALLS JOURNAL, desk journal JOURNAL, desk replay TABLE FAULTY JOURNAL\n",
+            b"desk: no such call; desk alone, without a word behind it, says which there are\n",
         );
     }
 }

@@ -47,7 +47,7 @@ fn read_whole(call: &[u8], path: &[u8], fd: i32, room: &mut [u8]) -> Fetched
         wrong(
             call,
             path,
-            b": too long for a table, a list of calls or a journal\n",
+            b": too long for a table, a list of calls, a journal or a text\n",
         );
         return Fetched::Unused;
     }
