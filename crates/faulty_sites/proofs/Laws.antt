@@ -9,7 +9,7 @@ use lib.Dec.{eqb, ltb}
 use lib.ListN.{length, getD, take, drop}
 use lib.Seq.{drop-cons, take-all}
 use borrow.Author.Tests.{eq-eqb, ne-eqb, lt-ltb, le-ltb}
-use Rattle.faulty_sites.specs.Faulty.{digitAfter, named, faultyTyped}
+use Rattle.faulty_sites.specs.Faulty.{digitAfter, sitesTyped, faultyTyped}
 use Rattle.masks.specs.Mask.{has, single}
 use Rattle.text.specs.Text.{typed}
 use Rattle.text.specs.declared.Typed.the-variants.{Mask, NoMask}
@@ -39,16 +39,16 @@ module _ (x b : ℕ) where
 
 -- at the end, and at character i
 module _ (m x : ℕ) where
-  pub end-none : 64 ≤ x → named m x [] ≡ NoMask
-  unfolding named
+  pub end-none : 64 ≤ x → sitesTyped m x [] ≡ NoMask
+  unfolding sitesTyped
   end-none l = rw (le-ltb x 64 l) refl
 
-  pub end-twice : has m x ≡ true → x < 64 → named m x [] ≡ NoMask
-  unfolding named
+  pub end-twice : has m x ≡ true → x < 64 → sitesTyped m x [] ≡ NoMask
+  unfolding sitesTyped
   end-twice e l = rw (lt-ltb x 64 l, e) refl
 
-  pub end-site : has m x ≡ false → x < 64 → named m x [] ≡ Mask (bitOr m (single x))
-  unfolding named
+  pub end-site : has m x ≡ false → x < 64 → sitesTyped m x [] ≡ Mask (bitOr m (single x))
+  unfolding sitesTyped
   end-site e l = rw (lt-ltb x 64 l, e) refl
 
   module _ (word : List ℕ) (i : ℕ) (h : i < length word) where
@@ -58,20 +58,20 @@ module _ (m x : ℕ) where
         drop-cons word i 0 h ∙ ap (λ (k : ℕ). getD word i 0 ∷ drop k word) e
 
     module _ (e : getD word i 0 ≡ 44) where
-      pub comma-none : 64 ≤ x → named m x (drop i word) ≡ NoMask
-      unfolding named
+      pub comma-none : 64 ≤ x → sitesTyped m x (drop i word) ≡ NoMask
+      unfolding sitesTyped
       comma-none l = rw (cut, eq-eqb (getD word i 0) 44 e, le-ltb x 64 l) refl
 
-      pub comma-twice : has m x ≡ true → x < 64 → named m x (drop i word) ≡ NoMask
-      unfolding named
+      pub comma-twice : has m x ≡ true → x < 64 → sitesTyped m x (drop i word) ≡ NoMask
+      unfolding sitesTyped
       comma-twice f l = rw (cut, eq-eqb (getD word i 0) 44 e, lt-ltb x 64 l, f) refl
 
-      pub comma-site : has m x ≡ false → x < 64 → named m x (drop i word) ≡ named (bitOr m (single x)) 64 (drop (i + 1) word)
-      unfolding named
+      pub comma-site : has m x ≡ false → x < 64 → sitesTyped m x (drop i word) ≡ sitesTyped (bitOr m (single x)) 64 (drop (i + 1) word)
+      unfolding sitesTyped
       comma-site f l = rw (cut, eq-eqb (getD word i 0) 44 e, lt-ltb x 64 l, f) refl
 
-    pub no-comma : (getD word i 0 ≡ 44 → ⊥) → named m x (drop i word) ≡ named m (digitAfter x (getD word i 0)) (drop (i + 1) word)
-    unfolding named
+    pub no-comma : (getD word i 0 ≡ 44 → ⊥) → sitesTyped m x (drop i word) ≡ sitesTyped m (digitAfter x (getD word i 0)) (drop (i + 1) word)
+    unfolding sitesTyped
     no-comma e = rw (cut, ne-eqb (getD word i 0) 44 e) refl
 
 -- the word as a whole
@@ -90,7 +90,7 @@ unfolding faultyTyped
 typed-nobody [] e f = absurd (omega arith)
 typed-nobody (b ∷ l) e f = let z : length l ≡ 0 = omega arith in rw (eq-eqb b 115 e, eq-eqb (length l) 0 z) refl
 
-pub typed-sites : (word : List ℕ) → getD word 0 0 ≡ 115 → (length word ≡ 1 → ⊥) → named 0 64 (take (length word - 1) (drop 1 word)) ≡ faultyTyped word
+pub typed-sites : (word : List ℕ) → getD word 0 0 ≡ 115 → (length word ≡ 1 → ⊥) → sitesTyped 0 64 (take (length word - 1) (drop 1 word)) ≡ faultyTyped word
 unfolding faultyTyped
 typed-sites [] e f = absurd (omega arith)
-typed-sites (b ∷ l) e f = rw (eq-eqb b 115 e, ne-eqb (length l) 0 (λ z. f (ap suc z))) (ap (named 0 64) (take-all (length (b ∷ l) - 1) l (omega arith)))
+typed-sites (b ∷ l) e f = rw (eq-eqb b 115 e, ne-eqb (length l) 0 (λ z. f (ap suc z))) (ap (sitesTyped 0 64) (take-all (length (b ∷ l) - 1) l (omega arith)))

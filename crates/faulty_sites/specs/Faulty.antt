@@ -18,15 +18,15 @@ digitAfter x b =
     65
 
 -- the sites of m, the site x that is being typed, and what is still to be read: numbers below 64 with commas between them, none of them twice
-unfoldable pub named : ℕ → ℕ → List ℕ → Typed
+unfoldable pub sitesTyped : ℕ → ℕ → List ℕ → Typed
 unfolding has digitAfter
-named m x [] = cond (ltb x 64 && not (has m x)) (Mask (bitOr m (single x))) NoMask
-named m x (b ∷ l) =
-    cond (eqb b 44) (cond (ltb x 64 && not (has m x)) (named (bitOr m (single x)) 64 l) NoMask)
-    (named m (digitAfter x b) l)
+sitesTyped m x [] = cond (ltb x 64 && not (has m x)) (Mask (bitOr m (single x))) NoMask
+sitesTyped m x (b ∷ l) =
+    cond (eqb b 44) (cond (ltb x 64 && not (has m x)) (sitesTyped (bitOr m (single x)) 64 l) NoMask)
+    (sitesTyped m (digitAfter x b) l)
 
 -- what stands behind an `s` is sites, anything else a mask
 unfoldable pub faultyTyped : List ℕ → Typed
-unfolding typed named
+unfolding typed sitesTyped
 faultyTyped [] = NoMask
-faultyTyped (b ∷ l) = cond (eqb b 115) (cond (eqb (length l) 0) (Mask 0) (named 0 64 l)) (typed (b ∷ l))
+faultyTyped (b ∷ l) = cond (eqb b 115) (cond (eqb (length l) 0) (Mask 0) (sitesTyped 0 64 l)) (typed (b ∷ l))

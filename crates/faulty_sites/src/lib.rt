@@ -1,6 +1,6 @@
 // The faulty sites as a person types them: a mask, or the sites' numbers behind an s.
 ghost use mathlib.Core.Path.{_≡_};
-ghost use Rattle.faulty_sites.specs.Faulty.{digitAfter, named, faultyTyped};
+ghost use Rattle.faulty_sites.specs.Faulty.{digitAfter, sitesTyped, faultyTyped};
 use text::Typed;
 
 // The site typed so far and one character more: 64 before the first digit, 65 for what is no site.
@@ -29,7 +29,7 @@ fn digit_after(x: u64, b: u8) -> u64
 
 // The sites whose numbers stand behind the s.
 fn sites_named(word: &[u8]) -> Typed
-    ensures { λ r. ⌜ r ≡ named 0 64 (now (word .entry)) ⌝ }
+    ensures { λ r. ⌜ r ≡ sitesTyped 0 64 (now (word .entry)) ⌝ }
 {
     let mut m: u64 = 0;
     let mut x: u64 = 64;

@@ -28,13 +28,14 @@ returns-2 c =
 
 returns-3 : tie.Need-returns-3
 returns-3 c =
-    let s = c .before .before .before .before .before .before .before .before .before .before .before .before .before .before .before .before .before in
-    let a = s .args in
+    let g = c .before .before .before .before .before in
+    let q = c .before .before .before .before .before .before .before .before .before .before .before .before in
+    let a = c .before .before .before .before .before .before .before .before .before .before .before .before .before .before .before .before .before .args in
     let n : a .sites ≡ sitesOf (now (a .table)) = omega arith in
     let o = c .before .before .before .before .before .before .before .before .before .minus .ensures ∙ ap (λ x. minus x (a .faulty)) (c .before .before .before .before .before .before .before .before .before .before .all-below .ensures) in
     as-text
-    (judged-by (now (a .table)) (a .faulty) n o (sym (c .before .before .before .before .before .before .before .before .before .before .before .before .standing .given .1) ∙ c .before .before .before .before .before .before .before .before .before .before .before .before .before .before .intact .ensures)
-    (sym (c .before .before .before .before .before .greatest .given .1) ∙ c .before .before .before .before .before .before .before .largest .ensures) (c .before .before .before .before .before .before .before .before .shared .ensures))
+    (judged-by (now (a .table)) (a .faulty) n o (sym (q .standing .given .1) ∙ q .before .before .intact .ensures)
+    (sym (g .greatest .given .1) ∙ g .before .before .largest .ensures) (g .before .before .before .shared .ensures))
     (c .before .before .put-sets .ensures)
 
 pub spell-spec : {M : Type 1} → statement M
