@@ -23,9 +23,7 @@ fn usage() {
     files::answer(
         b"TEXT, TABLE, CALLS and JOURNAL name files; FAULTY is site numbers behind an s, as in s3,12, s alone for nobody;\n",
     );
-    files::answer(
-        b"or 1 to 16 hexadecimal digits, bit v for site v, 0 for nobody\n",
-    );
+    files::answer(b"or 1 to 16 hexadecimal digits, bit v for site v, 0 for nobody\n");
 }
 
 // A call in two words, the second of them argument k. Answers whether there is such a call, as do the next two.

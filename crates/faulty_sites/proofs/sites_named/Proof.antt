@@ -42,9 +42,9 @@ loop-again c =
       omega arith,
       ⊎-elim
           (λ k. ap₂ (λ (m x : ℕ). sitesTyped m x (drop (l .i + 1) w)) (k .5 ∙ ap (bitOr (l .m)) (k .4 .ensures)) (k .6)
-              ∙ sym (comma-site (l .m) (l .x) w (l .i) h (k .0 .taken) (sym (k .2 .ensures) ∙ k .3 .left) (omega arith)) ∙ l .inv .1)
+          ∙ sym (comma-site (l .m) (l .x) w (l .i) h (k .0 .taken) (sym (k .2 .ensures) ∙ k .3 .left) (omega arith)) ∙ l .inv .1)
           (λ k. ap₂ (λ (m x : ℕ). sitesTyped m x (drop (l .i + 1) w)) (k .2) (k .3 ∙ k .1 .ensures)
-              ∙ sym (no-comma (l .m) (l .x) w (l .i) h (k .0 .left)) ∙ l .inv .1)
+          ∙ sym (no-comma (l .m) (l .x) w (l .i) h (k .0 .left)) ∙ l .inv .1)
           (c .if1 .came),
     )
 
