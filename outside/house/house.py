@@ -10,8 +10,8 @@ TOP = pathlib.Path(__file__).resolve().parent.parent.parent
 ALLOWED = {
     "check": ({"block", "table", "journal"}, "each the answer of its crate's public `check`"),
     "number": ({"refusals", "le"}, "each the answer of its crate's function: the number of a refusal, the number that bytes hold"),
-    "ReadThenWrite": ({"image", "journal"}, "each of what its crate reads and writes"),
-    "WriteThenRead": ({"image", "journal"}, "each of what its crate writes and reads"),
+    "ReadThenWrite": ({"image", "journal_write"}, "each of what its crate reads and writes"),
+    "WriteThenRead": ({"image", "journal_write"}, "each of what its crate writes and reads"),
     "quorum": ({"sets", "questions"}, "the public answer is named like the definition that it gives out"),
     "largest": ({"sets", "questions"}, "the public answer is named like the definition that it gives out"),
     "intact": ({"verdicts", "questions"}, "the public answer is named like the definition that it gives out"),

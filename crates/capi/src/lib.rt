@@ -1,16 +1,17 @@
 // Every public call of the library for C and Rust, but for the two of the firmware. The header is include/siren.h.
 ghost use mathlib.Core.Path.{_≡_};
 ghost use lib.ListN.{length};
-ghost use Rattle.capi.specs.Run.{runSays, runState, runAnswers};
+ghost use Rattle.said_votes.specs.Run.{runSays, runState, runAnswers};
 ghost use Rattle.image.specs.Read.{read, readInto};
 ghost use Rattle.journal.specs.Journal as Journal;
 ghost use Rattle.journal.specs.Journal.{listed, listInto};
-ghost use Rattle.journal.specs.Keep.{keep, keepInto};
-ghost use Rattle.journal.specs.Next.{next};
+ghost use Rattle.journal_write.specs.Keep.{keep, keepInto};
+ghost use Rattle.journal_next.specs.Next.{next};
 ghost use Rattle.image_write.specs.Write.{write, writeInto};
 ghost use Rattle.questions.specs.Answers.{quorum, largest, blocks, shared, intact};
 ghost use Rattle.packing.specs.Pack.{bytesOf};
-ghost use Rattle.said.specs.Said.{ofCheck, ofReading, ofWriting, ofStepped};
+ghost use Rattle.said.specs.Said.{ofCheck, ofReading, ofWriting};
+ghost use Rattle.said_votes.specs.Said.{ofStepped};
 ghost use Rattle.said_sets.specs.Said.{ofHolds, ofGreatest, ofSharing, ofStanding};
 ghost use Rattle.said_journal.specs.Said.{ofChecked, ofKept, ofListed, ofTaken};
 ghost use Rattle.table.specs.Table.{check};
@@ -117,7 +118,7 @@ pub extern "C" fn siren_step(
     ensures told { λ r. ⌜ now (out .exit) ≡ ofStepped (toStepped (stepCheck (now (table .entry)) faulty (call kind from to side) (now (state .entry)))) .out ⌝ }
     ensures memory { λ r. ⌜ now (state .exit) ≡ stepInto (now (table .entry)) faulty (call kind from to side) (now (state .entry)) ⌝ }
 {
-    said::stepped(
+    said_votes::stepped(
         voting::step(table, faulty, state, kind, from, to, side),
         out,
     )
@@ -138,7 +139,7 @@ pub extern "C" fn siren_run(
     ensures states { λ r. ⌜ now (state .exit) ≡ runState (now (table .entry)) faulty (now (calls .entry)) (now (state .entry)) (now (answers .entry)) ⌝ }
     ensures bytes { λ r. ⌜ now (answers .exit) ≡ runAnswers (now (table .entry)) faulty (now (calls .entry)) (now (state .entry)) (now (answers .entry)) ⌝ }
 {
-    said::ran(run::run(table, faulty, calls, state, answers), out)
+    said_votes::ran(run::run(table, faulty, calls, state, answers), out)
 }
 
 // The same run of a list of call records.
@@ -159,7 +160,7 @@ pub extern "C" fn siren_run_records(
     ensures bytes { λ r.
         ⌜ now (answers .exit) ≡ runAnswers (now (table .entry)) faulty (bytesOf (now (calls .entry))) (now (state .entry)) (now (answers .entry)) ⌝ }
 {
-    said::ran(
+    said_votes::ran(
         records::run_records(table, faulty, calls, state, answers),
         out,
     )
@@ -181,7 +182,7 @@ pub extern "C" fn siren_journal_write(calls: &[u8], room: &mut [u8], out: &mut [
     ensures told { λ r. ⌜ now (out .exit) ≡ ofKept (keep (now (calls .entry)) (length (now (room .entry)))) .out ⌝ }
     ensures memory { λ r. ⌜ now (room .exit) ≡ keepInto (keep (now (calls .entry)) (length (now (room .entry)))) (now (calls .entry)) (now (room .entry)) ⌝ }
 {
-    said_journal::kept(journal::write(calls, room), out)
+    said_journal::kept(journal_write::write(calls, room), out)
 }
 
 // A journal's list of calls read into the room: its first bytes.
@@ -203,7 +204,7 @@ pub extern "C" fn siren_journal_next(journal: &[u8], place: u64, out: &mut [u64;
 {
     said_journal::taken(
         journal::check(journal),
-        journal::next_at(journal, place as usize),
+        journal_next::next_at(journal, place as usize),
         out,
     )
 }

@@ -5,28 +5,15 @@ use mathlib.Core.Path.{sym, ap, _∙_}
 use denote.Ref.{now}
 use Rattle.ground.specs.Coincide.{All, Answers}
 use Rattle.journal.specs.Journal.{listInto}
-use Rattle.journal.specs.Keep.{keepInto}
 use Rattle.journal.proofs.check.Kinds as check-kinds
 use Rattle.journal.proofs.check.Reads as check-reads
 use Rattle.journal.proofs.list.Kinds as list-kinds
 use Rattle.journal.proofs.list.Reads as list-reads
-use Rattle.journal.proofs.next_at.Kinds as next-at-kinds
-use Rattle.journal.proofs.next_at.Reads as next-at-reads
-use Rattle.journal.proofs.write.Kinds as write-kinds
-use Rattle.journal.proofs.write.Reads as write-reads
 
 pub check-coincide : Answers check-kinds.ps check-kinds.r check-reads.Post
 check-coincide κs a x y s t p q = p ∙ sym q
-
-pub next-at-coincide : Answers next-at-kinds.ps next-at-kinds.r next-at-reads.Post
-next-at-coincide κs a x y s t p q = p ∙ sym q
 
 pub list-coincide : All list-kinds.ps list-kinds.r (List ℕ) (λ κs s. now (s .1 .0)) list-reads.Post
 list-coincide κs a x y s t p q =
     let e = p .0 ∙ sym (q .0) in
     (e, p .1 ∙ ap (λ r. listInto r (now (a .0)) (now (a .1 .0))) e ∙ sym (q .1))
-
-pub write-coincide : All write-kinds.ps write-kinds.r (List ℕ) (λ κs s. now (s .1 .0)) write-reads.Post
-write-coincide κs a x y s t p q =
-    let e = p .0 ∙ sym (q .0) in
-    (e, p .1 ∙ ap (λ r. keepInto r (now (a .0)) (now (a .1 .0))) e ∙ sym (q .1))

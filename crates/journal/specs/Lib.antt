@@ -1,4 +1,1 @@
 pub mod Journal
-pub mod Keep
-pub mod Next
-pub mod Theorems

@@ -1,3 +1,2 @@
 pub mod Block
-pub mod Store
 pub mod Coincide

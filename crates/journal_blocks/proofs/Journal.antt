@@ -13,7 +13,7 @@ use borrow.Author.Tests.{eq-eqb, ne-eqb, le-ltb}
 use Rattle.ground.proofs.Pieces.{length-cat, length-part, cat-ext, part-cat, cat-parts}
 use Rattle.ground.specs.Pieces.{cat, part}
 use Rattle.journal_block.proofs.Block.{Right, right, count-few, count-full}
-use Rattle.journal_block.proofs.Store.{block-long, block-calls, block-sound, calls-long, block-back}
+use Rattle.journal_calls.proofs.Store.{block-long, block-calls, block-sound, calls-long, block-back}
 use Rattle.journal_block.specs.Block.{callsField, miscounted, journalBlockCheck, callsIn, journalBlock}
 use Rattle.journal_blocks.proofs.Pieces.{front-le, part-piece}
 use Rattle.journal_blocks.specs.Journal.{blocksIn, journalBlocksCheck, listOf, blocksFor, journalOf}

@@ -39,7 +39,7 @@ pub fn list_blocks(journal: &[u8], k: usize, room: &mut [u8])
     let mut at: usize = 0;
     while i < k {
         let end = at + 4 * journal_block::calls_in(&journal[512 * i..512 * i + 512]);
-        journal_block::copy_calls(&journal[512 * i..512 * i + 512], &mut room[at..end]);
+        journal_calls::copy_calls(&journal[512 * i..512 * i + 512], &mut room[at..end]);
         at = end;
         i += 1;
     }
@@ -65,7 +65,7 @@ pub fn store_blocks(list: &[u8], k: usize, room: &mut [u8])
     let mut i: usize = 0;
     while i < k {
         let end = lower(500 * i + 500, list.len());
-        journal_block::store_block(
+        journal_calls::store_block(
             &list[500 * i..end],
             i as u16,
             &mut room[512 * i..512 * i + 512],

@@ -5,10 +5,10 @@ use mathlib.Core.Path.{_≡_, ap, _∙_}
 use native.Mathlib.Omega.{arith}
 use lib.ListN.{length, take, drop}
 use lib.Seq.{take-at}
-use Rattle.journal.proofs.Keep.{Writable, writable}
+use Rattle.journal_write.proofs.Keep.{Writable, writable}
 use Rattle.journal.specs.Journal.{callCount}
-use Rattle.journal.specs.Keep.{keep, keepInto}
-use Rattle.journal.specs.declared.Kept.{Kept}
+use Rattle.journal_write.specs.Keep.{keep, keepInto}
+use Rattle.journal_write.specs.declared.Kept.{Kept}
 use Rattle.journal_blocks.proofs.Journal.{journal-long}
 use Rattle.journal_blocks.specs.Journal.{journalOf}
 

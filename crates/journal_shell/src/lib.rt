@@ -1,10 +1,10 @@
 // What the desk does with journals: read, have the text and the journal made, put it on file, print. Nothing here decides anything of the rules. A file is
 // written by `put_on_file` alone, which is lent the list that was read and its journal.
 ghost use mathlib.Core.Path.{_≡_};
-ghost use Rattle.journal.specs.Keep.{keep};
+ghost use Rattle.journal_write.specs.Keep.{keep};
 ghost use Rattle.journal_blocks.specs.Journal.{journalOf};
 use files::Fetched;
-use journal::Kept;
+use journal_write::Kept;
 use text::Typed;
 
 // Puts the journal of a list on file, and no other bytes.
@@ -26,7 +26,7 @@ fn tell(list: &[u8], kept: Kept)
 // Keeps a list under the name that an argument gives.
 fn keep_list(list: &[u8], name: usize) {
     let mut journal = [0u8; 16896];
-    let kept = journal::write(list, &mut journal);
+    let kept = journal_write::write(list, &mut journal);
     let Kept::Blocks(k) = kept else {
         tell(list, kept);
         return;

@@ -5,9 +5,9 @@ use mathlib.Core.Path.{_≡_, refl, sym, ap, subst}
 use native.Mathlib.Omega.{arith}
 use lib.ListN.{length}
 use Rattle.journal.proofs.Checking.{Whole, whole, taken}
-use Rattle.journal.proofs.Keep.{Writable, writable}
+use Rattle.journal_write.proofs.Keep.{Writable, writable}
 use Rattle.journal.specs.Journal.{callCount, journalCheck}
-use Rattle.journal.specs.Keep.{keepCheck, toKept, keep}
+use Rattle.journal_write.specs.Keep.{keepCheck, toKept, keep}
 use Rattle.journal_blocks.proofs.Journal.{journal-long, list-written, written-sound}
 use Rattle.journal_blocks.specs.Journal.{blocksIn, blocksFor, journalBlocksCheck, listOf, journalOf}
 use Rattle.journal_text.specs.JournalText.{keptLines, journalText, keptText}

@@ -5,11 +5,11 @@ use mathlib.Core.Path.{_≡_, refl}
 use native.Mathlib.Omega.{arith}
 use lib.ListN.{length}
 use Rattle.journal.proofs.Checking.{Whole, whole, answer-refused}
-use Rattle.journal.proofs.Keep.{kept-taken, kept-stopped}
+use Rattle.journal_write.proofs.Keep.{kept-taken, kept-stopped}
 use Rattle.journal.specs.Journal.{callCount, journalCheck, check}
-use Rattle.journal.specs.Keep.{keepCheck, keep}
+use Rattle.journal_write.specs.Keep.{keepCheck, keep}
 use Rattle.journal.specs.declared.Checked.{Checked}
-use Rattle.journal.specs.declared.Kept.{Kept}
+use Rattle.journal_write.specs.declared.Kept.{Kept}
 use Rattle.journal_blocks.specs.Journal.{blocksIn, blocksFor, listOf}
 use Rattle.journal_text.specs.JournalText.{keptLines, journalText, keptText}
 use Rattle.refusal_lines.specs.Refused.{explained}

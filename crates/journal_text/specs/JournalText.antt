@@ -4,7 +4,7 @@ use mathlib.Core.List.{List, _++_}
 use lib.ListN.{length}
 use Rattle.check_text.specs.Table.{unless}
 use Rattle.journal.specs.Journal.{callCount, journalCheck}
-use Rattle.journal.specs.Keep.{keepCheck}
+use Rattle.journal_write.specs.Keep.{keepCheck}
 use Rattle.journal_blocks.specs.Journal.{blocksIn, blocksFor, listOf}
 use Rattle.lines.specs.Lines.{line}
 use Rattle.refusal_lines.specs.Refused.{explained}

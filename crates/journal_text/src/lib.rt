@@ -3,12 +3,12 @@ ghost use mathlib.Core.Path.{_≡_};
 ghost use Prim.Native.Nat.{_≤_};
 ghost use lib.ListN.{length};
 ghost use Rattle.io.specs.Counts.{Counts};
-ghost use Rattle.journal.specs.Keep.{keep};
+ghost use Rattle.journal_write.specs.Keep.{keep};
 ghost use Rattle.text.specs.Written.{Writes};
 ghost use Rattle.journal_text.specs.JournalText.{keptLines, journalText, keptText};
 use check_text::ROOM;
 use journal::Checked;
-use journal::Kept;
+use journal_write::Kept;
 
 // `blocks K` and `calls N`
 fn put_counts(room: &mut [u8], blocks: u64, calls: u64) -> usize

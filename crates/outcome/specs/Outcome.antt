@@ -4,7 +4,7 @@ use mathlib.Core.List.{List, _++_}
 use lib.ListN.{length, getD}
 use Rattle.ground.specs.Pieces.{cat}
 use Rattle.lines.specs.Lines.{line}
-use Rattle.register.specs.Register.{stateLines}
+use Rattle.state_lines.specs.State.{stateLines}
 use Rattle.text.specs.Text.{ascii, decimal, mask}
 
 -- `call I A`: A is call I's answer in the last pass

@@ -50,6 +50,6 @@ pub fn put_run(
     let at = lines::line_decimal(room, 0, b"sites ", n as u64);
     let at = lines::line_mask(room, at, b"faulty ", faulty);
     let at = lines::line_decimal(room, at, b"passes ", passes);
-    let at = register::put_state(room, at, n, state);
+    let at = state_lines::put_state(room, at, n, state);
     put_calls(room, at, answers)
 }

@@ -3,10 +3,10 @@ use Prim.Native.Nat.{ℕ}
 use mathlib.Core.List.{List, []}
 use mathlib.Core.Path.{sym, ap, subst, _∙_}
 use native.Mathlib.Omega.{arith}
-use Rattle.journal.proofs.Reading.{no-block}
-use Rattle.journal.proofs.Theorems.{reader-gives}
-use Rattle.journal.specs.Next.{next}
-use Rattle.journal.specs.Theorems.{Gives}
+use Rattle.journal_next.proofs.Reading.{no-block}
+use Rattle.journal_next.proofs.Theorems.{reader-gives}
+use Rattle.journal_next.specs.Next.{next}
+use Rattle.journal_next.specs.Theorems.{Gives}
 use Rattle.journal_blocks.specs.Journal.{listOf}
 use Rattle.reader.proofs.Part.{all-of-it, none-of-it}
 use Rattle.reader.specs.Reader.{OpenGives, RefusedGivesNone}

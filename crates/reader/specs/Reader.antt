@@ -4,10 +4,10 @@ use Prim.Native.Nat.{ℕ}
 use mathlib.Core.List.{List, []}
 use mathlib.Core.Path.{_≡_}
 use Rattle.journal.specs.Journal.{check}
-use Rattle.journal.specs.Next.{next}
-use Rattle.journal.specs.Theorems.{Gives}
+use Rattle.journal_next.specs.Next.{next}
+use Rattle.journal_next.specs.Theorems.{Gives}
 use Rattle.journal.specs.declared.Checked.{Checked}
-use Rattle.journal.specs.declared.Next.{Next}
+use Rattle.journal_next.specs.declared.Next.{Next}
 use Rattle.journal_blocks.specs.Journal.{listOf}
 use Rattle.refusals.specs.declared.Refusal.{Refusal}
 

@@ -1,9 +1,9 @@
-// A reader that holds the journal and its place, and gives one call at a time. The work is done by `journal::next_at`, on a slice and a number.
+// A reader that holds the journal and its place, and gives one call at a time. The work is done by `journal_next::next_at`, on a slice and a number.
 ghost use mathlib.Core.Path.{_≡_};
-ghost use Rattle.journal.specs.Next.{next};
+ghost use Rattle.journal_next.specs.Next.{next};
 ghost use Rattle.reader.specs.Reader.{soundPart};
 use journal::Checked;
-use journal::Next;
+use journal_next::Next;
 
 // The journal, and the place of the next call, counted in calls from 0.
 pub struct Reader<'a> {
@@ -39,7 +39,7 @@ pub fn open<'a>(journal: &'a [u8]) -> Reader<'a>
 pub fn next<'a>(r: Reader<'a>) -> Next
     ensures { λ s. ⌜ s ≡ next (now (r .entry .src)) (r .entry .at) ⌝ }
 {
-    journal::next_at(r.src, r.at)
+    journal_next::next_at(r.src, r.at)
 }
 
 // The same reader at another place.

@@ -1,26 +1,13 @@
--- The lines of a state: its masks, and the register's line of each site.
+-- The register's line of each site.
 use Prim.Native.Nat.{ℕ}
 use mathlib.Core.Bool.{cond}
 use mathlib.Core.List.{List, _++_}
 use lib.Dec.{eqb}
-use Rattle.ground.specs.Pieces.{cat}
-use Rattle.lines.specs.Lines.{line, sides}
+use Rattle.lines.specs.Lines.{line}
 use Rattle.mark.specs.Mark.{mark as markOf}
 use Rattle.text.specs.Text.{ascii, decimal}
-use Rattle.rules.specs.State.{get, voted, accepted, confirmed}
 
 -- `site V drill` where the site's mark is 1, else `site V live`
 unfoldable pub siteLine : ℕ → ℕ → ℕ → List ℕ
 unfolding line decimal markOf
 siteLine drill live v = line (ascii "site ") (decimal v ++ cond (eqb (markOf v drill live) 1) (ascii " drill") (ascii " live"))
-
--- drill, then live, of each mask; then one line a site
-unfoldable pub stateLines : ℕ → List ℕ → List ℕ
-unfolding sides siteLine cat
-stateLines n s =
-    let drill = get s (confirmed n 0) in
-    let live = get s (confirmed n 1) in
-    sides (ascii "voted ") (get s (voted n 0)) (get s (voted n 1))
-    ++ (sides (ascii "accepted ") (get s (accepted n 0)) (get s (accepted n 1))
-    ++ (sides (ascii "confirmed ") drill live
-    ++ cat (siteLine drill live) n))

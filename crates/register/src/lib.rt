@@ -1,11 +1,10 @@
-// The lines of a state: its masks, and each site's line for the register.
+// Each site's line for the register.
 ghost use mathlib.Core.Path.{_≡_};
 ghost use Prim.Native.Nat.{_+_, _*_, _≤_};
 ghost use lib.ListN.{length};
 ghost use Rattle.ground.specs.Pieces.{cat};
-ghost use Rattle.rules.specs.State.{width};
 ghost use Rattle.text.specs.Written.{Writes};
-ghost use Rattle.register.specs.Register.{siteLine, stateLines};
+ghost use Rattle.register.specs.Register.{siteLine};
 
 // `site V drill` or `site V live`, by the mark.
 fn put_site(room: &mut [u8], at: usize, v: u64, drill: u64, live: u64) -> usize
@@ -21,7 +20,7 @@ fn put_site(room: &mut [u8], at: usize, v: u64, drill: u64, live: u64) -> usize
 }
 
 // The line of each site.
-fn put_sites(room: &mut [u8], at: usize, n: u64, drill: u64, live: u64) -> usize
+pub fn put_sites(room: &mut [u8], at: usize, n: u64, drill: u64, live: u64) -> usize
     requires { ⌜ at + 32 * n ≤ length (now room) ⌝ }
     ensures { λ r. ⌜ Writes (cat (siteLine drill live) n) (now (room .entry)) at r (now (room .exit)) ⌝ }
 {
@@ -32,20 +31,4 @@ fn put_sites(room: &mut [u8], at: usize, n: u64, drill: u64, live: u64) -> usize
         v += 1;
     }
     end
-}
-
-// The masks of a state, and the line of each site.
-pub fn put_state(room: &mut [u8], at: usize, n: usize, state: &[u64]) -> usize
-    requires { ⌜ at + 130 + 32 * n ≤ length (now room) ⌝ }
-    requires { ⌜ length (now state) ≡ width n ⌝ }
-    requires { ⌜ n ≤ 64 ⌝ }
-    ensures { λ r. ⌜ Writes (stateLines n (now (state .entry))) (now (room .entry)) at r (now (room .exit)) ⌝ }
-{
-    let base = places::voted(n, 0);
-    let drill = state[base + 4];
-    let live = state[base + 5];
-    let at = lines::line_sides(room, at, b"voted ", state[base], state[base + 1]);
-    let at = lines::line_sides(room, at, b"accepted ", state[base + 2], state[base + 3]);
-    let at = lines::line_sides(room, at, b"confirmed ", drill, live);
-    put_sites(room, at, n as u64, drill, live)
 }

@@ -2,7 +2,7 @@
 use Prim.Native.Nat.{ℕ}
 use mathlib.Core.List.{List}
 use mathlib.Core.Path.{_≡_}
-use Rattle.journal.specs.Keep.{keepCheck}
+use Rattle.journal_write.specs.Keep.{keepCheck}
 use Rattle.journal_blocks.specs.Journal.{journalOf}
 use Rattle.refusals.specs.declared.Check.the-variants.{Sound}
 use Rattle.replay_text.specs.Replay.{replayText}

@@ -10,10 +10,6 @@ use Rattle.said.proofs.reading.Kinds as reading-kinds
 use Rattle.said.proofs.reading.Reads as reading-reads
 use Rattle.said.proofs.writing.Kinds as writing-kinds
 use Rattle.said.proofs.writing.Reads as writing-reads
-use Rattle.said.proofs.stepped.Kinds as stepped-kinds
-use Rattle.said.proofs.stepped.Reads as stepped-reads
-use Rattle.said.proofs.ran.Kinds as ran-kinds
-use Rattle.said.proofs.ran.Reads as ran-reads
 
 pub check-coincide : All check-kinds.ps check-kinds.r (List ℕ) (λ κs s. now (s .1 .0)) check-reads.Post
 check-coincide κs a x y s t p q = (p .0 ∙ sym (q .0), p .1 ∙ sym (q .1))
@@ -23,9 +19,3 @@ reading-coincide κs a x y s t p q = (p .0 ∙ sym (q .0), p .1 ∙ sym (q .1))
 
 pub writing-coincide : All writing-kinds.ps writing-kinds.r (List ℕ) (λ κs s. now (s .1 .0)) writing-reads.Post
 writing-coincide κs a x y s t p q = (p .0 ∙ sym (q .0), p .1 ∙ sym (q .1))
-
-pub stepped-coincide : All stepped-kinds.ps stepped-kinds.r (List ℕ) (λ κs s. now (s .1 .0)) stepped-reads.Post
-stepped-coincide κs a x y s t p q = (p .0 ∙ sym (q .0), p .1 ∙ sym (q .1))
-
-pub ran-coincide : All ran-kinds.ps ran-kinds.r (List ℕ) (λ κs s. now (s .1 .0)) ran-reads.Post
-ran-coincide κs a x y s t p q = (p .0 ∙ sym (q .0), p .1 ∙ sym (q .1))

@@ -1,11 +1,9 @@
-// An answer of the library as a call says it, but for those about sets: its number is answered, and its place and values are written to `out`.
+// An answer about tables and images as a call says it, or of a check: its number is answered, and its place and values are written to `out`.
 ghost use mathlib.Core.Path.{_≡_};
-ghost use Rattle.said.specs.Said.{ofCheck, ofReading, ofWriting, ofStepped, ofRan};
+ghost use Rattle.said.specs.Said.{ofCheck, ofReading, ofWriting};
 use image::Reading;
 use image_write::Writing;
 use refusals::Check;
-use run::Ran;
-use voting::Stepped;
 
 pub fn check(answer: Check, out: &mut [u64; 4]) -> u64
     ensures answer { λ r. ⌜ r ≡ ofCheck answer .number ⌝ }
@@ -34,25 +32,5 @@ pub fn writing(answer: Writing, out: &mut [u64; 4]) -> u64
     match answer {
         Writing::Sites(n) => telling::give(out, n, 0, 0),
         Writing::Refused(r) => telling::refuse(out, r),
-    }
-}
-
-pub fn stepped(answer: Stepped, out: &mut [u64; 4]) -> u64
-    ensures answer { λ r. ⌜ r ≡ ofStepped answer .number ⌝ }
-    ensures memory { λ r. ⌜ now (out .exit) ≡ ofStepped answer .out ⌝ }
-{
-    match answer {
-        Stepped::Taken => telling::give(out, 0, 0, 0),
-        Stepped::Refused(r) => telling::refuse(out, r),
-    }
-}
-
-pub fn ran(answer: Ran, out: &mut [u64; 4]) -> u64
-    ensures answer { λ r. ⌜ r ≡ ofRan answer .number ⌝ }
-    ensures memory { λ r. ⌜ now (out .exit) ≡ ofRan answer .out ⌝ }
-{
-    match answer {
-        Ran::Passes(passes) => telling::give(out, passes, 0, 0),
-        Ran::Refused(r) => telling::refuse(out, r),
     }
 }

@@ -3,9 +3,9 @@ ghost use mathlib.Core.Path.{_≡_};
 ghost use Prim.Native.Nat.{_+_, _*_};
 ghost use Rattle.said_journal.specs.Said.{ofChecked, ofKept, ofListed, ofNext, ofTaken};
 use journal::Checked;
-use journal::Kept;
 use journal::Listed;
-use journal::Next;
+use journal_next::Next;
+use journal_write::Kept;
 
 pub fn checked(answer: Checked, out: &mut [u64; 4]) -> u64
     ensures answer { λ r. ⌜ r ≡ ofChecked answer .number ⌝ }

@@ -1,89 +1,14 @@
-// Number 18: a state that the rules do not explain.
+// Number 18: a state that the rules do not explain, as a whole.
 ghost use mathlib.Core.Path.{_≡_};
-ghost use Prim.Native.Nat.{_<_, _≤_};
+ghost use Prim.Native.Nat.{_≤_};
 ghost use mathlib.Core.Bool.{not};
 ghost use lib.ListN.{length};
 ghost use Rattle.ground.specs.Search.{some};
 ghost use Rattle.masks.specs.Mask.{within, allBelow};
 ghost use Rattle.table.specs.Table.{Table};
 ghost use Rattle.sets.specs.Promises.{questions};
-ghost use Rattle.rules.specs.State.{width, get};
-ghost use Rattle.rules.specs.Sound.{badSide, badSite, unsound};
-ghost use Rattle.asking.specs.Inner.{Asked};
-
-// One site and one side. The rules are asked last: they cost most.
-fn is_bad_side(
-    table: &[u64],
-    n: usize,
-    faulty: u64,
-    state: &[u64],
-    v: usize,
-    side: usize,
-    asked: &mut [u64; 2],
-) -> bool
-    requires { ⌜ Table (now table) n ⌝ }
-    requires { ⌜ length (now state) ≡ width n ⌝ }
-    requires { ⌜ v < n ⌝ }
-    requires { ⌜ side < 2 ⌝ }
-    requires { ⌜ Asked (questions (now table)) n (now asked) ⌝ }
-    ensures { λ r. ⌜ r ≡ badSide (questions (now (table .entry))) n faulty (now (state .entry)) v side ⌝ }
-    ensures { λ r. ⌜ Asked (questions (now (table .entry))) n (now (asked .exit)) ⌝ }
-{
-    let votes = state[places::votes(side, v)];
-    let accepts = state[places::accepts(side, v)];
-    let voted = state[places::voted(n, side)];
-    let accepted = state[places::accepted(n, side)];
-    let confirmed = state[places::confirmed(n, side)];
-    if masks::has(faulty, v as u64) {
-        return clauses::is_not_zero(v, votes, accepts, voted, accepted, confirmed);
-    }
-    if clauses::is_not_own(v, votes, accepts, voted, accepted) {
-        return true;
-    }
-    if clauses::is_not_sent(faulty, votes, accepts, voted, accepted) {
-        return true;
-    }
-    clauses::is_not_rule(table, n, v, votes, accepts, accepted, confirmed, asked)
-}
-
-// One site, both sides.
-fn is_bad_site(
-    table: &[u64],
-    n: usize,
-    faulty: u64,
-    state: &[u64],
-    v: usize,
-    asked: &mut [u64; 2],
-) -> bool
-    requires { ⌜ Table (now table) n ⌝ }
-    requires { ⌜ length (now state) ≡ width n ⌝ }
-    requires { ⌜ v < n ⌝ }
-    requires { ⌜ Asked (questions (now table)) n (now asked) ⌝ }
-    ensures { λ r. ⌜ r ≡ badSite (questions (now (table .entry))) n faulty (now (state .entry)) v ⌝ }
-    ensures { λ r. ⌜ Asked (questions (now (table .entry))) n (now (asked .exit)) ⌝ }
-{
-    if is_bad_side(table, n, faulty, state, v, 0, asked) {
-        return true;
-    }
-    is_bad_side(table, n, faulty, state, v, 1, asked)
-}
-
-// Some site is bad.
-fn some_bad_site(table: &[u64], n: usize, faulty: u64, state: &[u64]) -> bool
-    requires { ⌜ Table (now table) n ⌝ }
-    requires { ⌜ length (now state) ≡ width n ⌝ }
-    ensures { λ r. ⌜ r ≡ some n (badSite (questions (now (table .entry))) n faulty (now (state .entry))) ⌝ }
-{
-    let mut asked = [0u64; 2];
-    let mut v: usize = 0;
-    while v < n {
-        if is_bad_site(table, n, faulty, state, v, &mut asked) {
-            return true;
-        }
-        v += 1;
-    }
-    false
-}
+ghost use Rattle.rules.specs.State.{get};
+ghost use Rattle.rules.specs.Sound.{unsound};
 
 // A bit at or above n in one of the state's numbers.
 fn some_bit_above(n: usize, state: &[u64]) -> bool
@@ -117,5 +42,5 @@ pub fn is_unsound(table: &[u64], n: usize, faulty: u64, state: &[u64]) -> bool
     if drill & live != 0 {
         return true;
     }
-    some_bad_site(table, n, faulty, state)
+    bad_sites::some_bad_site(table, n, faulty, state)
 }

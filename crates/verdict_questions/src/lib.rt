@@ -21,13 +21,13 @@ pub fn shared(table: &[u64]) -> Sharing
     if MOST < n {
         return Sharing::Refused(Refusal::Large);
     }
-    let first = verdicts::first_apart(table, n);
+    let first = shared_sites::first_apart(table, n);
     if first == masks::single(n as u64) {
         return Sharing::Meet;
     }
     Sharing::Apart {
         first,
-        second: verdicts::beside(table, n, first),
+        second: shared_sites::beside(table, n, first),
     }
 }
 
@@ -43,5 +43,5 @@ pub fn intact(table: &[u64], faulty: u64) -> Standing
     if MOST < n {
         return Standing::Refused(Refusal::Large);
     }
-    Standing::Intact(verdicts::intact(table, n, faulty))
+    Standing::Intact(intact_sites::intact(table, n, faulty))
 }

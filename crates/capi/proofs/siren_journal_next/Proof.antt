@@ -3,7 +3,7 @@ use borrow.Author.Needs.{needs}
 use denote.Ref.{now}
 use Rattle.journal.specs.Journal.{check}
 use Rattle.journal.specs.declared.Checked.{Checked}
-use Rattle.journal.specs.declared.Next.{Next}
+use Rattle.journal_next.specs.declared.Next.{Next}
 use Rattle.said_journal.specs.Said.{ofTaken}
 use Rattle.telling.proofs.Laws.{said}
 use Rattle.capi.proofs.siren_journal_next.Statement.{statement}

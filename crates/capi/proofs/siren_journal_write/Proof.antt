@@ -2,7 +2,7 @@
 use borrow.Author.Needs.{needs}
 use mathlib.Core.Path.{ap, _∙_}
 use denote.Ref.{now}
-use Rattle.journal.specs.Keep.{keepInto}
+use Rattle.journal_write.specs.Keep.{keepInto}
 use Rattle.said_journal.specs.Said.{ofKept}
 use Rattle.telling.proofs.Laws.{said}
 use Rattle.capi.proofs.siren_journal_write.Statement.{statement}

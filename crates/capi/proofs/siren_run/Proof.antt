@@ -1,7 +1,7 @@
 -- `siren_run` meets its contract: it says what the library answers, and the rooms are as the library leaves them.
 use borrow.Author.Needs.{needs}
 use denote.Ref.{now}
-use Rattle.capi.proofs.Laws.{run-said}
+use Rattle.said_votes.proofs.Laws.{run-said}
 use Rattle.capi.proofs.siren_run.Statement.{statement}
 use Rattle.capi.proofs.siren_run.Tie as tie
 

@@ -37,8 +37,8 @@ use denote.Triple.Table.{entered, cited}
 use denote.Triple.Walked.{Stays, stay-dropped, gave-slice, gave-ref, walkOf, goes-dropped, goes-gave-slice, goes-gave-ref, Walks, ends-at, walked, walk-meets}
 use denote.Triple.Clauses.{ensured, lasts}
 use denote.Exit.{yes}
-use Rattle.capi.specs.Run.{runSays, runState, runAnswers}
-use Rattle.said.specs.Said.{ofRan}
+use Rattle.said_votes.specs.Run.{runSays, runState, runAnswers}
+use Rattle.said_votes.specs.Said.{ofRan}
 use Rattle.packing.specs.Pack.{bytesOf}
 use Rattle.packing.specs.declared.Call.{Call}
 use Rattle.run.specs.Run.{ran, stateInto, answersInto}
@@ -51,11 +51,11 @@ use Rattle.records.proofs.run_records as run-records
 use Rattle.records.proofs.run_records.Symbol as run-records-def
 use Rattle.records.proofs.run_records.Symbol.{name as #records·run-records}
 use Rattle.records.proofs.run_records.Met as run-records-thm
-use Rattle.capi.proofs.Laws.{run-said}
-use Rattle.said.proofs.ran as say-ran
-use Rattle.said.proofs.ran.Symbol as say-ran-def
-use Rattle.said.proofs.ran.Symbol.{name as #said·ran}
-use Rattle.said.proofs.ran.Met as say-ran-thm
+use Rattle.said_votes.proofs.Laws.{run-said}
+use Rattle.said_votes.proofs.ran as say-ran
+use Rattle.said_votes.proofs.ran.Symbol as say-ran-def
+use Rattle.said_votes.proofs.ran.Symbol.{name as #said-votes·ran}
+use Rattle.said_votes.proofs.ran.Met as say-ran-thm
 use Rattle.capi.proofs.siren_run_records.Key.{name as #capi·siren-run-records}
 use Rattle.capi.proofs.siren_run_records as siren-run-records
 use Rattle.capi.proofs.siren_run_records.Statement as stated
@@ -160,7 +160,7 @@ module _ {M : Type 1} (𝓤 : URA M) (H : Heap 𝓤) (A : Atoms 𝓤) (W : Given
   abbrev Lasts-run : Type 0
   Lasts-run = Unit {0} × (Unit {0} × (Unit {0} × (List ℕ × (List ℕ × Unit {0}))))
 
-  -- the call of `said::ran`, at the answer r with the machine value w
+  -- the call of `said_votes::ran`, at the answer r with the machine value w
   abbrev to-say : Ran → Val → Say 𝓤 H A mem run .Ghost
   to-say r w = (((κ₄, tt), (q₄, tt), tt, (r, (o, tt)), (w ∷ [], (vo ∷ [], tt))), tt)
 
@@ -190,7 +190,7 @@ module _ {M : Type 1} (𝓤 : URA M) (H : Heap 𝓤) (A : Atoms 𝓤) (W : Given
       -- [true; the result; the last out; true; the last answers; true; the last state]
       move ! (2 ∷ 0 ∷ []) $ fjoin ! $ move ! (3 ∷ 0 ∷ []) $ fjoin ! $ move ! (4 ∷ 0 ∷ []) $ fjoin ! $ nothing ! $ fjoin ! $ nothing ! $ fjoin ! $ nothing ! $ fjoin ! $ frame ! $ keep ! (0 ∷ []) $ done !
 
-  module _ (C : Calls 𝓤 H) (Λ : Loops 𝓤 H) (fm : FmC 𝓤 H (W .laws) C) (known-run : Triple 𝓤 (C #records·run-records) (Run 𝓤 H A mem run)) (known-say : Triple 𝓤 (C #said·ran) (Say 𝓤 H A mem run)) where
+  module _ (C : Calls 𝓤 H) (Λ : Loops 𝓤 H) (fm : FmC 𝓤 H (W .laws) C) (known-run : Triple 𝓤 (C #records·run-records) (Run 𝓤 H A mem run)) (known-say : Triple 𝓤 (C #said-votes·ran) (Say 𝓤 H A mem run)) where
     walk : ent 𝓤 (onEntry 𝓤 H A siren-run-records.signature (κ₀, (κ₁, (κ₂, (κ₃, (κ₄, tt))))) (q₀, (q₁, (q₂, (q₃, (q₄, tt))))) x at) (WpFn 𝓤 H C Λ code.function (vt ∷ vF ∷ vc ∷ vs ∷ va ∷ vo ∷ []) Post)
     walk =
         qed W (Toks ∷ ‵ Owned ∷ []) ∵
@@ -227,7 +227,7 @@ module _ {M : Type 1} (𝓤 : URA M) (H : Heap 𝓤) (A : Atoms 𝓤) (W : Given
         -- [the answer; the tokens; the last answers; true; the last state; out; _12 at 6; …]
         land ! (from ! (stop !)) (init ! 16 refl (EL.lawful R.the-type R′.the-laws 𝓤 H A W tt .typed r _ is .0)) $
         assigns ! (addr ! (from ! (hop ! (look ! 18 refl) (stop !)))) (from ! (stop !)) (init ! 6 refl (tt, tt)) $
-        -- the call of `said::ran`
+        -- the call of `said_votes::ran`
         move ! (5 ∷ 0 ∷ []) $ use2 W (raw (Say 𝓤 H A mem run .pre (to-say r w))) (goes-say r w) $
         -- [what is asked; the tokens; the last answers; true; the last state; _12 at 5; …]
         calls-at ! fm (Say 𝓤 H A mem run) known-say (to-say r w) (and-then ! (load ! (from ! (stop !)) (look ! 15 refl)) (and-then ! (load ! (from ! (stop !)) (look ! 5 refl)) (no-more !))) (λ u.
@@ -244,7 +244,7 @@ module _ {M : Type 1} (𝓤 : URA M) (H : Heap 𝓤) (A : Atoms 𝓤) (W : Given
         by ! (exits r k u (zs .1 .1 .1 .0) (zs .1 .1 .1 .1 .0) (ys .1 .0) er es ea ek eo ls la)))))))))))))))))))))))))))))
 
 module _ {M : Type 1} (𝓤 : URA M) (H : Heap 𝓤) (A : Atoms 𝓤) (W : Given 𝓤 H A) (mem : Memory → SProp 𝓤) (run : Routine → Fun 𝓤) (𝓣 : Tables 𝓤 H)
-    (known-run : Triple 𝓤 (𝓣 .C #records·run-records) (Run 𝓤 H A mem run)) (known-say : Triple 𝓤 (𝓣 .C #said·ran) (Say 𝓤 H A mem run)) where
+    (known-run : Triple 𝓤 (𝓣 .C #records·run-records) (Run 𝓤 H A mem run)) (known-say : Triple 𝓤 (𝓣 .C #said-votes·ran) (Say 𝓤 H A mem run)) where
   walks : Walks 𝓤 H A siren-run-records.ended stayed (WpFn 𝓤 H (𝓣 .C) (𝓣 .Λ) code.function) (siren-run-records.clauses 𝓤 H A mem run)
   walks = walked 𝓤 H A siren-run-records.ended stayed (siren-run-records.clauses 𝓤 H A mem run) (WpFn 𝓤 H (𝓣 .C) (𝓣 .Λ) code.function)
       (λ κs. (slice-vals, (uint-vals w64, (slice-vals, (slice-vals, (slice-vals, (ptr-vals, tt)))))))
@@ -275,4 +275,4 @@ siren-run-records-spec 𝓤 H 𝓜 𝓖 𝓡 =
     (tables 𝓤 H 𝓜 𝓡 code.env .C) (tables 𝓤 H 𝓜 𝓡 code.env .Λ) #capi·siren-run-records code.function (code.unfolded 𝓤 H 𝓜 𝓡)
     (meets 𝓤 H (𝓖 .A) (givenOf 𝓤 H 𝓜 𝓖) (𝓜 .mem) (𝓡 .run) (tablesOf 𝓤 H 𝓜 (tables 𝓤 H 𝓜 𝓡 code.env))
     (cited 𝓤 H (Run 𝓤 H (𝓖 .A) (𝓜 .mem) (𝓡 .run)) 𝓜 𝓡 code.env #records·run-records run-records-def.routine code.calls-records·run-records (run-records-thm.met 𝓤 H 𝓜 𝓖 𝓡))
-    (cited 𝓤 H (Say 𝓤 H (𝓖 .A) (𝓜 .mem) (𝓡 .run)) 𝓜 𝓡 code.env #said·ran say-ran-def.routine code.calls-said·ran (say-ran-thm.met 𝓤 H 𝓜 𝓖 𝓡)))
+    (cited 𝓤 H (Say 𝓤 H (𝓖 .A) (𝓜 .mem) (𝓡 .run)) 𝓜 𝓡 code.env #said-votes·ran say-ran-def.routine code.calls-said-votes·ran (say-ran-thm.met 𝓤 H 𝓜 𝓖 𝓡)))

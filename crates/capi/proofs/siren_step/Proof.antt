@@ -2,7 +2,7 @@
 use borrow.Author.Needs.{needs}
 use mathlib.Core.Path.{ap, _∙_}
 use denote.Ref.{now}
-use Rattle.said.specs.Said.{ofStepped}
+use Rattle.said_votes.specs.Said.{ofStepped}
 use Rattle.telling.proofs.Laws.{said}
 use Rattle.capi.proofs.siren_step.Statement.{statement}
 use Rattle.capi.proofs.siren_step.Tie as tie

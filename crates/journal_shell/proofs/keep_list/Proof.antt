@@ -6,7 +6,7 @@ use borrow.Author.Needs.{needs}
 use denote.Ref.{now}
 use lib.ListN.{take}
 use lib.Seq.{length-take-le}
-use Rattle.journal.specs.Keep.{keepInto}
+use Rattle.journal_write.specs.Keep.{keepInto}
 use Rattle.journal_shell.proofs.Filed.{in-room, filed}
 use Rattle.journal_shell.proofs.keep_list.Statement.{statement}
 use Rattle.journal_shell.proofs.keep_list.Tie as tie

@@ -4,7 +4,7 @@ use borrow.Author.Needs.{needs}
 use denote.Ref.{now}
 use Rattle.lines.proofs.Chain.{three}
 use Rattle.lines.proofs.Lengths.{decimal-line, mask-line}
-use Rattle.register.proofs.Rows.{length-state}
+use Rattle.state_lines.proofs.State.{length-state}
 use Rattle.outcome.specs.Outcome.{endLines}
 use Rattle.text.specs.Text.{ascii}
 use Rattle.outcome.proofs.put_run.Statement.{statement}

@@ -1,0 +1,18 @@
+-- Two answers that meet a contract of this crate coincide.
+use mathlib.Core.Path.{sym, _∙_}
+use Rattle.ground.specs.Coincide.{Answers}
+use Rattle.shared_sites.proofs.beside.Kinds as beside-kinds
+use Rattle.shared_sites.proofs.beside.Reads as beside-reads
+use Rattle.shared_sites.proofs.first_apart.Kinds as first-apart-kinds
+use Rattle.shared_sites.proofs.first_apart.Reads as first-apart-reads
+use Rattle.shared_sites.proofs.search.first_apart.Kinds as search-first-apart-kinds
+use Rattle.shared_sites.proofs.search.first_apart.Reads as search-first-apart-reads
+
+pub beside-coincide : Answers beside-kinds.ps beside-kinds.r beside-reads.Post
+beside-coincide κs a x y s t p q = p ∙ sym q
+
+pub first-apart-coincide : Answers first-apart-kinds.ps first-apart-kinds.r first-apart-reads.Post
+first-apart-coincide κs a x y s t p q = p ∙ sym q
+
+pub search-first-apart-coincide : Answers search-first-apart-kinds.ps search-first-apart-kinds.r search-first-apart-reads.Post
+search-first-apart-coincide κs a x y s t p q = p ∙ sym q
