@@ -75,9 +75,9 @@ member s x =
     (record { line = s .line; n = s .n; v = s .v; q = bitOr (s .q) (single x); phase = More }))
 
 -- the first site of a group: "a 63rd group 4"
-unfoldable pub first : Spot → Bool → ℕ → Spot
+unfoldable pub firstMember : Spot → Bool → ℕ → Spot
 unfolding member
-first s full x = cond full (at s (Wrong (Rule (Groups (own (s .v)))))) (member s x)
+firstMember s full x = cond full (at s (Wrong (Rule (Groups (own (s .v)))))) (member s x)
 
 -- what a number does where something is expected, then `sites`, a colon, a bar, the end of a line
 abbrev pub numbered : Phase → Spot → Bool → ℕ → Spot
@@ -86,7 +86,7 @@ numbered Count s full x = many s x
 numbered Tail s full x = missed s
 numbered Owner s full x = owner s x
 numbered Mark s full x = missed s
-numbered First s full x = first s full x
+numbered First s full x = firstMember s full x
 numbered More s full x = member s x
 numbered (Wrong w) s full x = missed s
 

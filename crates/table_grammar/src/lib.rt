@@ -3,7 +3,7 @@ ghost use mathlib.Core.Bool.{Bool};
 ghost use mathlib.Core.Path.{_≡_};
 ghost use lib.Dec.{ltb};
 ghost use Prim.Native.Nat.{_+_, _^_, _≤_, _<_};
-ghost use Rattle.table_grammar.specs.Grammar.{at, own, nextLine, expected, missed, next, first, member, many, owner, numbered, sited, coloned, barred, lineEnd, told, Sane};
+ghost use Rattle.table_grammar.specs.Grammar.{at, own, nextLine, expected, missed, next, firstMember, member, many, owner, numbered, sited, coloned, barred, lineEnd, told, Sane};
 use refusals::Refusal;
 use table_words::Token;
 
@@ -33,7 +33,7 @@ pub enum Phase {
     Wrong(Why),
 }
 
-// The line ends passed, the number of sites, the site lines begun, the group so far, and what is expected next.
+// The line, counted from 1, the number of sites, the site lines begun, the group so far, and what is expected next.
 pub struct Spot {
     pub line: u64,
     pub n: u64,
@@ -172,9 +172,9 @@ fn member(s: Spot, x: u64) -> Spot
 }
 
 // The first site of a group.
-fn first(s: Spot, full: bool, x: u64) -> Spot
+fn first_member(s: Spot, full: bool, x: u64) -> Spot
     requires { ⌜ Sane s ⌝ }
-    ensures { λ r. ⌜ r ≡ first s full x ⌝ }
+    ensures { λ r. ⌜ r ≡ firstMember s full x ⌝ }
 {
     if full {
         return at(s, Phase::Wrong(Why::Rule(Refusal::Count(own(s.v)))));
@@ -194,7 +194,7 @@ fn numbered(s: Spot, full: bool, x: u64) -> Spot
         Phase::Tail => missed(s),
         Phase::Owner => owner(s, x),
         Phase::Mark => missed(s),
-        Phase::First => first(s, full, x),
+        Phase::First => first_member(s, full, x),
         Phase::More => member(s, x),
         Phase::Wrong(_) => missed(s),
     }

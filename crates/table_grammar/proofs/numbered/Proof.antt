@@ -5,7 +5,7 @@ use Rattle.table_grammar.specs.declared.Phase.{Phase}
 use borrow.Author.Needs.{needs}
 use Rattle.table_grammar.proofs.numbered.Statement.{statement}
 use Rattle.table_grammar.proofs.numbered.Tie as tie
-use Rattle.table_grammar.proofs.first.Reads as first-reads
+use Rattle.table_grammar.proofs.first_member.Reads as first-member-reads
 use Rattle.table_grammar.proofs.many.Reads as many-reads
 use Rattle.table_grammar.proofs.member.Reads as member-reads
 use Rattle.table_grammar.proofs.missed.Reads as missed-reads
@@ -27,7 +27,7 @@ returns-5 : tie.Need-returns-5
 returns-5 c = c .missed3 .ensures ∙ sym (ap (λ (z : Phase). numbered z (c .before .before .before .args .s) (c .before .before .before .args .full) (c .before .before .before .args .x)) (c .before .enum-told5 .given .1))
 
 returns-6 : tie.Need-returns-6
-returns-6 c = c .first .ensures ∙ sym (ap (λ (z : Phase). numbered z (c .before .before .before .args .s) (c .before .before .before .args .full) (c .before .before .before .args .x)) (c .before .enum-told6 .given .1))
+returns-6 c = c .first-member .ensures ∙ sym (ap (λ (z : Phase). numbered z (c .before .before .before .args .s) (c .before .before .before .args .full) (c .before .before .before .args .x)) (c .before .enum-told6 .given .1))
 
 returns-7 : tie.Need-returns-7
 returns-7 c = c .member .ensures ∙ sym (ap (λ (z : Phase). numbered z (c .before .before .before .args .s) (c .before .before .before .args .full) (c .before .before .before .args .x)) (c .before .enum-told7 .given .1))
