@@ -55,3 +55,8 @@ unfolding made madeOf
 leaves text room =
     let k = numbers (made text (length room)) in
     take k (madeOf text .table) ++ drop k room
+
+-- the table that a text is
+unfoldable pub tableIn : List ℕ → List ℕ
+unfolding answer madeOf
+tableIn text = take (numbers (answer (madeOf text .spot))) (madeOf text .table)
