@@ -1,11 +1,15 @@
 -- What may be printed: a text that the bytes of an input, or of files, have.
 use Prim.Native.Nat.{ℕ}
+use mathlib.Core.Bool.{true}
 use mathlib.Core.List.{List}
 use mathlib.Core.Path.{_≡_}
 use Rattle.check_text.specs.Table.{checkText}
 use Rattle.journal_text.specs.JournalText.{journalText, keptText}
 use Rattle.replay_text.specs.Replay.{replayText}
 use Rattle.verdict_sites.specs.Sites.{verdictSites}
+use Rattle.table_made.specs.Made.{made}
+use Rattle.table_text.specs.MakeText.{makeText, isAnswer}
+use Rattle.table_text.specs.ShowText.{showText}
 use Rattle.verdict_text.specs.Verdict.{verdictText, inputText}
 use Rattle.run_text.specs.Run.{runText}
 
@@ -18,3 +22,5 @@ pub data Said (text : List ℕ) : Type 0 where
   ofKept : (list : List ℕ) → text ≡ keptText list → Said text
   ofJournal : (journal : List ℕ) → text ≡ journalText journal → Said text
   ofReplay : (faulty : ℕ) (image journal : List ℕ) → text ≡ replayText faulty image journal → Said text
+  ofMake : (table : List ℕ) → isAnswer (made table 4032) ≡ true → text ≡ makeText table → Said text
+  ofShow : (image : List ℕ) → text ≡ showText image → Said text

@@ -1,10 +1,14 @@
 // What the programs print. Standard output is written by `say` alone, which has the text in hand and nothing else; it is called by the functions behind it,
 // and each of these is lent the bytes that were read.
+ghost use mathlib.Core.Bool.{true, false};
 ghost use mathlib.Core.Path.{_≡_};
 ghost use Rattle.check_text.specs.Table.{checkText};
 ghost use Rattle.journal_text.specs.JournalText.{journalText, keptText};
 ghost use Rattle.replay_text.specs.Replay.{replayText};
 ghost use Rattle.verdict_sites.specs.Sites.{verdictSites};
+ghost use Rattle.table_made.specs.Made.{made};
+ghost use Rattle.table_text.specs.MakeText.{makeText, isAnswer};
+ghost use Rattle.table_text.specs.ShowText.{showText};
 ghost use Rattle.verdict_text.specs.Verdict.{verdictText, inputText};
 ghost use Rattle.run_text.specs.Run.{runText};
 ghost use Rattle.printing.specs.Said.{Said};
@@ -70,4 +74,27 @@ pub fn say_replay(faulty: u64, image: &[u8], journal: &[u8], run: &[u8])
     requires { ⌜ now run ≡ replayText faulty (now image) (now journal) ⌝ }
 {
     say(run);
+}
+
+// Prints what is said of a text that is a table, or that has a group that is refused.
+pub fn say_make(table: &[u8], answer: &[u8])
+    requires { ⌜ isAnswer (made (now table) 4032) ≡ true ⌝ }
+    requires { ⌜ now answer ≡ makeText (now table) ⌝ }
+{
+    say(answer);
+}
+
+// Says on standard error what was expected in a text that is none.
+pub fn blame(table: &[u8], fault: &[u8])
+    requires { ⌜ isAnswer (made (now table) 4032) ≡ false ⌝ }
+    requires { ⌜ now fault ≡ makeText (now table) ⌝ }
+{
+    files::complain(fault);
+}
+
+// Prints the table that an image holds, as text.
+pub fn say_show(image: &[u8], shown: &[u8])
+    requires { ⌜ now shown ≡ showText (now image) ⌝ }
+{
+    say(shown);
 }

@@ -1,0 +1,40 @@
+-- `put_placed` meets its contract: one law for each way out.
+use mathlib.Core.Path.{_≡_, refl, sym, ap, _∙_}
+use native.Mathlib.Omega.{arith}
+use borrow.Author.Needs.{needs}
+use borrow.Author.Tests.{lt-ltb, le-ltb, eq-eqb, ne-eqb}
+use Rattle.table_shown.specs.Show.{placed}
+use Prim.Native.Nat.{ℕ, _+_, _-_, _*_, _≤_, _<_}
+use mathlib.Core.List.{List, []}
+use lib.Dec.{eqb}
+use lib.ListN.{length}
+use denote.Ref.{now}
+use Rattle.rows.specs.Site.{count, slice}
+use Rattle.table.specs.Table.{siteOf, Table}
+use Rattle.text.specs.Text.{decimal}
+use Rattle.text.specs.Written.{Writes}
+use Rattle.text.proofs.Width.{length-decimal}
+use Rattle.text.proofs.Written.{then, written-nothing}
+use Rattle.ground.specs.Pieces.{cat}
+use Rattle.table_shown.proofs.Laws.{as-text, more, cat-none, two-digits, length-member, length-group, length-placed, length-groups, length-row, bar, three, four}
+use Rattle.table_shown.proofs.put_placed.Statement.{statement}
+use Rattle.table_shown.proofs.put_placed.Tie as tie
+
+put-group-requires : tie.Need-put-group-requires
+put-group-requires c κs = omega (arith, c .before .before .before .put-bar .ensures .place, bar (eqb (c .before .before .before .before .before .before .before .before .args .k) 0))
+
+returns : tie.Need-returns
+unfolding placed
+returns c = then (c .before .before .before .before .before .before .put-bar .ensures) (c .before .before .put-group .ensures) (omega arith)
+
+pub put-placed-spec : {M : Type 1} → statement M
+put-placed-spec =
+    tie.close
+    (tie.spec
+    (λ c. search needs)
+    (λ c. search needs)
+    (λ c. search needs)
+    (λ c κs. search needs)
+    put-group-requires
+    (λ c. search needs)
+    returns)

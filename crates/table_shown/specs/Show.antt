@@ -1,0 +1,42 @@
+-- A table as text: `sites N`, then a line a site, its groups ascending as they stand in the table, their sites ascending.
+use Prim.Native.Nat.{ℕ}
+use mathlib.Core.Bool.{cond}
+use mathlib.Core.List.{List, [], _++_}
+use lib.Dec.{eqb}
+use lib.ListN.{length}
+use Rattle.ground.specs.Pieces.{cat}
+use Rattle.masks.specs.Mask.{has}
+use Rattle.table.specs.Table.{siteOf, sites}
+use Rattle.rows.specs.Site.{count, slice}
+use Rattle.text.specs.Text.{ascii, decimal}
+
+-- site u with a blank before it, if it is in the group q
+unfoldable pub member : ℕ → ℕ → List ℕ
+member q u = cond (has q u) (ascii " " ++ decimal u) []
+
+-- the sites of a group
+unfoldable pub group : ℕ → List ℕ
+unfolding cat member
+group q = cat (member q) 64
+
+-- group k of a site, parted from the one before
+unfoldable pub placed : List ℕ → ℕ → List ℕ
+unfolding group
+placed m k = cond (eqb k 0) [] (ascii " |") ++ group (slice m k)
+
+-- the line of site v, with its 63 numbers
+unfoldable pub row : ℕ → List ℕ → List ℕ
+unfolding cat placed
+row v m = decimal v ++ (ascii ":" ++ (cat (placed m) (count m) ++ ascii "\n"))
+
+-- the whole table
+unfoldable pub rows : List ℕ → ℕ → List ℕ
+unfolding cat row
+rows t n = cat (λ v. row v (siteOf t v)) n
+
+unfoldable pub head : ℕ → List ℕ
+head n = ascii "sites " ++ (decimal n ++ ascii "\n")
+
+unfoldable pub show : List ℕ → List ℕ
+unfolding head rows
+show t = head (sites (length t)) ++ rows t (sites (length t))

@@ -1,0 +1,121 @@
+// A table of groups, written as a person writes it.
+ghost use mathlib.Core.Path.{_≡_};
+ghost use mathlib.Core.Bool.{cond};
+ghost use mathlib.Core.List.{[]};
+ghost use Prim.Native.Nat.{_+_, _*_, _/_, _≤_, _<_};
+ghost use lib.Dec.{eqb};
+ghost use lib.ListN.{length};
+ghost use Rattle.ground.specs.Pieces.{cat};
+ghost use Rattle.refusals.specs.declared.Check.the-variants.{Sound};
+ghost use Rattle.rows.specs.Site.{count, slice};
+ghost use Rattle.table.specs.Table.{Table, check};
+ghost use Rattle.text.specs.Text.{ascii};
+ghost use Rattle.text.specs.Written.{Writes};
+ghost use Rattle.table_shown.specs.Show.{member, group, placed, row, rows, head, show};
+
+// Site u with a blank before it, if it is in the group.
+fn put_member(room: &mut [u8], at: usize, q: u64, u: u64) -> usize
+    requires { ⌜ (u < 64) × (at + 21 ≤ length (now room)) ⌝ }
+    ensures { λ r. ⌜ Writes (member q u) (now (room .entry)) at r (now (room .exit)) ⌝ }
+{
+    if masks::has(q, u) {
+        let at = text::put(room, at, b" ");
+        return text::put_decimal(room, at, u);
+    }
+    at
+}
+
+// The sites of a group.
+fn put_group(room: &mut [u8], at: usize, q: u64) -> usize
+    requires { ⌜ at + 210 ≤ length (now room) ⌝ }
+    ensures { λ r. ⌜ Writes (group q) (now (room .entry)) at r (now (room .exit)) ⌝ }
+{
+    let mut end = at;
+    let mut u: u64 = 0;
+    while u < 64 {
+        end = put_member(room, end, q, u);
+        u += 1;
+    }
+    end
+}
+
+// A bar before every group but the first.
+fn put_bar(room: &mut [u8], at: usize, k: usize) -> usize
+    requires { ⌜ at + 2 ≤ length (now room) ⌝ }
+    ensures { λ r. ⌜ Writes (cond (eqb k 0) [] (ascii " |")) (now (room .entry)) at r (now (room .exit)) ⌝ }
+{
+    if k == 0 {
+        return at;
+    }
+    text::put(room, at, b" |")
+}
+
+// Group k of a site.
+fn put_placed(room: &mut [u8], at: usize, m: &[u64], k: usize) -> usize
+    requires { ⌜ (length (now m) ≡ 63) × (k < 62) × (at + 212 ≤ length (now room)) ⌝ }
+    ensures { λ r. ⌜ Writes (placed (now (m .entry)) k) (now (room .entry)) at r (now (room .exit)) ⌝ }
+{
+    let q = m[1 + k];
+    let at = put_bar(room, at, k);
+    put_group(room, at, q)
+}
+
+// The first many groups of a site.
+fn put_groups(room: &mut [u8], at: usize, m: &[u64], many: usize) -> usize
+    requires { ⌜ (length (now m) ≡ 63) × (many ≤ 62) × (at + 12046 ≤ length (now room)) ⌝ }
+    ensures { λ r. ⌜ Writes (cat (placed (now (m .entry))) many) (now (room .entry)) at r (now (room .exit)) ⌝ }
+{
+    let mut end = at;
+    let mut k: usize = 0;
+    while k < many {
+        end = put_placed(room, end, m, k);
+        k += 1;
+    }
+    end
+}
+
+// The line of site v, with its 63 numbers.
+fn put_row(room: &mut [u8], at: usize, v: u64, m: &[u64]) -> usize
+    requires { ⌜ (length (now m) ≡ 63) × (count (now m) ≤ 62) × (v < 64) × (at + 12070 ≤ length (now room)) ⌝ }
+    ensures { λ r. ⌜ Writes (row v (now (m .entry))) (now (room .entry)) at r (now (room .exit)) ⌝ }
+{
+    let many = m[0] as usize;
+    let at = text::put_decimal(room, at, v);
+    let at = text::put(room, at, b":");
+    let at = put_groups(room, at, m, many);
+    text::put(room, at, b"\n")
+}
+
+// `sites N`
+fn put_head(room: &mut [u8], at: usize, n: u64) -> usize
+    requires { ⌜ at + 27 ≤ length (now room) ⌝ }
+    ensures { λ r. ⌜ Writes (head n) (now (room .entry)) at r (now (room .exit)) ⌝ }
+{
+    let at = text::put(room, at, b"sites ");
+    let at = text::put_decimal(room, at, n);
+    text::put(room, at, b"\n")
+}
+
+// The lines of the sites.
+fn put_rows(room: &mut [u8], at: usize, table: &[u64], n: usize) -> usize
+    requires { ⌜ (Table (now table) n) × (at + 770120 ≤ length (now room)) ⌝ }
+    ensures { λ r. ⌜ Writes (rows (now (table .entry)) n) (now (room .entry)) at r (now (room .exit)) ⌝ }
+{
+    let mut end = at;
+    let mut v: usize = 0;
+    while v < n {
+        end = put_row(room, end, v as u64, &table[63 * v..63 * v + 63]);
+        v += 1;
+    }
+    end
+}
+
+// A sound table as text at the start of a lent room: the answer is the text's length, and what stands behind it is kept.
+pub fn show(room: &mut [u8], table: &[u64]) -> usize
+    requires { ⌜ (check (now table) ≡ Sound) × (770147 ≤ length (now room)) ⌝ }
+    ensures { λ r. ⌜ Writes (show (now (table .entry))) (now (room .entry)) 0 r (now (room .exit)) ⌝ }
+{
+    let n = table.len() / 63;
+    let at = put_head(room, 0, n as u64);
+    put_rows(room, at, table, n)
+}

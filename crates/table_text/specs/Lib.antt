@@ -1,0 +1,2 @@
+pub mod MakeText
+pub mod ShowText
