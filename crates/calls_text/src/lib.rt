@@ -101,7 +101,8 @@ fn line_at(text: &[u8], at: usize, end: usize) -> Line
 }
 
 // Puts a call behind n bytes of calls.
-fn put_call(room: &mut [u8; 16384], n: usize, a: u8, b: u8, c: u8, d: u8) -> Took
+fn put_call(room: &mut [u8], n: usize, a: u8, b: u8, c: u8, d: u8) -> Took
+    requires { ⌜ length (now room) ≡ 16384 ⌝ }
     requires { ⌜ n ≤ 16384 ⌝ }
     requires { ⌜ n % 4 ≡ 0 ⌝ }
     ensures answer { λ r. ⌜ r ≡ tookOf (grown (take n (now (room .entry))) (Line.Call a b c d)) ⌝ }
@@ -118,7 +119,8 @@ fn put_call(room: &mut [u8; 16384], n: usize, a: u8, b: u8, c: u8, d: u8) -> Too
 }
 
 // Takes a line in.
-fn take(line: Line, room: &mut [u8; 16384], n: usize) -> Took
+fn take(line: Line, room: &mut [u8], n: usize) -> Took
+    requires { ⌜ length (now room) ≡ 16384 ⌝ }
     requires { ⌜ n ≤ 16384 ⌝ }
     requires { ⌜ n % 4 ≡ 0 ⌝ }
     ensures answer { λ r. ⌜ r ≡ tookOf (grown (take n (now (room .entry))) line) ⌝ }
