@@ -2,6 +2,8 @@
 use Prim.Native.Nat.{ℕ}
 use mathlib.Core.List.{List}
 use mathlib.Core.Path.{_≡_}
+use Rattle.calls_listed.specs.Listed.{listText}
+use Rattle.calls_said.specs.Faults.{madeText}
 use Rattle.check_text.specs.Table.{checkText}
 use Rattle.journal_text.specs.JournalText.{journalText, keptText}
 use Rattle.replay_text.specs.Replay.{replayText}
@@ -16,3 +18,5 @@ pub data Said (text : List ℕ) : Type 0 where
   ofKept : (list : List ℕ) → text ≡ keptText list → Said text
   ofJournal : (journal : List ℕ) → text ≡ journalText journal → Said text
   ofReplay : (faulty : ℕ) (image journal : List ℕ) → text ≡ replayText faulty image journal → Said text
+  ofMade : (words : List ℕ) → text ≡ madeText words → Said text
+  ofList : (list : List ℕ) → text ≡ listText list → Said text

@@ -1,6 +1,8 @@
 // What the programs print. Standard output is written by `say` alone, which has the text in hand and nothing else; it is called by the functions behind it,
 // and each of these is lent the bytes that were read.
 ghost use mathlib.Core.Path.{_≡_};
+ghost use Rattle.calls_listed.specs.Listed.{listText};
+ghost use Rattle.calls_said.specs.Faults.{madeText};
 ghost use Rattle.check_text.specs.Table.{checkText};
 ghost use Rattle.journal_text.specs.JournalText.{journalText, keptText};
 ghost use Rattle.replay_text.specs.Replay.{replayText};
@@ -62,4 +64,18 @@ pub fn say_replay(faulty: u64, image: &[u8], journal: &[u8], run: &[u8])
     requires { ⌜ now run ≡ replayText faulty (now image) (now journal) ⌝ }
 {
     say(run);
+}
+
+// Prints what is said of a text of calls.
+pub fn say_made(text: &[u8], said: &[u8])
+    requires { ⌜ now said ≡ madeText (now text) ⌝ }
+{
+    say(said);
+}
+
+// Prints a list of calls as text.
+pub fn say_list(list: &[u8], text: &[u8])
+    requires { ⌜ now text ≡ listText (now list) ⌝ }
+{
+    say(text);
 }
