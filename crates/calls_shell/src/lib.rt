@@ -12,33 +12,40 @@ fn put_on_file(text: &[u8], list: &[u8], name: usize) -> bool
     filing::put_new(b"desk calls TEXT CALLS", name, list)
 }
 
-// Says what became of a text, by the reader's answer: a fault in it goes to standard error.
+// Says what became of a text, by the reader's answer. Of a fault in it nothing is printed.
 fn tell(text: &[u8], made: Made)
     requires { ⌜ made ≡ readText (now text) .answer ⌝ }
 {
     let mut room = [0u8; 512];
-    if let Made::Fault(number, what) = made {
-        if what != 4 {
-            let end = calls_said::put_fault(&mut room, 0, number, what);
-            files::complain(&room[..end]);
-            return;
-        }
-    }
     let end = calls_said::made(made, &mut room);
     printing::say_made(text, &room[..end]);
+}
+
+// Says on standard error which line of a text is wrong, and what was expected there. A call too many is a refusal, which is printed.
+fn complain_of(number: u64, what: u8) {
+    if what == 4 {
+        return;
+    }
+    let mut room = [0u8; 512];
+    let end = calls_said::put_fault(&mut room, 0, number, what);
+    files::complain(&room[..end]);
 }
 
 // Makes the list of a text, under the name that an argument gives.
 fn make_list(text: &[u8], name: usize) {
     let mut list = [0u8; 16384];
     let made = calls_text::make(text, &mut list);
-    let Made::Bytes(n) = made else {
-        tell(text, made);
-        return;
-    };
-    let list = &list[..n];
-    if put_on_file(text, list, name) {
-        tell(text, made);
+    match made {
+        Made::Bytes(n) => {
+            let list = &list[..n];
+            if put_on_file(text, list, name) {
+                tell(text, made);
+            }
+        }
+        Made::Fault(number, what) => {
+            complain_of(number, what);
+            tell(text, made);
+        }
     }
 }
 
