@@ -3,6 +3,8 @@ use Prim.Native.Nat.{ℕ}
 use mathlib.Core.Bool.{true}
 use mathlib.Core.List.{List}
 use mathlib.Core.Path.{_≡_}
+use Rattle.calls_listed.specs.Listed.{listText}
+use Rattle.calls_said.specs.Faults.{madeText}
 use Rattle.check_text.specs.Table.{checkText}
 use Rattle.journal_text.specs.JournalText.{journalText, keptText}
 use Rattle.replay_text.specs.Replay.{replayText}
@@ -24,3 +26,5 @@ pub data Said (text : List ℕ) : Type 0 where
   ofReplay : (faulty : ℕ) (image journal : List ℕ) → text ≡ replayText faulty image journal → Said text
   ofMake : (table : List ℕ) → isAnswer (made table 4032) ≡ true → text ≡ makeText table → Said text
   ofShow : (image : List ℕ) → text ≡ showText image → Said text
+  ofMade : (words : List ℕ) → text ≡ madeText words → Said text
+  ofList : (list : List ℕ) → text ≡ listText list → Said text

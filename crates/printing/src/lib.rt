@@ -2,6 +2,8 @@
 // and each of these is lent the bytes that were read.
 ghost use mathlib.Core.Bool.{true, false};
 ghost use mathlib.Core.Path.{_≡_};
+ghost use Rattle.calls_listed.specs.Listed.{listText};
+ghost use Rattle.calls_said.specs.Faults.{madeText};
 ghost use Rattle.check_text.specs.Table.{checkText};
 ghost use Rattle.journal_text.specs.JournalText.{journalText, keptText};
 ghost use Rattle.replay_text.specs.Replay.{replayText};
@@ -97,4 +99,18 @@ pub fn say_show(image: &[u8], shown: &[u8])
     requires { ⌜ now shown ≡ showText (now image) ⌝ }
 {
     say(shown);
+}
+
+// Prints what is said of a text of calls.
+pub fn say_made(text: &[u8], said: &[u8])
+    requires { ⌜ now said ≡ madeText (now text) ⌝ }
+{
+    say(said);
+}
+
+// Prints a list of calls as text.
+pub fn say_list(list: &[u8], text: &[u8])
+    requires { ⌜ now text ≡ listText (now list) ⌝ }
+{
+    say(text);
 }

@@ -1,0 +1,1 @@
+// What is proved of calls as text, both ways; no code.

@@ -1,0 +1,4 @@
+pub mod Cuts
+pub mod Room
+pub mod Right
+pub mod Coincide
