@@ -21,7 +21,7 @@ use Rattle.le.specs.Le.{Bytes}
 use Rattle.refusals.proofs.First.{first-all, first-sound}
 use Rattle.refusals.specs.declared.Check.the-variants.{Sound}
 use Rattle.site_block.proofs.Block.{block-sound}
-use Rattle.site_block.proofs.OneSite.{load-store, store-check, store-load}
+use Rattle.site_write.proofs.OneSite.{load-store, store-check, store-load}
 use Rattle.site_block.specs.Block.{blockCheck, load, store}
 use Rattle.rows.specs.Site.{siteCheck}
 use Rattle.table.proofs.Exact.{checked-sites}

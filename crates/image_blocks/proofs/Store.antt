@@ -7,7 +7,7 @@ use lib.Seq.{take-at}
 use Rattle.ground.proofs.Pieces.{length-cat, fill-part, part-cat}
 use Rattle.ground.specs.Pieces.{cat, part}
 use Rattle.image_blocks.specs.Image.{stores}
-use Rattle.site_block.proofs.Store.{length-store}
+use Rattle.site_write.proofs.Store.{length-store}
 use Rattle.site_block.specs.Block.{store}
 use Rattle.table.specs.Table.{siteOf}
 

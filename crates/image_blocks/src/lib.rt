@@ -55,7 +55,7 @@ pub fn store_blocks(table: &[u64], n: usize, room: &mut [u8])
 {
     let mut i: usize = 0;
     while i < n {
-        site_block::store_block(
+        site_write::store_block(
             &table[63 * i..63 * i + 63],
             n as u64,
             i as u64,

@@ -8,14 +8,9 @@ use Rattle.site_block.proofs.check_block.Kinds as check-block-kinds
 use Rattle.site_block.proofs.check_block.Reads as check-block-reads
 use Rattle.site_block.proofs.load_block.Kinds as load-block-kinds
 use Rattle.site_block.proofs.load_block.Reads as load-block-reads
-use Rattle.site_block.proofs.store_block.Kinds as store-block-kinds
-use Rattle.site_block.proofs.store_block.Reads as store-block-reads
 
 pub check-block-coincide : Answers check-block-kinds.ps check-block-kinds.r check-block-reads.Post
 check-block-coincide κs a x y s t p q = p ∙ sym q
 
 pub load-block-coincide : All load-block-kinds.ps load-block-kinds.r (List ℕ) (λ κs s. now (s .1 .0)) load-block-reads.Post
 load-block-coincide κs a x y s t p q = (refl, p ∙ sym q)
-
-pub store-block-coincide : All store-block-kinds.ps store-block-kinds.r (List ℕ) (λ κs s. now (s .1 .1 .1 .0)) store-block-reads.Post
-store-block-coincide κs a x y s t p q = (refl, p ∙ sym q)

@@ -8,10 +8,10 @@ use denote.Ref.{now}
 use Rattle.ground.proofs.Logic.{is-false, clash}
 use Rattle.masks.proofs.Laws.Subsets.{mem}
 use Rattle.masks.specs.Mask.{has, _⊆_}
-use Rattle.rounds.specs.Inner.Places.{PlacesPassed}
+use Rattle.one_round.specs.Inner.Places.{PlacesPassed}
 use Rattle.sets.specs.Quorum.{round, largest}
 use Rattle.sets.specs.Slices.{slicesOf}
-use Rattle.rounds.proofs.Places.{passed-none, passed-less}
+use Rattle.one_round.proofs.Places.{passed-none, passed-less}
 use Rattle.sets.proofs.Quorum.{round-⊆, round-slice, smaller, largest-stop, largest-step, largest-⊆, largest-⊆-round}
 use Rattle.rounds.proofs.in_largest.Statement.{statement}
 use Rattle.rounds.proofs.in_largest.Tie as tie

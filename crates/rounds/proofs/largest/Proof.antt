@@ -6,10 +6,10 @@ use native.Mathlib.Omega.{arith}
 use lib.Count.{ones-le}
 use denote.Ref.{now}
 use Rattle.masks.specs.Mask.{_⊆_}
-use Rattle.rounds.specs.Inner.Places.{PlacesPassed}
+use Rattle.one_round.specs.Inner.Places.{PlacesPassed}
 use Rattle.sets.specs.Quorum.{round, largest, rounds}
 use Rattle.sets.specs.Slices.{slicesOf}
-use Rattle.rounds.proofs.Places.{passed-none, passed-less}
+use Rattle.one_round.proofs.Places.{passed-none, passed-less}
 use Rattle.sets.proofs.Quorum.{round-⊆, smaller, largest-stop, largest-step, rounds-stop, rounds-step, rounds-few}
 use Rattle.rounds.proofs.largest.Statement.{statement}
 use Rattle.rounds.proofs.largest.Tie as tie

@@ -12,7 +12,7 @@ use borrow.Author.Tests.{eqb-true, eqb-false, ltb-true, ltb-false}
 use Rattle.ground.proofs.Logic.{is-false, clash, cases}
 use Rattle.masks.proofs.Laws.Subsets.{within-⊆, ⊆-within, ⊆-trans}
 use Rattle.masks.specs.Mask.{within, _⊆_}
-use Rattle.rounds.specs.Inner.Places.{PlacesPassed}
+use Rattle.one_round.specs.Inner.Places.{PlacesPassed}
 use Rattle.table.specs.Table.{sliceOf}
 
 place-le : (places : List ℕ) (v k : ℕ) → getD (set places v k) v 0 ≤ k

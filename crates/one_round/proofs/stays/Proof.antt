@@ -9,11 +9,11 @@ use borrow.Author.Tests.{not-true, not-false}
 use denote.Ref.{now}
 use Rattle.masks.specs.Mask.{has}
 use Rattle.sets.proofs.Slices.{inside-found, inside-missed}
-use Rattle.rounds.proofs.Places.{passed-to, passed-more}
-use Rattle.rounds.proofs.stays.Statement.{statement}
+use Rattle.one_round.proofs.Places.{passed-to, passed-more}
+use Rattle.one_round.proofs.stays.Statement.{statement}
 use Rattle.table.proofs.Table.{count-at}
 use Rattle.table.specs.Table.{countOf}
-use Rattle.rounds.proofs.stays.Tie as tie
+use Rattle.one_round.proofs.stays.Tie as tie
 
 returns : tie.Need-returns
 returns c =

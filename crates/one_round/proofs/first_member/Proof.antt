@@ -2,9 +2,9 @@
 use Prim.Native.Nat.{_^_, _<_}
 use lib.Count.{trailing-le}
 use borrow.Author.Needs.{needs}
-use Rattle.rounds.proofs.Rounds.{first-member}
-use Rattle.rounds.proofs.first_member.Statement.{statement}
-use Rattle.rounds.proofs.first_member.Tie as tie
+use Rattle.one_round.proofs.Rounds.{first-member}
+use Rattle.one_round.proofs.first_member.Statement.{statement}
+use Rattle.one_round.proofs.first_member.Tie as tie
 
 cast-result : tie.Need-cast-result
 cast-result c = let l = trailing-le 64 (c .args .m) in search needs

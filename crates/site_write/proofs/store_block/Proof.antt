@@ -2,9 +2,9 @@
 use mathlib.Core.Path.{_∙_}
 use borrow.Author.Needs.{needs}
 use denote.Ref.{now}
-use Rattle.site_block.proofs.Store.{store-puts}
-use Rattle.site_block.proofs.store_block.Statement.{statement}
-use Rattle.site_block.proofs.store_block.Tie as tie
+use Rattle.site_write.proofs.Store.{store-puts}
+use Rattle.site_write.proofs.store_block.Statement.{statement}
+use Rattle.site_write.proofs.store_block.Tie as tie
 
 returns : tie.Need-returns
 returns c =

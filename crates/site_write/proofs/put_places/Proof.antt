@@ -6,10 +6,10 @@ use native.Mathlib.Omega.{arith}
 use lib.ListN.{length, take, drop}
 use borrow.Author.Needs.{needs}
 use denote.Ref.{now}
 use Rattle.site_block.specs.Block.{places}
-use Rattle.site_block.proofs.Store.{places-holds, places-again}
-use Rattle.site_block.proofs.put_places.Statement.{statement}
-use Rattle.site_block.proofs.put_places.Tie as tie
+use Rattle.site_write.proofs.Store.{places-holds, places-again}
+use Rattle.site_write.proofs.put_places.Statement.{statement}
+use Rattle.site_write.proofs.put_places.Tie as tie
 
 abbrev Inv-loop : tie.InvT-loop
 Inv-loop b₀ m k₀ b k = (k ≤ 62) × (length b ≡ 512) × (b ≡ (take 8 b₀ ++ places m k) ++ drop (8 + 8 * k) b₀)

@@ -4,11 +4,11 @@ use mathlib.Core.Path.{ap, _∙_}
 use lib.Seq.{sets}
 use borrow.Author.Needs.{needs}
 use denote.Ref.{now}
-use Rattle.site_block.proofs.Store.{head-puts}
-use Rattle.site_block.proofs.put_head.Statement.{statement}
+use Rattle.site_write.proofs.Store.{head-puts}
+use Rattle.site_write.proofs.put_head.Statement.{statement}
 use Rattle.le.specs.Le.{digits}
 use mathlib.Core.List.{List}
-use Rattle.site_block.proofs.put_head.Tie as tie
+use Rattle.site_write.proofs.put_head.Tie as tie
 
 returns : tie.Need-returns
 returns c =

@@ -8,12 +8,12 @@ use borrow.Author.Needs.{needs}
 use denote.Ref.{now}
 use Rattle.masks.proofs.Laws.Subsets.{⊆-trans, ∈-below, and-⊆-r, minus-⊆}
 use Rattle.masks.specs.Mask.{single, minus, allBelow, _∈_, _⊆_}
-use Rattle.rounds.specs.Inner.Places.{PlacesPassed}
+use Rattle.one_round.specs.Inner.Places.{PlacesPassed}
 use Rattle.sets.specs.Quorum.{round}
 use Rattle.sets.specs.Slices.{slicesOf}
-use Rattle.rounds.proofs.Rounds.{fewer, asked-none, asked-more, asked-all}
-use Rattle.rounds.proofs.round_from.Statement.{statement}
-use Rattle.rounds.proofs.round_from.Tie as tie
+use Rattle.one_round.proofs.Rounds.{fewer, asked-none, asked-more, asked-all}
+use Rattle.one_round.proofs.round_from.Statement.{statement}
+use Rattle.one_round.proofs.round_from.Tie as tie
 
 abbrev Inv-loop : tie.InvT-loop
 Inv-loop table n w places₀ stay₀ rest₀ places stay rest =

@@ -10,10 +10,10 @@ use Rattle.block.proofs.Seal.{seal-field, seal-sealed, sealed-seal}
 use Rattle.block.specs.Block.{seal, sealed}
 use Rattle.ground.proofs.Pieces.{length-cat, cat-ext, cat-split, cat-parts, cat-elements}
 use Rattle.ground.specs.Pieces.{cat, part}
 use Rattle.site_block.specs.Block.{siteField, sitesField, countField, zeroField, sliceField, blockCheck, load, head, places, body, store}
 use Rattle.site_block.proofs.Block.{right-head}
 use Rattle.site_block.proofs.Load.{load-count, load-slice}
-use Rattle.site_block.proofs.Store.{length-body}
+use Rattle.site_write.proofs.Store.{length-body}
 use Rattle.le.proofs.Laws.{number-digits, digits-field, field-front, field-at}
 use Rattle.le.specs.Le.{Bytes, digits, field}
 use Rattle.rows.specs.Site.{count, slice, siteCheck}
