@@ -10,7 +10,8 @@ ghost use Rattle.group_order.specs.Joined.{sift, joined, known};
 
 // The group is there already.
 pub fn known(q: u64, m: &[u64]) -> bool
-    requires { ⌜ (length (now m) ≡ 63) × (count (now m) ≤ 62) ⌝ }
+    requires { ⌜ length (now m) ≡ 63 ⌝ }
+    requires { ⌜ count (now m) ≤ 62 ⌝ }
     ensures { λ r. ⌜ r ≡ known q (now (m .entry)) ⌝ }
 {
     let many = m[0] as usize;
@@ -44,7 +45,8 @@ fn upper(a: u64, b: u64) -> u64
 
 // q goes through the first many numbers behind the count, and one number goes out behind them.
 fn sift(m: &mut [u64], q: u64, many: usize)
-    requires { ⌜ (length (now m) ≡ 63) × (many < 62) ⌝ }
+    requires { ⌜ length (now m) ≡ 63 ⌝ }
+    requires { ⌜ many < 62 ⌝ }
     ensures { λ r. ⌜ now (m .exit) ≡ take 1 (now (m .entry)) ++ (sift q (take many (drop 1 (now (m .entry)))) ++ drop (2 + many) (now (m .entry))) ⌝ }
 {
     let mut c = q;
@@ -60,7 +62,8 @@ fn sift(m: &mut [u64], q: u64, many: usize)
 
 // The row with one group more.
 pub fn join(m: &mut [u64], q: u64)
-    requires { ⌜ (length (now m) ≡ 63) × (count (now m) < 62) ⌝ }
+    requires { ⌜ length (now m) ≡ 63 ⌝ }
+    requires { ⌜ count (now m) < 62 ⌝ }
     ensures { λ r. ⌜ now (m .exit) ≡ joined q (now (m .entry)) ⌝ }
 {
     let many = m[0] as usize;

@@ -9,7 +9,7 @@ use Rattle.ground.proofs.Logic.{or-none}
 use Rattle.masks.specs.Mask.{has}
 use Rattle.table_words.specs.declared.Token.{Token}
 use Rattle.table_words.specs.declared.Token.the-variants.{Silence, Sites, Number, Colon, Bar, End, Strange}
-use Rattle.table_grammar.specs.Grammar.{Sane, at, missed, next, many, owner, member, firstMember, numbered, sited, coloned, barred, lineEnd, told}
+use Rattle.table_grammar.specs.Grammar.{Sane, at, missed, onward, many, owner, member, firstMember, numbered, sited, coloned, barred, lineEnd, spoken}
 use Rattle.table_grammar.specs.declared.Phase.{Phase}
 use Rattle.table_grammar.specs.declared.Phase.the-variants.{Head, Count, Tail, Owner, Mark, First, More, Wrong}
 use Rattle.table_grammar.specs.declared.Spot.{Spot}
@@ -43,7 +43,7 @@ stay s f = record { sane = f; line = omega arith }
 at-after : (s : Spot) (p : Phase) → Sane s → After 0 s (at s p)
 at-after s p f = record { sane = f; line = omega arith }
 
-next-after : (s : Spot) (p : Phase) → Sane s → After 1 s (next s p)
+next-after : (s : Spot) (p : Phase) → Sane s → After 1 s (onward s p)
 next-after s p f = record { sane = f; line = omega arith }
 
 missed-after : (s : Spot) → Sane s → After 0 s (missed s)
@@ -129,7 +129,7 @@ at-end First s f = missed-later s f
 at-end More s f = next-after s Owner f
 at-end (Wrong w) s f = missed-later s f
 
-pub told-after : (t : Token) (full : Bool) (s : Spot) → Sane s → After (ends t) s (told t full s)
+pub told-after : (t : Token) (full : Bool) (s : Spot) → Sane s → After (ends t) s (spoken t full s)
 told-after Silence full s f = stay s f
 told-after Sites full s f = in-sited (s .phase) s f
 told-after (Number x) full s f = in-numbered (s .phase) s full x f

@@ -51,8 +51,8 @@ unfoldable pub missed : Spot → Spot
 missed s = at s (Wrong (expected (s .phase) (ltb (s .v) (s .n))))
 
 -- the next line
-abbrev pub next : Spot → Phase → Spot
-next s p = record { line = s .line + 1; n = s .n; v = s .v; q = 0; phase = p }
+abbrev pub onward : Spot → Phase → Spot
+onward s p = record { line = s .line + 1; n = s .n; v = s .v; q = 0; phase = p }
 
 -- "N is 1 to 64"
 unfoldable pub many : Spot → ℕ → Spot
@@ -121,21 +121,21 @@ barred More s = at s First
 barred (Wrong w) s = missed s
 
 abbrev pub lineEnd : Phase → Spot → Spot
-lineEnd Head s = next s Head
+lineEnd Head s = onward s Head
 lineEnd Count s = missed s
-lineEnd Tail s = next s Owner
-lineEnd Owner s = next s Owner
+lineEnd Tail s = onward s Owner
+lineEnd Owner s = onward s Owner
 lineEnd Mark s = missed s
 lineEnd First s = missed s
-lineEnd More s = next s Owner
+lineEnd More s = onward s Owner
 lineEnd (Wrong w) s = missed s
 
 -- what a word does where it is heard; full says that the site whose line is read has 62 groups
-abbrev pub told : Token → Bool → Spot → Spot
-told Silence full s = s
-told Sites full s = sited (s .phase) s
-told (Number x) full s = numbered (s .phase) s full x
-told Colon full s = coloned (s .phase) s
-told Bar full s = barred (s .phase) s
-told End full s = lineEnd (s .phase) s
-told Strange full s = missed s
+abbrev pub spoken : Token → Bool → Spot → Spot
+spoken Silence full s = s
+spoken Sites full s = sited (s .phase) s
+spoken (Number x) full s = numbered (s .phase) s full x
+spoken Colon full s = coloned (s .phase) s
+spoken Bar full s = barred (s .phase) s
+spoken End full s = lineEnd (s .phase) s
+spoken Strange full s = missed s

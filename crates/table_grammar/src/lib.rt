@@ -3,7 +3,8 @@ ghost use mathlib.Core.Bool.{Bool};
 ghost use mathlib.Core.Path.{_≡_};
 ghost use lib.Dec.{ltb};
 ghost use Prim.Native.Nat.{_+_, _^_, _≤_, _<_};
-ghost use Rattle.table_grammar.specs.Grammar.{at, own, nextLine, expected, missed, next, firstMember, member, many, owner, numbered, sited, coloned, barred, lineEnd, told, Sane};
+ghost use Rattle.table_grammar.specs.Grammar.{at, own, nextLine, expected, missed, onward, firstMember, member, many, owner};
+ghost use Rattle.table_grammar.specs.Grammar.{numbered, sited, coloned, barred, lineEnd, spoken, Sane};
 use refusals::Refusal;
 use table_words::Token;
 
@@ -99,9 +100,9 @@ fn missed(s: Spot) -> Spot
 }
 
 // The next line.
-fn next(s: Spot, p: Phase) -> Spot
+fn onward(s: Spot, p: Phase) -> Spot
     requires { ⌜ s .line + 1 < 2 ^ 64 ⌝ }
-    ensures { λ r. ⌜ r ≡ next s p ⌝ }
+    ensures { λ r. ⌜ r ≡ onward s p ⌝ }
 {
     Spot {
         line: s.line + 1,
@@ -258,22 +259,22 @@ fn line_end(s: Spot) -> Spot
 {
     let p = s.phase;
     match p {
-        Phase::Head => next(s, Phase::Head),
+        Phase::Head => onward(s, Phase::Head),
         Phase::Count => missed(s),
-        Phase::Tail => next(s, Phase::Owner),
-        Phase::Owner => next(s, Phase::Owner),
+        Phase::Tail => onward(s, Phase::Owner),
+        Phase::Owner => onward(s, Phase::Owner),
         Phase::Mark => missed(s),
         Phase::First => missed(s),
-        Phase::More => next(s, Phase::Owner),
+        Phase::More => onward(s, Phase::Owner),
         Phase::Wrong(_) => missed(s),
     }
 }
 
 // What a word does where it is heard; full says that the site whose line is read has 62 groups.
-pub fn told(s: Spot, full: bool, t: Token) -> Spot
+pub fn spoken(s: Spot, full: bool, t: Token) -> Spot
     requires { ⌜ Sane s ⌝ }
     requires { ⌜ s .line + 1 < 2 ^ 64 ⌝ }
-    ensures { λ r. ⌜ r ≡ told t full s ⌝ }
+    ensures { λ r. ⌜ r ≡ spoken t full s ⌝ }
 {
     match t {
         Token::Silence => s,

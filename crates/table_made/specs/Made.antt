@@ -24,8 +24,8 @@ isWhole More more = false
 isWhole (Wrong why) more = false
 
 -- a table, or the first fault. Where the text ends too early every line was passed: the fault is in the line after its last
-unfoldable pub answer : Spot → Made
-answer s =
+unfoldable pub answerOf : Spot → Made
+answerOf s =
     cond (isWhole (s .phase) (ltb (s .v) (s .n)))
     (Sites (s .n))
     (Fault (s .line) (expected (s .phase) (ltb (s .v) (s .n))))
@@ -46,8 +46,8 @@ orShort room m = cond (ltb room (numbers m)) Room m
 
 -- the answer for a text and a room of so many numbers
 unfoldable pub made : List ℕ → ℕ → Made
-unfolding answer madeOf
-made text room = orShort room (answer (madeOf text .spot))
+unfolding answerOf madeOf
+made text room = orShort room (answerOf (madeOf text .spot))
 
 -- the room after it: the table in its first numbers and the rest kept; where there is none all is kept
 unfoldable pub leaves : List ℕ → List ℕ → List ℕ
@@ -58,5 +58,5 @@ leaves text room =
 
 -- the table that a text is
 unfoldable pub tableIn : List ℕ → List ℕ
-unfolding answer madeOf
-tableIn text = take (numbers (answer (madeOf text .spot))) (madeOf text .table)
+unfolding answerOf madeOf
+tableIn text = take (numbers (answerOf (madeOf text .spot))) (madeOf text .table)

@@ -3,7 +3,7 @@ ghost use mathlib.Core.List.{_++_};
 ghost use mathlib.Core.Path.{_≡_};
 ghost use Prim.Native.Nat.{_≤_};
 ghost use lib.ListN.{length, take, drop};
-ghost use Rattle.table_made.specs.Made.{isWhole, answer, numbers, made, leaves};
+ghost use Rattle.table_made.specs.Made.{isWhole, answerOf, numbers, made, leaves};
 use table_grammar::Phase;
 use table_grammar::Spot;
 use table_grammar::Why;
@@ -32,8 +32,8 @@ fn is_whole(p: Phase, more: bool) -> bool
 }
 
 // A table, or the fault and its line.
-fn answer(s: Spot) -> Made
-    ensures { λ r. ⌜ r ≡ answer s ⌝ }
+fn answer_of(s: Spot) -> Made
+    ensures { λ r. ⌜ r ≡ answerOf s ⌝ }
 {
     let p = s.phase;
     if is_whole(p, s.v < s.n) {
@@ -74,7 +74,7 @@ pub fn make(text: &[u8], room: &mut [u64]) -> Made
 {
     let mut t = [0u64; 4032];
     let s = table_reading::walk(text, &mut t);
-    let m = answer(s);
+    let m = answer_of(s);
     let k = numbers(m);
     if room.len() < k {
         return Made::Room;

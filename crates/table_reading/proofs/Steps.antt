@@ -25,13 +25,13 @@ use Rattle.table_words.specs.declared.Sign.the-variants.{Line, Note, Colon, Bar
 use Rattle.table_words.specs.declared.Sign.the-variants.{Return as Back}
 use Rattle.table_words.specs.declared.Token.{Token}
 use Rattle.table_words.specs.declared.Token.the-variants.{Sites, Strange}
-use Rattle.table_grammar.specs.Grammar.{Sane, at, own, told}
+use Rattle.table_grammar.specs.Grammar.{Sane, at, own, spoken}
 use Rattle.table_grammar.specs.declared.Phase.the-variants.{Wrong}
 use Rattle.table_grammar.specs.declared.Why.the-variants.{Rule}
 use Rattle.table_grammar.specs.declared.Spot.{Spot}
 use Rattle.table_grammar.proofs.Saneness.{After, ends, told-after}
 use Rattle.table_reading.specs.Groups.{groupCheck, closes, rowOf, checkOf, ruled, entered, spotAfter, tableAfter, judged, kept}
-use Rattle.table_reading.specs.Reading.{Here, here, full, heardAs, heard, read, start, finished, textRead}
+use Rattle.table_reading.specs.Reading.{Here, here, full, heardAs, hearing, readOn, start, finished, textRead}
 
 pub sane-eq : {r s : Spot} → r ≡ s → Sane s → Sane r
 sane-eq e f = subst (λ (x : Spot). Sane x) (sym e) f
@@ -63,7 +63,7 @@ module _ (s : Spot) (t : List ℕ) (u : ℕ) (p : Check) (o : u ≡ own (s .v)) 
       let z : checkOf s t ≡ Sound = sym same ∙ e in (
         sym (ap (λ (c : Check). ruled c s) z),
         rw (j, part-cut 63 u t, behind) (ap (λ (k : ℕ). take (63 * k) t ++ (joined (s .q) (part 63 k t) ++ drop (63 * k + 63) t)) o)
-        ∙ sym (ap (λ (c : Check). entered c s t) z),
+            ∙ sym (ap (λ (c : Check). entered c s t) z),
       )
 
   pub stops : (x : Spot) (r : Refusal) → p ≡ Refused r → x ≡ at s (Wrong (Rule r)) → (x ≡ spotAfter s t) × (t ≡ tableAfter s t)
@@ -138,7 +138,7 @@ judged-line s k t = pick (closes (s .phase) k)
     pick false = refl
 
 module _ (c : Sign) (w : Begun) (s s₁ s₂ : Spot) (t : List ℕ) (x : ℕ) (g : Bool) (k l : Token) (i : x ≡ own (s .v)) (j : g ≡ ltb 61 (getD t (63 * x) 0))
-    (ek : k ≡ ended c w) (e₁ : s₁ ≡ told k g s) (el : l ≡ said c) (f : Sane s) where
+    (ek : k ≡ ended c w) (e₁ : s₁ ≡ spoken k g s) (el : l ≡ said c) (f : Sane s) where
   pub sane₁ : Sane s₁
   sane₁ = sane-eq e₁ (told-after k g s f .sane)
 
@@ -151,65 +151,65 @@ module _ (c : Sign) (w : Begun) (s s₁ s₂ : Spot) (t : List ℕ) (x : ℕ) (g
   pub line₂ : s₂ ≡ judged s₁ l t → s₂ .line ≤ s .line
   line₂ e₂ = omega (arith, line₁, ap (λ (z : Spot). z .line) e₂, judged-line s₁ l t)
 
-  pub byte : (r : Spot) (u : List ℕ) → s₂ ≡ judged s₁ l t → u ≡ kept s₁ l t → r ≡ told l g s₂ → (r ≡ heardAs c w s t .0) × (u ≡ heardAs c w s t .1)
+  pub byte : (r : Spot) (u : List ℕ) → s₂ ≡ judged s₁ l t → u ≡ kept s₁ l t → r ≡ spoken l g s₂ → (r ≡ heardAs c w s t .0) × (u ≡ heardAs c w s t .1)
   unfolding heardAs
   byte r u e₂ e₃ e₄ =
       let m : g ≡ full s t = j ∙ ap (λ (y : ℕ). ltb 61 (getD t (63 * y) 0)) i in
-      let a : s₁ ≡ told (ended c w) (full s t) s = e₁ ∙ ap (λ (y : Token). told y g s) ek ∙ ap (λ (y : Bool). told (ended c w) y s) m in
-      let b : judged s₁ l t ≡ judged (told (ended c w) (full s t) s) (said c) t = ap (λ (y : Spot). judged y l t) a
-          ∙ ap (λ (y : Token). judged (told (ended c w) (full s t) s) y t) el in (
-        e₄ ∙ ap (λ (y : Token). told y g s₂) el ∙ ap (λ (y : Bool). told (said c) y s₂) m ∙ ap (told (said c) (full s t)) (e₂ ∙ b),
-        e₃ ∙ ap (λ (y : Spot). kept y l t) a ∙ ap (λ (y : Token). kept (told (ended c w) (full s t) s) y t) el,
+      let a : s₁ ≡ spoken (ended c w) (full s t) s = e₁ ∙ ap (λ (y : Token). spoken y g s) ek ∙ ap (λ (y : Bool). spoken (ended c w) y s) m in
+      let b : judged s₁ l t ≡ judged (spoken (ended c w) (full s t) s) (said c) t = ap (λ (y : Spot). judged y l t) a
+      ∙ ap (λ (y : Token). judged (spoken (ended c w) (full s t) s) y t) el in (
+        e₄ ∙ ap (λ (y : Token). spoken y g s₂) el ∙ ap (λ (y : Bool). spoken (said c) y s₂) m ∙ ap (spoken (said c) (full s t)) (e₂ ∙ b),
+        e₃ ∙ ap (λ (y : Spot). kept y l t) a ∙ ap (λ (y : Token). kept (spoken (ended c w) (full s t) s) y t) el,
       )
 
 -- a byte leaves the spot sane, one line further at most
 pub heard-after : (c : Sign) (w : Begun) (s : Spot) (t : List ℕ) → Sane s → Sane (heardAs c w s t .0) × (heardAs c w s t .0 .line ≤ s .line + 1)
 unfolding heardAs
 heard-after c w s t f =
-    let u = told (ended c w) (full s t) s in
+    let u = spoken (ended c w) (full s t) s in
     let a = told-after (ended c w) (full s t) s f in
     let b = told-after (said c) (full s t) (judged u (said c) t) (judged-sane u (said c) t (a .sane)) in
     (b .sane, omega (arith, a .line, b .line, judged-line u (said c) t, word-ends c w, sign-ends c))
 
 -- byte after byte: what is left to read gives what the whole text gives
-pub read-step : (h : Here) (text : List ℕ) (i : ℕ) → i < length text → read h (drop i text) ≡ read (heard h (getD text i 0)) (drop (i + 1) text)
-unfolding read
-read-step h text i l = ap (read h) (drop-cons text i 0 l) ∙ ap (λ (j : ℕ). read (heard h (getD text i 0)) (drop j text)) (sym (add-one i))
+pub read-step : (h : Here) (text : List ℕ) (i : ℕ) → i < length text → readOn h (drop i text) ≡ readOn (hearing h (getD text i 0)) (drop (i + 1) text)
+unfolding readOn
+read-step h text i l = ap (readOn h) (drop-cons text i 0 l) ∙ ap (λ (j : ℕ). readOn (hearing h (getD text i 0)) (drop j text)) (sym (add-one i))
 
-pub read-end : (h : Here) (text : List ℕ) (i : ℕ) → i ≡ length text → read h (drop i text) ≡ h
-unfolding read
-read-end h text i e = ap (λ (j : ℕ). read h (drop j text)) e ∙ ap (read h) (drop-length text)
+pub read-end : (h : Here) (text : List ℕ) (i : ℕ) → i ≡ length text → readOn h (drop i text) ≡ h
+unfolding readOn
+read-end h text i e = ap (λ (j : ℕ). readOn h (drop j text)) e ∙ ap (readOn h) (drop-length text)
 
 whole-step : (h : Here) (b : ℕ) (c : Sign) (w : Begun) (s : Spot) (t : List ℕ) → c ≡ signOf (h .word) b → w ≡ turn c (h .word) b
-    → s ≡ heardAs c (h .word) (h .spot) (h .table) .0 → t ≡ heardAs c (h .word) (h .spot) (h .table) .1 → here w s t ≡ heard h b
-unfolding heard
+    → s ≡ heardAs c (h .word) (h .spot) (h .table) .0 → t ≡ heardAs c (h .word) (h .spot) (h .table) .1 → here w s t ≡ hearing h b
+unfolding hearing
 whole-step h b c w s t e₁ e₂ e₃ e₄ = cc
 
-pub walk-step : (w w₂ : Begun) (s s₂ : Spot) (t t₂ text : List ℕ) (i b : ℕ) (c : Sign) (G : Here) → i < length text → read (here w s t) (drop i text) ≡ G
+pub walk-step : (w w₂ : Begun) (s s₂ : Spot) (t t₂ text : List ℕ) (i b : ℕ) (c : Sign) (G : Here) → i < length text → readOn (here w s t) (drop i text) ≡ G
     → b ≡ getD text i 0 → c ≡ signOf w b → s₂ ≡ heardAs c w s t .0 → t₂ ≡ heardAs c w s t .1 → w₂ ≡ turn c w b
-    → read (here w₂ s₂ t₂) (drop (i + 1) text) ≡ G
+    → readOn (here w₂ s₂ t₂) (drop (i + 1) text) ≡ G
 walk-step w w₂ s s₂ t t₂ text i b c G l g e e₀ e₁ e₂ e₃ =
-    ap (λ (x : Here). read x (drop (i + 1) text)) (whole-step (here w s t) b c w₂ s₂ t₂ e₀ e₃ e₁ e₂)
-    ∙ ap (λ (x : ℕ). read (heard (here w s t) x) (drop (i + 1) text)) e
+    ap (λ (x : Here). readOn x (drop (i + 1) text)) (whole-step (here w s t) b c w₂ s₂ t₂ e₀ e₃ e₁ e₂)
+    ∙ ap (λ (x : ℕ). readOn (hearing (here w s t) x) (drop (i + 1) text)) e
     ∙ sym (read-step (here w s t) text i l) ∙ g
 
 pub walk-end : (w v : Begun) (c : Sign) (s r : Spot) (t t₀ u text : List ℕ) (i : ℕ) → i ≡ length text
-    → read (here w s t) (drop i text) ≡ read (here Fresh start t₀) text → c ≡ closing w → v ≡ stopped w
+    → readOn (here w s t) (drop i text) ≡ readOn (here Fresh start t₀) text → c ≡ closing w → v ≡ stopped w
     → r ≡ heardAs c v s t .0 → u ≡ heardAs c v s t .1 → (r ≡ textRead text t₀ .spot) × (u ≡ textRead text t₀ .table)
 unfolding textRead finished
 walk-end w v c s r t t₀ u text i e g e₁ e₂ p q =
-    let z : here w s t ≡ read (here Fresh start t₀) text = sym (read-end (here w s t) text i e) ∙ g in
+    let z : here w s t ≡ readOn (here Fresh start t₀) text = sym (read-end (here w s t) text i e) ∙ g in
     let y : heardAs c v s t ≡ heardAs (closing w) (stopped w) s t = ap (λ (x : Sign). heardAs x v s t) e₁ ∙ ap (λ (x : Begun). heardAs (closing w) x s t) e₂ in
     (p ∙ ap (λ (x : Spot × List ℕ). x .0) y ∙ ap (λ (x : Here). finished x .spot) z, q ∙ ap (λ (x : Spot × List ℕ). x .1) y ∙ ap (λ (x : Here). finished x .table) z)
 
-read-sane : (l : List ℕ) (h : Here) → Sane (h .spot) → Sane (read h l .spot)
-unfolding read heard
+read-sane : (l : List ℕ) (h : Here) → Sane (h .spot) → Sane (readOn h l .spot)
+unfolding readOn hearing
 read-sane [] h f = f
-read-sane (b ∷ l) h f = read-sane l (heard h b) (heard-after (signOf (h .word) b) (h .word) (h .spot) (h .table) f .0)
+read-sane (b ∷ l) h f = read-sane l (hearing h b) (heard-after (signOf (h .word) b) (h .word) (h .spot) (h .table) f .0)
 
 -- a text never names more than 64 sites
 pub text-sane : (text zeros : List ℕ) → Sane (textRead text zeros .spot)
 unfolding textRead finished
 text-sane text zeros =
-    let h = read (here Fresh start zeros) text in
+    let h = readOn (here Fresh start zeros) text in
     heard-after (closing (h .word)) (stopped (h .word)) (h .spot) (h .table) (read-sane text (here Fresh start zeros) (omega arith, omega arith)) .0

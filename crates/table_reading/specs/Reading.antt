@@ -8,7 +8,7 @@ use Rattle.table_words.specs.Words.{signOf, turn, ended, said, closing, stopped
 use Rattle.table_words.specs.declared.Begun.{Begun}
 use Rattle.table_words.specs.declared.Begun.the-variants.{Fresh}
 use Rattle.table_words.specs.declared.Sign.{Sign}
-use Rattle.table_grammar.specs.Grammar.{own, told}
+use Rattle.table_grammar.specs.Grammar.{own, spoken}
 use Rattle.table_grammar.specs.declared.Phase.the-variants.{Head}
 use Rattle.table_grammar.specs.declared.Spot.{Spot}
 use Rattle.table_reading.specs.Groups.{judged, kept}
@@ -30,21 +30,21 @@ full s t = ltb 61 (getD t (63 * own (s .v)) 0)
 unfoldable pub heardAs : Sign → Begun → Spot → List ℕ → Spot × List ℕ
 unfolding judged kept
 heardAs c w s t =
-    let u = told (ended c w) (full s t) s in
-    (told (said c) (full s t) (judged u (said c) t), kept u (said c) t)
+    let u = spoken (ended c w) (full s t) s in
+    (spoken (said c) (full s t) (judged u (said c) t), kept u (said c) t)
 
 -- after a byte
-unfoldable pub heard : Here → ℕ → Here
+unfoldable pub hearing : Here → ℕ → Here
 unfolding heardAs
-heard h b =
+hearing h b =
     let c = signOf (h .word) b in
     let r = heardAs c (h .word) (h .spot) (h .table) in
     here (turn c (h .word) b) (r .0) (r .1)
 
 -- after all of them
-unfoldable pub read : Here → List ℕ → Here
-read h [] = h
-read h (b ∷ l) = read (heard h b) l
+unfoldable pub readOn : Here → List ℕ → Here
+readOn h [] = h
+readOn h (b ∷ l) = readOn (hearing h b) l
 
 -- "counted from 1, empty and comment lines too"
 abbrev pub start : Spot
@@ -59,5 +59,5 @@ finished h =
 
 -- a text, read into a table of zeros
 unfoldable pub textRead : List ℕ → List ℕ → Here
-unfolding finished read
-textRead text zeros = finished (read (here Fresh start zeros) text)
+unfolding finished readOn
+textRead text zeros = finished (readOn (here Fresh start zeros) text)

@@ -103,10 +103,10 @@ fn hear(c: Sign, w: Begun, s: Spot, t: &mut [u64]) -> Spot
 {
     let u = table_grammar::own(s.v);
     let full = 61 < t[63 * u as usize];
-    let s = table_grammar::told(s, full, table_words::ended(c, w));
+    let s = table_grammar::spoken(s, full, table_words::ended(c, w));
     let k = table_words::said(c);
     let s = settle(s, k, t);
-    table_grammar::told(s, full, k)
+    table_grammar::spoken(s, full, k)
 }
 
 // The text is walked once; the table grows in the room of 64 times 63 numbers.

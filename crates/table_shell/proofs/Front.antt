@@ -15,7 +15,7 @@ use Rattle.image_write.specs.Write.{write, writeInto}
 use Rattle.image_write.specs.declared.Writing.{Writing}
 use Rattle.table.proofs.Table.{shape}
 use Rattle.table.specs.Table.{sites}
-use Rattle.table_made.specs.Made.{answer, madeOf, numbers, made, leaves, tableIn}
+use Rattle.table_made.specs.Made.{answerOf, madeOf, numbers, made, leaves, tableIn}
 use Rattle.table_made.specs.declared.Made.{Made}
 use Rattle.table_made.specs.declared.Made.the-variants.{Sites, Room}
 use Rattle.table_shell.specs.Filed.{imageIn}
@@ -25,12 +25,12 @@ pick true m n e = let z : _≡_ {A = ℕ} 0 1 = cc in absurd (omega arith)
 pick false m n e = (refl, e)
 
 module _ (text : List ℕ) (n : ℕ) (h : made text 4032 ≡ Sites n) where
-  told : (ltb 4032 (numbers (answer (madeOf text .spot))) ≡ false) × (answer (madeOf text .spot) ≡ Sites n)
+  told : (ltb 4032 (numbers (answerOf (madeOf text .spot))) ≡ false) × (answerOf (madeOf text .spot) ≡ Sites n)
   unfolding made
-  told = pick (ltb 4032 (numbers (answer (madeOf text .spot)))) (answer (madeOf text .spot)) n h
+  told = pick (ltb 4032 (numbers (answerOf (madeOf text .spot)))) (answerOf (madeOf text .spot)) n h
 
   pub in-room : 63 * n ≤ 4032
-  in-room = omega (arith, ltb-false 4032 (numbers (answer (madeOf text .spot))) (told .0), ap numbers (told .1))
+  in-room = omega (arith, ltb-false 4032 (numbers (answerOf (madeOf text .spot))) (told .0), ap numbers (told .1))
 
   -- the room keeps its length, so that the table's numbers fill its front
   pub in-front : (room table : List ℕ) → length room ≡ 4032 → table ≡ leaves text room → length table ≡ 4032 → take (63 * n) table ≡ tableIn text
@@ -41,7 +41,7 @@ module _ (text : List ℕ) (n : ℕ) (h : made text 4032 ≡ Sites n) where
       let f : table ≡ take (63 * n) T ++ drop (63 * n) room = e ∙ ap (λ (x : ℕ). take x T ++ drop x room) k in
       let d : length (drop (63 * n) room) ≡ 4032 - 63 * n = length-drop (63 * n) room ∙ ap (λ (x : ℕ). x - 63 * n) r in
       let g : length (take (63 * n) T) ≡ 63 * n =
-          omega (arith, sym (ap length f) ∙ l, length-append (take (63 * n) T) (drop (63 * n) room), d, in-room) in
+      omega (arith, sym (ap length f) ∙ l, length-append (take (63 * n) T) (drop (63 * n) room), d, in-room) in
       ap (take (63 * n)) f ∙ take-at (take (63 * n) T) (drop (63 * n) room) (63 * n) g ∙ ap (λ (m : Made). take (numbers m) T) (sym (told .1))
 
 module _ (t : List ℕ) (k : ℕ) (h : write t 32768 ≡ Writing.Sites k) where

@@ -47,9 +47,14 @@ fn make_table(text: &[u8], name: usize) {
     }
 }
 
+// Room for every text that `desk show` prints, and for some comments.
+fn empty() -> [u8; 786432] {
+    [0u8; 786432]
+}
+
 // desk make TEXT TABLE, where TEXT and TABLE are the numbers of arguments; so is the word of the other
 pub fn make_of(words: usize, name: usize) {
-    let mut text = [0u8; 786432];
+    let mut text = empty();
     let whole = files::fetch(b"desk make TEXT TABLE", words, &mut text);
     let Fetched::Bytes(n) = whole else {
         return;

@@ -18,7 +18,7 @@ use Rattle.text.specs.Text.{ascii, decimal, digitCount}
 use Rattle.text.specs.Written.{Writes}
 use Rattle.text.proofs.Width.{length-digits, length-decimal}
 use Rattle.text.proofs.Written.{then}
-use Rattle.table_shown.specs.Show.{member, group, placed, row, head}
+use Rattle.table_shown.specs.Show.{siteShown, group, placed, row, headLine}
 
 pub as-text : {A B before after : List ℕ} {at end : ℕ} → A ≡ B → Writes A before at end after → Writes B before at end after
 as-text {before = before} {after = after} {at = at} {end = end} e w = subst (λ (T : List ℕ). Writes T before at end after) e w
@@ -45,8 +45,8 @@ one : (b : Bool) (l : List ℕ) → length l ≤ 2 → length (cond b (ascii " "
 one true l h = omega arith
 one false l h = omega arith
 
-pub length-member : (q u : ℕ) → u < 64 → length (member q u) ≤ 3
-unfolding member
+pub length-member : (q u : ℕ) → u < 64 → length (siteShown q u) ≤ 3
+unfolding siteShown
 length-member q u h = one (has q u) (decimal u) (two-digits u h)
 
 pub cat-le : (f : ℕ → List ℕ) (w n : ℕ) → ((i : ℕ) → i < n → length (f i) ≤ w) → length (cat f n) ≤ w * n
@@ -59,7 +59,7 @@ cat-le f w (suc n) h =
 
 pub length-group : (q : ℕ) → length (group q) ≤ 192
 unfolding group
-length-group q = cat-le (member q) 3 64 (length-member q)
+length-group q = cat-le (siteShown q) 3 64 (length-member q)
 
 pub bar : (b : Bool) → length (cond b [] (ascii " |")) ≤ 2
 bar true = omega arith
@@ -92,8 +92,8 @@ four {A} {B} {C} {D} a b c d h = as-text (grouped A B C D) (then (then (then a b
     grouped : (A B C D : List ℕ) → ((A ++ B) ++ C) ++ D ≡ A ++ (B ++ (C ++ D))
     grouped A B C D = simp append-assoc
 
-pub length-head : (n : ℕ) → length (head n) ≤ 27
-unfolding head
+pub length-head : (n : ℕ) → length (headLine n) ≤ 27
+unfolding headLine
 length-head n = of (decimal n) (length-decimal n)
   where
     of : (a : List ℕ) → length a ≤ 20 → length (ascii "sites " ++ (a ++ ascii "\n")) ≤ 27

@@ -11,13 +11,13 @@ use Rattle.rows.specs.Site.{count, slice}
 use Rattle.text.specs.Text.{ascii, decimal}
 
 -- site u with a blank before it, if it is in the group q
-unfoldable pub member : ℕ → ℕ → List ℕ
-member q u = cond (has q u) (ascii " " ++ decimal u) []
+unfoldable pub siteShown : ℕ → ℕ → List ℕ
+siteShown q u = cond (has q u) (ascii " " ++ decimal u) []
 
 -- the sites of a group
 unfoldable pub group : ℕ → List ℕ
-unfolding cat member
-group q = cat (member q) 64
+unfolding cat siteShown
+group q = cat (siteShown q) 64
 
 -- group k of a site, parted from the one before
 unfoldable pub placed : List ℕ → ℕ → List ℕ
@@ -34,9 +34,9 @@ unfoldable pub rows : List ℕ → ℕ → List ℕ
 unfolding cat row
 rows t n = cat (λ v. row v (siteOf t v)) n
 
-unfoldable pub head : ℕ → List ℕ
-head n = ascii "sites " ++ (decimal n ++ ascii "\n")
+unfoldable pub headLine : ℕ → List ℕ
+headLine n = ascii "sites " ++ (decimal n ++ ascii "\n")
 
 unfoldable pub show : List ℕ → List ℕ
-unfolding head rows
-show t = head (sites (length t)) ++ rows t (sites (length t))
+unfolding headLine rows
+show t = headLine (sites (length t)) ++ rows t (sites (length t))

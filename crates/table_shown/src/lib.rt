@@ -11,12 +11,13 @@ ghost use Rattle.rows.specs.Site.{count, slice};
 ghost use Rattle.table.specs.Table.{Table, check};
 ghost use Rattle.text.specs.Text.{ascii};
 ghost use Rattle.text.specs.Written.{Writes};
-ghost use Rattle.table_shown.specs.Show.{member, group, placed, row, rows, head, show};
+ghost use Rattle.table_shown.specs.Show.{siteShown, group, placed, row, rows, headLine, show};
 
 // Site u with a blank before it, if it is in the group.
 fn put_member(room: &mut [u8], at: usize, q: u64, u: u64) -> usize
-    requires { ⌜ (u < 64) × (at + 21 ≤ length (now room)) ⌝ }
-    ensures { λ r. ⌜ Writes (member q u) (now (room .entry)) at r (now (room .exit)) ⌝ }
+    requires { ⌜ u < 64 ⌝ }
+    requires { ⌜ at + 21 ≤ length (now room) ⌝ }
+    ensures { λ r. ⌜ Writes (siteShown q u) (now (room .entry)) at r (now (room .exit)) ⌝ }
 {
     if masks::has(q, u) {
         let at = text::put(room, at, b" ");
@@ -52,7 +53,9 @@ fn put_bar(room: &mut [u8], at: usize, k: usize) -> usize
 
 // Group k of a site.
 fn put_placed(room: &mut [u8], at: usize, m: &[u64], k: usize) -> usize
-    requires { ⌜ (length (now m) ≡ 63) × (k < 62) × (at + 212 ≤ length (now room)) ⌝ }
+    requires { ⌜ length (now m) ≡ 63 ⌝ }
+    requires { ⌜ k < 62 ⌝ }
+    requires { ⌜ at + 212 ≤ length (now room) ⌝ }
     ensures { λ r. ⌜ Writes (placed (now (m .entry)) k) (now (room .entry)) at r (now (room .exit)) ⌝ }
 {
     let q = m[1 + k];
@@ -62,7 +65,9 @@ fn put_placed(room: &mut [u8], at: usize, m: &[u64], k: usize) -> usize
 
 // The first many groups of a site.
 fn put_groups(room: &mut [u8], at: usize, m: &[u64], many: usize) -> usize
-    requires { ⌜ (length (now m) ≡ 63) × (many ≤ 62) × (at + 12046 ≤ length (now room)) ⌝ }
+    requires { ⌜ length (now m) ≡ 63 ⌝ }
+    requires { ⌜ many ≤ 62 ⌝ }
+    requires { ⌜ at + 12046 ≤ length (now room) ⌝ }
     ensures { λ r. ⌜ Writes (cat (placed (now (m .entry))) many) (now (room .entry)) at r (now (room .exit)) ⌝ }
 {
     let mut end = at;
@@ -76,7 +81,10 @@ fn put_groups(room: &mut [u8], at: usize, m: &[u64], many: usize) -> usize
 
 // The line of site v, with its 63 numbers.
 fn put_row(room: &mut [u8], at: usize, v: u64, m: &[u64]) -> usize
-    requires { ⌜ (length (now m) ≡ 63) × (count (now m) ≤ 62) × (v < 64) × (at + 12070 ≤ length (now room)) ⌝ }
+    requires { ⌜ length (now m) ≡ 63 ⌝ }
+    requires { ⌜ count (now m) ≤ 62 ⌝ }
+    requires { ⌜ v < 64 ⌝ }
+    requires { ⌜ at + 12070 ≤ length (now room) ⌝ }
     ensures { λ r. ⌜ Writes (row v (now (m .entry))) (now (room .entry)) at r (now (room .exit)) ⌝ }
 {
     let many = m[0] as usize;
@@ -89,7 +97,7 @@ fn put_row(room: &mut [u8], at: usize, v: u64, m: &[u64]) -> usize
 // `sites N`
 fn put_head(room: &mut [u8], at: usize, n: u64) -> usize
     requires { ⌜ at + 27 ≤ length (now room) ⌝ }
-    ensures { λ r. ⌜ Writes (head n) (now (room .entry)) at r (now (room .exit)) ⌝ }
+    ensures { λ r. ⌜ Writes (headLine n) (now (room .entry)) at r (now (room .exit)) ⌝ }
 {
     let at = text::put(room, at, b"sites ");
     let at = text::put_decimal(room, at, n);
@@ -98,7 +106,8 @@ fn put_head(room: &mut [u8], at: usize, n: u64) -> usize
 
 // The lines of the sites.
 fn put_rows(room: &mut [u8], at: usize, table: &[u64], n: usize) -> usize
-    requires { ⌜ (Table (now table) n) × (at + 770120 ≤ length (now room)) ⌝ }
+    requires { ⌜ Table (now table) n ⌝ }
+    requires { ⌜ at + 770120 ≤ length (now room) ⌝ }
     ensures { λ r. ⌜ Writes (rows (now (table .entry)) n) (now (room .entry)) at r (now (room .exit)) ⌝ }
 {
     let mut end = at;
@@ -112,7 +121,8 @@ fn put_rows(room: &mut [u8], at: usize, table: &[u64], n: usize) -> usize
 
 // A sound table as text at the start of a lent room: the answer is the text's length, and what stands behind it is kept.
 pub fn show(room: &mut [u8], table: &[u64]) -> usize
-    requires { ⌜ (check (now table) ≡ Sound) × (770147 ≤ length (now room)) ⌝ }
+    requires { ⌜ check (now table) ≡ Sound ⌝ }
+    requires { ⌜ 770147 ≤ length (now room) ⌝ }
     ensures { λ r. ⌜ Writes (show (now (table .entry))) (now (room .entry)) 0 r (now (room .exit)) ⌝ }
 {
     let n = table.len() / 63;

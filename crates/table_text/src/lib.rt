@@ -25,11 +25,7 @@ fn put_wanted(room: &mut [u8], at: usize, why: Why) -> usize
 {
     match why {
         Why::Sites => text::put(room, at, b"the word sites was expected"),
-        Why::Count => text::put(
-            room,
-            at,
-            b"the number of sites was expected, 1 to 64",
-        ),
+        Why::Count => text::put(room, at, b"the number of sites was expected, 1 to 64"),
         Why::LineEnd => text::put(room, at, b"the end of the line was expected"),
         Why::Owner => text::put(room, at, b"the number of the next site was expected"),
         Why::Nothing => text::put(room, at, b"nothing more was expected"),

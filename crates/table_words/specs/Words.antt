@@ -32,14 +32,14 @@ unfolding counts spelt
 opens b = cond (ltb b 58) (counts 0 b) (spelt 0 b)
 
 -- a byte that is a part of a word
-abbrev pub within : Begun → ℕ → Begun
-within Fresh b = opens b
-within Gap b = opens b
-within (Digits x) b = counts x b
-within (Letters k) b = spelt k b
-within Odd b = Odd
-within Return b = Odd
-within Comment b = Comment
+abbrev pub wordOn : Begun → ℕ → Begun
+wordOn Fresh b = opens b
+wordOn Gap b = opens b
+wordOn (Digits x) b = counts x b
+wordOn (Letters k) b = spelt k b
+wordOn Odd b = Odd
+wordOn Return b = Odd
+wordOn Comment b = Comment
 
 -- what a byte is: LF, `#`, `:`, `|`, CR, blank, tab, or a part of a word
 unfoldable pub plain : ℕ → Sign
@@ -74,7 +74,7 @@ turn Colon w b = Gap
 turn Bar w b = Gap
 turn Back w b = Return
 turn Blank w b = Gap
-turn Part w b = within w b
+turn Part w b = wordOn w b
 
 -- a word that is complete
 unfoldable pub spelled : ℕ → Token

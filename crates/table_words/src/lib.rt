@@ -1,6 +1,6 @@
 // From bytes to words: what is in hand after a byte of a text, the word that ends there, and what the byte says itself. The rules are in specs/Words.antt.
 ghost use mathlib.Core.Path.{_≡_};
-ghost use Rattle.table_words.specs.Words.{counts, spelt, opens, within, plain, orLine, signOf, turn, spelled, whole, ended, said, closing, stopped};
+ghost use Rattle.table_words.specs.Words.{counts, spelt, opens, wordOn, plain, orLine, signOf, turn, spelled, whole, ended, said, closing, stopped};
 
 // What is in hand: the beginning of a line, a gap, a number, so many letters of `sites`, a word that is none, the CR of CR LF, a comment.
 pub enum Begun {
@@ -81,8 +81,8 @@ fn opens(b: u8) -> Begun
 }
 
 // A byte that is a part of a word.
-fn within(w: Begun, b: u8) -> Begun
-    ensures { λ r. ⌜ r ≡ within w b ⌝ }
+fn word_on(w: Begun, b: u8) -> Begun
+    ensures { λ r. ⌜ r ≡ wordOn w b ⌝ }
 {
     match w {
         Begun::Fresh => opens(b),
@@ -159,7 +159,7 @@ pub fn turn(c: Sign, w: Begun, b: u8) -> Begun
         Sign::Bar => Begun::Gap,
         Sign::Return => Begun::Return,
         Sign::Blank => Begun::Gap,
-        Sign::Part => within(w, b),
+        Sign::Part => word_on(w, b),
     }
 }
 

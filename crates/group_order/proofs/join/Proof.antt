@@ -19,7 +19,8 @@ use Rattle.group_order.proofs.join.Tie as tie
 
 returns : tie.Need-returns
 unfolding joined
-returns c = ap (λ (t : List ℕ). set t 0 (count (now (c .before .before .before .before .before .before .args .m)) + 1)) (c .before .before .sift .ensures) ∙ headed (now (c .before .before .before .before .before .before .args .m)) _ _ (omega arith)
+returns c = ap (λ (t : List ℕ). set t 0 (count (now (c .before .before .before .before .before .before .args .m)) + 1)) (c .before .before .sift .ensures)
+    ∙ headed (now (c .before .before .before .before .before .before .args .m)) _ _ (omega arith)
 
 pub join-spec : {M : Type 1} → statement M
 join-spec =

@@ -25,8 +25,12 @@ returns-2 c =
 returns-3 : tie.Need-returns-3
 unfolding member
 returns-3 c =
-    rw (c .before .single .ensures, lt-ltb _ _ (c .before .before .before .before .if1 .left), ← c .before .before .before .has .ensures,
-    c .before .before .if2 .left) refl
+    rw (
+      c .before .single .ensures,
+      lt-ltb _ _ (c .before .before .before .before .if1 .left),
+      ← c .before .before .before .has .ensures,
+      c .before .before .if2 .left,
+    ) refl
 
 pub member-spec : {M : Type 1} → statement M
 member-spec =

@@ -18,14 +18,24 @@ returns-2 c = rw (le-ltb 61 _ (c .before .before .if1 .left), ← c .before .has
 returns-3 : tie.Need-returns-3
 unfolding groupCheck
 returns-3 c =
-    rw (← c .before .known .ensures, c .if3 .taken, le-ltb 61 _ (c .before .before .before .before .if1 .left), ← c .before .before .before .has .ensures,
-    c .before .before .if2 .left) refl
+    rw (
+      ← c .before .known .ensures,
+      c .if3 .taken,
+      le-ltb 61 _ (c .before .before .before .before .if1 .left),
+      ← c .before .before .before .has .ensures,
+      c .before .before .if2 .left,
+    ) refl
 
 returns-4 : tie.Need-returns-4
 unfolding groupCheck
 returns-4 c =
-    rw (← c .before .known .ensures, c .if3 .left, le-ltb 61 _ (c .before .before .before .before .if1 .left), ← c .before .before .before .has .ensures,
-    c .before .before .if2 .left) refl
+    rw (
+      ← c .before .known .ensures,
+      c .if3 .left,
+      le-ltb 61 _ (c .before .before .before .before .if1 .left),
+      ← c .before .before .before .has .ensures,
+      c .before .before .if2 .left,
+    ) refl
 
 pub group-check-spec : {M : Type 1} → statement M
 group-check-spec = tie.close (tie.spec (λ c. search needs) returns (λ c κs. search needs) returns-2 (λ c κs. search needs) returns-3 returns-4)

@@ -13,14 +13,16 @@ use Rattle.table_reading.proofs.hear.Tie as tie
 settle-requires : tie.Need-settle-requires
 settle-requires c κs =
     let a = c .before .before .before .before .before .before .before in
-    let t = c .before .before .told in
-    (omega arith, sane₁ (a .args .c) (a .args .w) (a .args .s) _ (t .result) (now (a .args .t)) _ _ _ _ (c .before .before .before .before .before .own .ensures) refl
-    (c .before .before .before .ended .ensures) (t .ensures) (c .before .said .ensures) (a .pre .1 .0))
+    let t = c .before .before .spoken in (
+      omega arith,
+      sane₁ (a .args .c) (a .args .w) (a .args .s) _ (t .result) (now (a .args .t)) _ _ _ _ (c .before .before .before .before .before .own .ensures) refl
+          (c .before .before .before .ended .ensures) (t .ensures) (c .before .said .ensures) (a .pre .1 .0),
+    )
 
-told-requires-2 : tie.Need-told-requires-2
-told-requires-2 c κs =
+spoken-requires-2 : tie.Need-spoken-requires-2
+spoken-requires-2 c κs =
     let a = c .before .before .before .before .before .before .before .before .before .before in
-    let t = c .before .before .before .before .before .told in
+    let t = c .before .before .before .before .before .spoken in
     let o = c .before .before .before .before .before .before .before .before .own .ensures in
     let e = c .before .before .before .before .before .before .ended .ensures in
     let d = c .before .before .before .before .said .ensures in
@@ -33,13 +35,13 @@ returns : tie.Need-returns
 returns c =
     let b = c .before in
     let a = b .before .before .before .before .before .before .before .before .before .before in
-    let t = b .before .before .before .before .before .told in
+    let t = b .before .before .before .before .before .spoken in
     let o = b .before .before .before .before .before .before .before .before .own .ensures in
     let e = b .before .before .before .before .before .before .ended .ensures in
     let d = b .before .before .before .before .said .ensures in
     let z = b .before .before .settle in
-    byte (a .args .c) (a .args .w) (a .args .s) (t .result) (z .result) (now (a .args .t)) _ _ _ _ o refl e (t .ensures) d (a .pre .1 .0) (c .told2 .result) _
-    (z .ensures .0) (z .ensures .1) (c .told2 .ensures)
+    byte (a .args .c) (a .args .w) (a .args .s) (t .result) (z .result) (now (a .args .t)) _ _ _ _ o refl e (t .ensures) d (a .pre .1 .0) (c .spoken2 .result) _
+    (z .ensures .0) (z .ensures .1) (c .spoken2 .ensures)
 
 pub hear-spec : {M : Type 1} → statement M
 hear-spec =
@@ -53,6 +55,6 @@ hear-spec =
     (λ c κs. search needs)
     (λ c κs. search needs)
     settle-requires
-    told-requires-2
+    spoken-requires-2
     (λ c. search needs)
     returns)

@@ -10,14 +10,14 @@ use Rattle.table_reading.proofs.Steps.{sane-eq, heard-after, walk-step,
 use Rattle.table_words.specs.declared.Begun.the-variants.{Fresh}
 use Rattle.table_grammar.specs.Grammar.{Sane}
 use Rattle.table_grammar.specs.declared.Spot.{Spot}
-use Rattle.table_reading.specs.Reading.{here, read, start}
+use Rattle.table_reading.specs.Reading.{here, readOn, start}
 use Rattle.table_reading.proofs.walk.Statement.{statement}
 use Rattle.table_reading.proofs.walk.Tie as tie
 
 -- what is left to read gives what the whole text gives
 abbrev Inv-loop : tie.InvT-loop
 Inv-loop text t₀ w₀ s₀ i₀ t w s i =
-    (i ≤ length text) × (length t ≡ length t₀) × (s .line ≤ i + 1) × (Sane s) × (read (here w s t) (drop i text) ≡ read (here Fresh start t₀) text)
+    (i ≤ length text) × (length t ≡ length t₀) × (s .line ≤ i + 1) × (Sane s) × (readOn (here w s t) (drop i text) ≡ readOn (here Fresh start t₀) text)
 
 abbrev μ-loop : tie.MeasureT-loop
 μ-loop text t₀ w₀ s₀ i₀ t w s i = length text - i

@@ -3,7 +3,7 @@ use mathlib.Core.Path.{_≡_, refl, sym, ap, _∙_}
 use native.Mathlib.Omega.{arith}
 use borrow.Author.Needs.{needs}
 use borrow.Author.Tests.{lt-ltb, le-ltb, eq-eqb, ne-eqb}
-use Rattle.table_shown.specs.Show.{member, group}
+use Rattle.table_shown.specs.Show.{siteShown, group}
 use Prim.Native.Nat.{ℕ, _+_, _-_, _*_, _≤_, _<_}
 use mathlib.Core.List.{List, []}
 use lib.ListN.{length}
@@ -16,7 +16,7 @@ use Rattle.table_shown.proofs.put_group.Statement.{statement}
 use Rattle.table_shown.proofs.put_group.Tie as tie
 
 abbrev Inv-loop : tie.InvT-loop
-Inv-loop room₀ at q end₀ u₀ room end u = (u ≤ 64) × (length room ≡ length room₀) × (end ≤ at + 3 * u) × Writes (cat (member q) u) room₀ at end room
+Inv-loop room₀ at q end₀ u₀ room end u = (u ≤ 64) × (length room ≡ length room₀) × (end ≤ at + 3 * u) × Writes (cat (siteShown q) u) room₀ at end room
 
 abbrev μ-loop : tie.MeasureT-loop
 μ-loop room₀ at q end₀ u₀ room end u = 64 - u
@@ -26,7 +26,7 @@ loop-holds c = (
   omega arith,
   refl,
   omega arith,
-  as-text (sym (cat-none (member (c .before .args .q))))
+  as-text (sym (cat-none (siteShown (c .before .args .q))))
       (record { place = omega arith; memory = sym (written-nothing _ _); inside = omega arith }),
 )
 
@@ -38,7 +38,7 @@ loop-again c =
       omega arith,
       omega arith,
       omega (arith, p .ensures .place, length-member (a .q) (l .u) (c .before .before .before .before .loop-test .taken)),
-      more (member (a .q)) (l .u) (l .inv .3) (p .ensures) (omega arith),
+      more (siteShown (a .q)) (l .u) (l .inv .3) (p .ensures) (omega arith),
     )
 
 returns : tie.Need-returns Inv-loop μ-loop

@@ -3,7 +3,7 @@ use mathlib.Core.Path.{_≡_, refl, sym, ap, _∙_}
 use native.Mathlib.Omega.{arith}
 use borrow.Author.Needs.{needs}
 use borrow.Author.Tests.{lt-ltb, le-ltb, eq-eqb, ne-eqb}
-use Rattle.table_shown.specs.Show.{head}
+use Rattle.table_shown.specs.Show.{headLine}
 use Prim.Native.Nat.{ℕ, _+_, _-_, _*_, _≤_, _<_}
 use mathlib.Core.List.{List, []}
 use lib.Dec.{eqb}
@@ -24,8 +24,9 @@ put-requires-2 : tie.Need-put-requires-2
 put-requires-2 c κs = omega (arith, length-decimal (c .before .before .before .before .before .before .before .before .before .before .before .before .args .n))
 
 returns : tie.Need-returns
-unfolding head
-returns c = three (c .before .before .before .before .before .before .before .before .before .before .before .put .ensures) (c .before .before .before .before .before .before .before .put-decimal .ensures) (c .before .before .put2 .ensures) (omega arith)
+unfolding headLine
+returns c = three (c .before .before .before .before .before .before .before .before .before .before .before .put .ensures)
+    (c .before .before .before .before .before .before .before .put-decimal .ensures) (c .before .before .put2 .ensures) (omega arith)
 
 pub put-head-spec : {M : Type 1} → statement M
 put-head-spec =

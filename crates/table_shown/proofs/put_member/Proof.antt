@@ -3,7 +3,7 @@ use mathlib.Core.Path.{_≡_, refl, sym, ap, _∙_}
 use native.Mathlib.Omega.{arith}
 use borrow.Author.Needs.{needs}
 use borrow.Author.Tests.{lt-ltb, le-ltb, eq-eqb, ne-eqb}
-use Rattle.table_shown.specs.Show.{member}
+use Rattle.table_shown.specs.Show.{siteShown}
 use Prim.Native.Nat.{ℕ, _+_, _-_, _*_, _≤_, _<_}
 use mathlib.Core.List.{List, []}
 use lib.ListN.{length}
@@ -16,11 +16,14 @@ use Rattle.table_shown.proofs.put_member.Statement.{statement}
 use Rattle.table_shown.proofs.put_member.Tie as tie
 
 returns : tie.Need-returns
-unfolding member
-returns c = let d = c .before .before in let e = d .before .before .before .before in rw (← e .before .before .before .before .has .ensures, c .before .before .before .before .before .before .before .before .before .if1 .taken) (then (e .put .ensures) (d .put-decimal .ensures) (omega arith))
+unfolding siteShown
+returns c = let d = c .before .before in let e = d .before .before .before .before in rw (
+  ← e .before .before .before .before .has .ensures,
+  c .before .before .before .before .before .before .before .before .before .if1 .taken,
+) (then (e .put .ensures) (d .put-decimal .ensures) (omega arith))
 
 returns-2 : tie.Need-returns-2
-unfolding member
+unfolding siteShown
 returns-2 c = rw (← c .before .has .ensures, c .if1 .left) (record { place = omega arith; memory = sym (written-nothing _ _); inside = omega arith })
 
 pub put-member-spec : {M : Type 1} → statement M

@@ -24,15 +24,23 @@ put-requires : tie.Need-put-requires
 put-requires c κs = omega (arith, two-digits (c .before .before .before .before .before .before .before .before .before .args .v) (omega arith))
 
 put-groups-requires : tie.Need-put-groups-requires
-put-groups-requires c κs = (omega arith, omega arith, omega (arith, two-digits (c .before .before .before .before .before .before .before .before .before .before .before .before .before .args .v) (omega arith)))
+put-groups-requires c κs = (omega arith, (omega arith, omega (arith, two-digits (c .before .before .before .before .before .before .before .before .before .before .before .before .before .args .v) (omega arith))))
 
 put-requires-2 : tie.Need-put-requires-2
 put-requires-2 c κs =
-    omega (arith, two-digits (c .before .before .before .before .before .before .before .before .before .before .before .before .before .before .before .before .before .before .args .v) (omega arith), length-groups (now (c .before .before .before .before .before .before .before .before .before .before .before .before .before .before .before .before .before .before .args .m)) (count (now (c .before .before .before .before .before .before .before .before .before .before .before .before .before .before .before .before .before .before .args .m))))
+    omega (
+      arith,
+      two-digits (c .before .before .before .before .before .before .before .before .before .before .before .before .before .before .before .before .before .before .args .v)
+          (omega arith),
+      length-groups (now (c .before .before .before .before .before .before .before .before .before .before .before .before .before .before .before .before .before .before .args .m))
+          (count (now (c .before .before .before .before .before .before .before .before .before .before .before .before .before .before .before .before .before .before .args .m))),
+    )
 
 returns : tie.Need-returns
 unfolding row
-returns c = four (c .before .before .before .before .before .before .before .before .before .before .before .before .before .before .before .before .put-decimal .ensures) (c .before .before .before .before .before .before .before .before .before .before .before .put .ensures) (c .before .before .before .before .before .before .before .put-groups .ensures) (c .before .before .put2 .ensures) (omega arith)
+returns c = four (c .before .before .before .before .before .before .before .before .before .before .before .before .before .before .before .before .put-decimal .ensures)
+    (c .before .before .before .before .before .before .before .before .before .before .before .put .ensures) (c .before .before .before .before .before .before .before .put-groups .ensures)
+    (c .before .before .put2 .ensures) (omega arith)
 
 pub put-row-spec : {M : Type 1} → statement M
 put-row-spec =

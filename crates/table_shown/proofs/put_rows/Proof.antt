@@ -46,7 +46,7 @@ put-row-requires c κs =
     let h : l .v < a .n = c .before .before .loop-test .taken in
     let z : 63 * a .n ≤ length (now (a .table)) = omega (arith, T .long) in
     let e = part-cut 63 (l .v) (now (a .table)) in
-    (rw e (length-part 63 (l .v) (a .n) (now (a .table)) h z), rw e (T .few-slices (l .v) h), omega (arith, T .few-sites), omega (arith, T .few-sites))
+    (rw e (length-part 63 (l .v) (a .n) (now (a .table)) h z), (rw e (T .few-slices (l .v) h), (omega (arith, T .few-sites), omega (arith, T .few-sites))))
 
 loop-again : tie.Need-loop-again Inv-loop μ-loop
 loop-again c =

@@ -15,7 +15,14 @@ use Rattle.table_shown.proofs.show.Statement.{statement}
 use Rattle.table_shown.proofs.show.Tie as tie
 
 put-rows-requires : tie.Need-put-rows-requires
-put-rows-requires c κs = (checked _ (c .before .before .before .before .before .before .before .pre .0), omega (arith, c .before .before .before .put-head .ensures .place, length-head (sites (length (now (c .before .before .before .before .before .before .before .args .table))))))
+put-rows-requires c κs = (
+  checked _ (c .before .before .before .before .before .before .before .pre .0),
+  omega (
+    arith,
+    c .before .before .before .put-head .ensures .place,
+    length-head (sites (length (now (c .before .before .before .before .before .before .before .args .table)))),
+  ),
+)
 
 returns : tie.Need-returns
 unfolding show

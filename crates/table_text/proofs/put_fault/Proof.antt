@@ -25,10 +25,12 @@ put-requires-2 : tie.Need-put-requires-2
 put-requires-2 c κs = let a = c .before .before .before .before .before .before .before .before .before .before .before .before .before .before .before .before .args in omega (arith, length-opening (a .why), length-decimal (a .line))
 
 put-wanted-requires : tie.Need-put-wanted-requires
-put-wanted-requires c κs = let a = c .before .before .before .before .before .before .before .before .before .before .before .before .before .before .before .before .before .before .before .before .args in omega (arith, length-opening (a .why), length-decimal (a .line))
+put-wanted-requires c κs = let a = c .before .before .before .before .before .before .before .before .before .before .before .before .before .before .before .before .before .before .before .before
+    .args in omega (arith, length-opening (a .why), length-decimal (a .line))
 
 put-requires-3 : tie.Need-put-requires-3
-put-requires-3 c κs = let a = c .before .before .before .before .before .before .before .before .before .before .before .before .before .before .before .before .before .before .before .before .before .before .before .before .before .args in omega (arith, length-opening (a .why), length-decimal (a .line), length-wanted (a .why))
+put-requires-3 c κs = let a = c .before .before .before .before .before .before .before .before .before .before .before .before .before .before .before .before .before .before .before .before .before
+    .before .before .before .before .args in omega (arith, length-opening (a .why), length-decimal (a .line), length-wanted (a .why))
 
 returns : tie.Need-returns
 unfolding faultLines

@@ -5,7 +5,7 @@ use Rattle.table_words.specs.declared.Sign.{Sign}
 use borrow.Author.Needs.{needs}
 use Rattle.table_words.proofs.turn.Statement.{statement}
 use Rattle.table_words.proofs.turn.Tie as tie
-use Rattle.table_words.proofs.within.Reads as within-reads
+use Rattle.table_words.proofs.word_on.Reads as word-on-reads
 
 returns : tie.Need-returns
 returns c = sym (ap (λ (z : Sign). turn z (c .before .before .args .w) (c .before .before .args .b)) (c .enum-told .given .1))
@@ -26,7 +26,7 @@ returns-6 : tie.Need-returns-6
 returns-6 c = sym (ap (λ (z : Sign). turn z (c .before .before .args .w) (c .before .before .args .b)) (c .enum-told6 .given .1))
 
 returns-7 : tie.Need-returns-7
-returns-7 c = c .within .ensures ∙ sym (ap (λ (z : Sign). turn z (c .before .before .before .args .w) (c .before .before .before .args .b)) (c .before .enum-told7 .given .1))
+returns-7 c = c .word-on .ensures ∙ sym (ap (λ (z : Sign). turn z (c .before .before .before .args .w) (c .before .before .before .args .b)) (c .before .enum-told7 .given .1))
 
 pub turn-spec : {M : Type 1} → statement M
 turn-spec =
