@@ -151,7 +151,7 @@ onto-more : (l : List ℕ) (b : ℕ) (ps : List (List ℕ)) → lineOf l (onto b
 onto-more l b [] = refl
 onto-more l b (p ∷ ps) = refl
 
-lines-behind : (stop : ℕ → Bool) (l x : List ℕ) → lineOf l (pieces stop x) ≡ unreturned l
+pub lines-behind : (stop : ℕ → Bool) (l x : List ℕ) → lineOf l (pieces stop x) ≡ unreturned l
 lines-behind stop l [] = refl
 lines-behind stop l (b ∷ t) = ⊎-elim (λ e. rw e refl) (λ e. rw e (onto-more l b (pieces stop t))) (cases (stop b))
 
