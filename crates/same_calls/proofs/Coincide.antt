@@ -9,6 +9,11 @@ use Rattle.same_calls.proofs.covers.Kinds as covers-kinds
 use Rattle.same_calls.proofs.covers.Reads as covers-reads
 use Rattle.same_calls.proofs.proposed.Kinds as proposed-kinds
 use Rattle.same_calls.proofs.proposed.Reads as proposed-reads
+use Rattle.same_calls.proofs.same_lists.Kinds as same-lists-kinds
+use Rattle.same_calls.proofs.same_lists.Reads as same-lists-reads
+
+pub same-lists-coincide : Answers same-lists-kinds.ps same-lists-kinds.r same-lists-reads.Post
+same-lists-coincide κs a x y s t p q = p ∙ sym q
 
 pub misshapen-coincide : Answers misshapen-kinds.ps misshapen-kinds.r misshapen-reads.Post
 misshapen-coincide κs a x y s t p q = p ∙ sym q

@@ -10,7 +10,7 @@ use Rattle.ground.proofs.Every.{every-not}
 use Rattle.ground.proofs.Some.{some-of}
 use Rattle.ground.specs.Search.{some, every}
 use Rattle.run.specs.Run.{listMisshapen}
-use Rattle.same_calls.specs.Same.{isCall, hasCall, hasThat, covers, proposed}
+use Rattle.same_calls.specs.Same.{isCall, hasCall, hasThat, covers, sameLists, proposed}
 
 pub odd : (n : ℕ) → (n % 4 ≡ 0 → ⊥) → true ≡ listMisshapen n
 unfolding listMisshapen
@@ -56,3 +56,12 @@ proposed-first a b v side e = rw e refl
 pub proposed-second : (a b : List ℕ) (v side : ℕ) → hasCall (length a / 4) a 0 v v side ≡ false → hasCall (length b / 4) b 0 v v side ≡ proposed a b v side
 unfolding proposed
 proposed-second a b v side e = rw e refl
+
+-- the second list lacks a call, or is asked in turn
+pub not-covered : (a b : List ℕ) → covers a b ≡ false → false ≡ sameLists a b
+unfolding sameLists
+not-covered a b e = rw e refl
+
+pub covered : (a b : List ℕ) → covers a b ≡ true → covers b a ≡ sameLists a b
+unfolding sameLists
+covered a b e = rw e refl

@@ -3,7 +3,7 @@ ghost use mathlib.Core.Path.{_≡_};
 ghost use Prim.Native.Nat.{_+_, _*_, _≤_};
 ghost use lib.ListN.{length};
 ghost use Rattle.run.specs.Run.{listMisshapen};
-ghost use Rattle.same_calls.specs.Same.{isCall, hasCall, covers, proposed};
+ghost use Rattle.same_calls.specs.Same.{isCall, hasCall, covers, sameLists, proposed};
 
 // Whether the list is refused with 17.
 pub fn misshapen(list: &[u8]) -> bool
@@ -73,4 +73,14 @@ pub fn proposed(a: &[u8], b: &[u8], v: u8, side: u8) -> bool
         return true;
     }
     has_call(b, b.len() / 4, 0, v, v, side)
+}
+
+// Whether the lists have the same calls.
+pub fn same_lists(a: &[u8], b: &[u8]) -> bool
+    ensures { λ r. ⌜ r ≡ sameLists (now (a .entry)) (now (b .entry)) ⌝ }
+{
+    if !covers(a, b) {
+        return false;
+    }
+    covers(b, a)
 }
