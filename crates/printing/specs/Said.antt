@@ -7,6 +7,7 @@ use Rattle.calls_said.specs.Faults.{madeText}
 use Rattle.check_text.specs.Table.{checkText}
 use Rattle.journal_text.specs.JournalText.{journalText, keptText}
 use Rattle.replay_text.specs.Replay.{replayText}
+use Rattle.same_text.specs.SameText.{sameText}
 use Rattle.verdict_text.specs.Verdict.{verdictText, inputText}
 use Rattle.run_text.specs.Run.{runText}
 
@@ -20,3 +21,4 @@ pub data Said (text : List ℕ) : Type 0 where
   ofReplay : (faulty : ℕ) (image journal : List ℕ) → text ≡ replayText faulty image journal → Said text
   ofMade : (words : List ℕ) → text ≡ madeText words → Said text
   ofList : (list : List ℕ) → text ≡ listText list → Said text
+  ofSame : (a b : List ℕ) → text ≡ sameText a b → Said text

@@ -6,6 +6,7 @@ ghost use Rattle.calls_said.specs.Faults.{madeText};
 ghost use Rattle.check_text.specs.Table.{checkText};
 ghost use Rattle.journal_text.specs.JournalText.{journalText, keptText};
 ghost use Rattle.replay_text.specs.Replay.{replayText};
+ghost use Rattle.same_text.specs.SameText.{sameText};
 ghost use Rattle.verdict_text.specs.Verdict.{verdictText, inputText};
 ghost use Rattle.run_text.specs.Run.{runText};
 ghost use Rattle.printing.specs.Said.{Said};
@@ -76,6 +77,13 @@ pub fn say_made(text: &[u8], said: &[u8])
 // Prints a list of calls as text.
 pub fn say_list(list: &[u8], text: &[u8])
     requires { ⌜ now text ≡ listText (now list) ⌝ }
+{
+    say(text);
+}
+
+// Prints the comparison of two lists of calls.
+pub fn say_same(a: &[u8], b: &[u8], text: &[u8])
+    requires { ⌜ now text ≡ sameText (now a) (now b) ⌝ }
 {
     say(text);
 }
