@@ -42,9 +42,6 @@ no-stop kind b k e =
     and-false true = refl
     and-false false = refl
 
-pub no-return : (b : ℕ) → clean b ≡ true → eqb b 13 ≡ false
-no-return b e = let h = above b e in ne-eqb b 13 (λ z. omega arith)
-
 -- all bytes below 256 are shown as clean words that are read as these numbers
 unfoldable good : ℕ → Bool
 unfolding all-clean decimal spoken

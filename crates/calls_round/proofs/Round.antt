@@ -13,7 +13,7 @@ use Rattle.ground.proofs.Logic.{cases, and-l, and-r, or-e, or-none}
 use Rattle.ground.proofs.Numbers.{same?}
 use Rattle.ground.specs.Pieces.{cat}
 use Rattle.call_lines.specs.CallLine.{worded, kindName, sideName, callWords, spaced, saidCall}
-use Rattle.call_words.specs.Grammar.{hear, heard, ended}
+use Rattle.call_words.specs.Grammar.{hear, hearAll, ended}
 use Rattle.call_words.specs.Word.{lower, spoken}
 use Rattle.call_words.specs.declared.Heard.the-variants.{Nothing}
 use Rattle.call_words.specs.declared.Line.the-variants.{Call}
@@ -62,30 +62,42 @@ kind-spoken kind h =
 
 -- what three or four words say
 heard-proposal : (p w s : List ℕ) (v side : ℕ) → spoken p ≡ 256 → spoken w ≡ v → v < 256 → spoken s ≡ 259 + side → side < 2
-    → heard Nothing (p ∷ w ∷ s ∷ []) ≡ Call 0 v v side
+    → hearAll Nothing (p ∷ w ∷ s ∷ []) ≡ Call 0 v v side
 unfolding hear ended
 heard-proposal p w s v side a b h c k =
     let z : 259 + side - 259 ≡ side = omega arith in
     rw (a, b, c, lt-ltb v 256 h, le-ltb (259 + side) 259 (omega arith), le-ltb 260 (259 + side) (omega arith)) (ap (Call 0 v v) z)
 
 heard-words : (p w x s : List ℕ) (kind u v side : ℕ) → spoken p ≡ 256 + kind → kind < 3 → (kind ≡ 0 → ⊥) → spoken w ≡ u → u < 256 → spoken x ≡ v → v < 256
-    → spoken s ≡ 259 + side → side < 2 → heard Nothing (p ∷ w ∷ x ∷ s ∷ []) ≡ Call kind u v side
+    → spoken s ≡ 259 + side → side < 2 → hearAll Nothing (p ∷ w ∷ x ∷ s ∷ []) ≡ Call kind u v side
 unfolding hear ended
 heard-words p w x s kind u v side a h n b i c j d k =
     let y : 256 + kind - 256 ≡ kind = omega arith in
     let z : 259 + side - 259 ≡ side = omega arith in
-    rw (a, b, c, d, le-ltb (256 + kind) 256 (omega arith), lt-ltb (256 + kind) 259 (omega arith), y, ne-eqb kind 0 n, lt-ltb u 256 i, lt-ltb v 256 j,
-    le-ltb (259 + side) 259 (omega arith), le-ltb 260 (259 + side) (omega arith)) (ap (Call kind u v) z)
+    rw (
+      a,
+      b,
+      c,
+      d,
+      le-ltb (256 + kind) 256 (omega arith),
+      lt-ltb (256 + kind) 259 (omega arith),
+      y,
+      ne-eqb kind 0 n,
+      lt-ltb u 256 i,
+      lt-ltb v 256 j,
+      le-ltb (259 + side) 259 (omega arith),
+      le-ltb 260 (259 + side) (omega arith),
+    ) (ap (Call kind u v) z)
 
 heard-numbers : (p w x s : List ℕ) (a b c d : ℕ) → spoken p ≡ a → a < 256 → spoken w ≡ b → b < 256 → spoken x ≡ c → c < 256 → spoken s ≡ d → d < 256
-    → heard Nothing (p ∷ w ∷ x ∷ s ∷ []) ≡ Call a b c d
+    → hearAll Nothing (p ∷ w ∷ x ∷ s ∷ []) ≡ Call a b c d
 unfolding hear ended
 heard-numbers p w x s a b c d e h f i g j k l =
     rw (e, f, g, k, lt-ltb a 256 h, lt-ltb b 256 i, lt-ltb c 256 j, lt-ltb d 256 l) refl
 
 -- the line of a call, in front of other lines
 module _ (L : ℕ) (out : List ℕ) (kind from to side : ℕ) (rest : List ℕ) (room : length out < 16384)
-  (a : kind < 256) (b : from < 256) (c : to < 256) (d : side < 256) where
+    (a : kind < 256) (b : from < 256) (c : to < 256) (d : side < 256) where
   abbrev Read : Type 0
   Read = reading L out (pieces (stops 10) (spaced (callWords kind from to side) ++ (10 ∷ rest)))
       ≡ reading (suc L) (out ++ (kind ∷ from ∷ to ∷ side ∷ [])) (pieces (stops 10) rest)
@@ -123,8 +135,7 @@ module _ (L : ℕ) (out : List ℕ) (kind from to side : ℕ) (rest : List ℕ) 
   unfolding worded
   said-in-words w =
       let r = and-r (ltb side 2) _ w in
-      let o = and-r (ltb kind 3) (not (eqb kind 0) || eqb from to) r in
-      (
+      let o = and-r (ltb kind 3) (not (eqb kind 0) || eqb from to) r in (
         ltb-true side 2 (and-l (ltb side 2) _ w),
         ltb-true kind 3 (and-l (ltb kind 3) (not (eqb kind 0) || eqb from to) r),
         λ z. eqb-true from to (rw (eq-eqb kind 0 z) at o),

@@ -50,8 +50,11 @@ module _ (word a b : List ℕ) (i : ℕ) where
   unfolding lackLine
   length-lack h =
       chosen (hasThat (length b / 4) b a i || hasThat i a a i) (word ++ saidAt a i)
-      (omega (arith, length-append word (saidAt a i),
-      length-call (getD a (4 * i) 0) (getD a (4 * i + 1) 0) (getD a (4 * i + 2) 0) (getD a (4 * i + 3) 0)))
+      (omega (
+        arith,
+        length-append word (saidAt a i),
+        length-call (getD a (4 * i) 0) (getD a (4 * i + 1) 0) (getD a (4 * i + 2) 0) (getD a (4 * i + 3) 0),
+      ))
 
 pub length-lacks : (word a b : List ℕ) (k : ℕ) → length word ≤ 7 → length (cat (lackLine word a b) k) ≤ 91 * k
 length-lacks word a b k h = length-rows (lackLine word a b) 91 k (λ i. length-lack word a b i h)
@@ -115,5 +118,9 @@ pub length-answer : (a b : List ℕ) → length a ≤ 16384 → length b ≤ 163
 unfolding answerLines
 length-answer a b h k =
     either (sameLists a b) (ascii "same\n") (lackLines (ascii "first ") a b ++ lackLines (ascii "second ") b a) (omega arith)
-    (omega (arith, length-append (lackLines (ascii "first ") a b) (lackLines (ascii "second ") b a),
-    length-lack-lines (ascii "first ") a b (omega arith), length-lack-lines (ascii "second ") b a (omega arith)))
+    (omega (
+      arith,
+      length-append (lackLines (ascii "first ") a b) (lackLines (ascii "second ") b a),
+      length-lack-lines (ascii "first ") a b (omega arith),
+      length-lack-lines (ascii "second ") b a (omega arith),
+    ))

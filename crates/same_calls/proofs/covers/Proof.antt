@@ -24,7 +24,8 @@ returns : tie.Need-returns Inv-loop μ-loop
 unfolding hasThat
 returns c =
     let x = c .before .before .before .before .before .before .before .before .before .before .args in
-    lacking (now (x .a)) (now (x .b)) (c .before .before .before .before .before .before .before .loop .i) (c .before .before .before .before .before .before .loop-test .taken) (sym (c .before .has-call .ensures) ∙ not-true _ (c .if1 .taken))
+    lacking (now (x .a)) (now (x .b)) (c .before .before .before .before .before .before .before .loop .i) (c .before .before .before .before .before .before .loop-test .taken) (sym (c .before .has-call .ensures) ∙ not-true _
+    (c .if1 .taken))
 
 loop-again : tie.Need-loop-again Inv-loop μ-loop
 unfolding hasThat

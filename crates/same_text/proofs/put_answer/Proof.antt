@@ -26,7 +26,8 @@ returns c =
 returns-2 : tie.Need-returns-2
 returns-2 c =
     let a = c .before .before .before .before .before .before .before .before .before .before .before .before .before .before .before .args in
-    as-text (said-apart (now (a .a)) (now (a .b)) (sym (c .before .before .before .before .before .before .before .before .before .before .before .same-lists .ensures) ∙ c .before .before .before .before .before .before .before .before .before .before .if1 .left))
+    as-text (said-apart (now (a .a)) (now (a .b)) (sym
+    (c .before .before .before .before .before .before .before .before .before .before .before .same-lists .ensures) ∙ c .before .before .before .before .before .before .before .before .before .before .if1 .left))
     (then (c .before .before .before .before .before .before .before .put-lacks .ensures) (c .before .before .put-lacks2 .ensures) (omega arith))
 
 pub put-answer-spec : {M : Type 1} → statement M

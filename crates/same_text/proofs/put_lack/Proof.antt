@@ -20,7 +20,8 @@ returns-2 : tie.Need-returns-2
 unfolding hasThat
 returns-2 c =
     let a = c .before .before .before .before .before .before .before .before .before .before .before .before .before .before .before .before .args in
-    as-text (shown-before (now (a .word)) (now (a .a)) (now (a .b)) (a .i) (sym (c .before .before .before .before .before .before .before .has-call .ensures) ∙ c .before .before .before .before .before .before .if1 .left) (sym (c .before .has-call2 .ensures) ∙ c .if2 .taken))
+    as-text (shown-before (now (a .word)) (now (a .a)) (now (a .b)) (a .i) (sym (c .before .before .before .before .before .before .before .has-call .ensures) ∙ c .before .before .before .before .before .before .if1 .left) (sym
+    (c .before .has-call2 .ensures) ∙ c .if2 .taken))
     (nothing-put (now (a .room)) (a .at) (omega arith))
 
 returns-3 : tie.Need-returns-3

@@ -38,9 +38,11 @@ loop-again c =
     let s = c .before .before .before .before .before .before .before .before .before .before in
     let a = s .args in
     let l = c .before .before .before .before .before .loop in
-    let p = c .before .before .put-lack in
-    (omega arith, p .kept .0 ∙ l .inv .1,
-    row-more (lackLine (now (a .word)) (now (a .a)) (now (a .b))) (l .i) (l .inv .2) (p .ensures) (omega (arith, s .pre .0)))
+    let p = c .before .before .put-lack in (
+      omega arith,
+      p .kept .0 ∙ l .inv .1,
+      row-more (lackLine (now (a .word)) (now (a .a)) (now (a .b))) (l .i) (l .inv .2) (p .ensures) (omega (arith, s .pre .0)),
+    )
 
 returns : tie.Need-returns Inv-loop μ-loop
 unfolding lackLines
