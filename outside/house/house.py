@@ -35,7 +35,7 @@ def declarations(lines):
         if line.strip() and record is not None and indent <= record:
             record = None
         m = DECLARED.match(line)
-        if m and m[3] not in ("mod", "use") and record is None:
+        if m and m[3] not in ("mod", "use", "data") and record is None:
             yield i, indent, m[3]
         if record is None and re.match(r" *(pub )?record ", line):
             record = indent

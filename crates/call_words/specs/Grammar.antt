@@ -41,6 +41,6 @@ ended (Whole a b c d) = Line.Call a b c d
 ended (Wrong what) = Fault what
 
 -- the words of a line, one after the other
-abbrev pub heard : Heard → List (List ℕ) → Line
-heard s [] = ended s
-heard s (w ∷ ws) = heard (hear s (spoken w)) ws
+abbrev pub hearAll : Heard → List (List ℕ) → Line
+hearAll s [] = ended s
+hearAll s (w ∷ ws) = hearAll (hear s (spoken w)) ws

@@ -24,11 +24,6 @@ unfolding clean
 all-clean [] = true
 all-clean (b ∷ t) = clean b && all-clean t
 
--- a byte of a line: of a word, or a blank
-unfoldable pub tidy : ℕ → Bool
-unfolding clean
-tidy b = clean b || eqb b 32
-
 above : (b : ℕ) → clean b ≡ true → 47 < b
 unfolding clean
 above b e = ltb-true 47 b (and-l (ltb 47 b) (not (eqb b 59)) e)
@@ -47,11 +42,9 @@ no-stop kind b k e =
     and-false true = refl
     and-false false = refl
 
-pub no-return : (b : ℕ) → clean b ≡ true → eqb b 13 ≡ false
-no-return b e = let h = above b e in ne-eqb b 13 (λ z. omega arith)
-
 -- all bytes below 256 are shown as clean words that are read as these numbers
-good : ℕ → Bool
+unfoldable good : ℕ → Bool
+unfolding all-clean decimal spoken
 good x = all-clean (decimal x) && (ltb 0 (length (decimal x)) && eqb (spoken (decimal x)) x)
 
 all-good : every 256 good ≡ true

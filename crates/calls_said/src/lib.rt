@@ -14,7 +14,11 @@ fn put_expected(room: &mut [u8], at: usize, what: u8) -> usize
     ensures { λ r. ⌜ Writes (ascii (expected what)) (now (room .entry)) at r (now (room .exit)) ⌝ }
 {
     if what == 0 {
-        return text::put(room, at, b"expected propose, vote, accept or a number, 0 to 255");
+        return text::put(
+            room,
+            at,
+            b"expected propose, vote, accept or a number, 0 to 255",
+        );
     }
     if what == 1 {
         return text::put(room, at, b"expected a number, 0 to 255");

@@ -12,7 +12,7 @@ use lib.ListN.{length, getD, take, drop, length-drop}
 use lib.Seq.{drop-cons, drop-length, drop-drop, drop-nil, take-length, take-take, length-take-le, getD-take, getD-drop}
 use borrow.Author.Tests.{lt-ltb, le-ltb, eq-eqb, ne-eqb}
 use Rattle.ground.proofs.Logic.{cases}
-use Rattle.call_words.specs.Grammar.{hear, heard, ended}
+use Rattle.call_words.specs.Grammar.{hear, hearAll, ended}
 use Rattle.call_words.specs.Word.{spoken}
 use Rattle.call_words.specs.declared.Heard.{Heard}
 use Rattle.call_words.specs.declared.Line.{Line}
@@ -88,12 +88,12 @@ a-word s [] w n e = absurd (n refl)
 a-word s (b ∷ p) w n e = ap (hear s) e
 
 -- a piece is heard, and then the others
-heard-piece : (s : Heard) (p : List ℕ) (ps : List (List ℕ)) → heard s (filled (p ∷ ps)) ≡ heard (hearPiece s p) (filled ps)
+heard-piece : (s : Heard) (p : List ℕ) (ps : List (List ℕ)) → hearAll s (filled (p ∷ ps)) ≡ hearAll (hearPiece s p) (filled ps)
 heard-piece s [] ps = refl
 heard-piece s (b ∷ w) ps = refl
 
 heard-next : (stop : ℕ → Bool) (s : Heard) (l : List ℕ)
-    → heard s (filled (pieces stop l)) ≡ heard (hearPiece s (take (upto stop l) l)) (filled (pieces stop (drop (suc (upto stop l)) l)))
+    → hearAll s (filled (pieces stop l)) ≡ hearAll (hearPiece s (take (upto stop l) l)) (filled (pieces stop (drop (suc (upto stop l)) l)))
 heard-next stop s l =
     ⊎-elim
     (λ e. rw (pieces-whole stop l e, e, take-length l, drop-past l (suc (length l)) (omega arith)) (heard-piece s l []))
@@ -110,10 +110,10 @@ wide : (u at end : ℕ) → end ≡ at + u → u ≡ end - at
 wide u at end e = omega arith
 
 pub heard-more : (stop : ℕ → Bool) (s : Heard) (l : List ℕ) (at end : ℕ) → end ≡ at + upto stop (drop at l)
-    → heard s (filled (pieces stop (drop at l))) ≡ heard (hearPiece s (take (end - at) (drop at l))) (filled (pieces stop (drop (end + 1) l)))
+    → hearAll s (filled (pieces stop (drop at l))) ≡ hearAll (hearPiece s (take (end - at) (drop at l))) (filled (pieces stop (drop (end + 1) l)))
 heard-more stop s l at end e = rw (behind stop l at end e, ← wide (upto stop (drop at l)) at end e) (heard-next stop s (drop at l))
 
-pub heard-end : (stop : ℕ → Bool) (s : Heard) (l : List ℕ) (at : ℕ) → length l ≤ at → heard s (filled (pieces stop (drop at l))) ≡ ended s
+pub heard-end : (stop : ℕ → Bool) (s : Heard) (l : List ℕ) (at : ℕ) → length l ≤ at → hearAll s (filled (pieces stop (drop at l))) ≡ ended s
 heard-end stop s l at h = rw (drop-past l at h) refl
 
 -- the bytes of a line
@@ -151,7 +151,7 @@ onto-more : (l : List ℕ) (b : ℕ) (ps : List (List ℕ)) → lineOf l (onto b
 onto-more l b [] = refl
 onto-more l b (p ∷ ps) = refl
 
-lines-behind : (stop : ℕ → Bool) (l x : List ℕ) → lineOf l (pieces stop x) ≡ unreturned l
+pub lines-behind : (stop : ℕ → Bool) (l x : List ℕ) → lineOf l (pieces stop x) ≡ unreturned l
 lines-behind stop l [] = refl
 lines-behind stop l (b ∷ t) = ⊎-elim (λ e. rw e refl) (λ e. rw e (onto-more l b (pieces stop t))) (cases (stop b))
 

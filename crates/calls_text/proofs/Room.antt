@@ -16,7 +16,7 @@ use Rattle.call_words.specs.declared.Line.the-variants.{Empty, Call}
 use Rattle.calls_text.specs.Inner.{lineAt, tookOf, tookInto}
 use Rattle.calls_text.proofs.Cuts.{reading-more, no-more, drop-past}
 use Rattle.calls_text.specs.Pieces.{stops, upto, pieces}
-use Rattle.calls_text.specs.Reading.{Grown, grown, onward, Reading, reading, readText, readInto}
+use Rattle.calls_text.specs.Reading.{Grown, grown, onward, Reading, reading, readText, textInto}
 use Rattle.calls_text.specs.declared.Made.the-variants.{Bytes, Fault}
 use Rattle.calls_text.specs.declared.Took.{Took}
 use Rattle.calls_text.specs.declared.Took.the-variants.{To, Not}
@@ -67,8 +67,7 @@ took-sane out (Line.Fault what) m h k e = let z : _≡_ {A = ℕ} 0 1 = cc in ab
 pub took-on : (g : Grown) (room after : List ℕ) (m : ℕ) (f : List ℕ → Reading) (s : ℕ → Reading) → tookOf g ≡ To m → after ≡ tookInto g room
     → (onward g f s ≡ f (take m after)) × (drop m after ≡ drop m room) × (m ≤ length after)
 took-on (Grown.On out) room after m f s e p =
-    let z : length out ≡ m = cc in
-    (
+    let z : length out ≡ m = cc in (
       ap f (sym (rw p (take-at out (drop (length out) room) m z))),
       rw p (drop-at out (drop (length out) room) m z ∙ ap (λ (k : ℕ). drop k room) z),
       rw p (omega (arith, length-append out (drop (length out) room))),
@@ -94,8 +93,8 @@ took-kept (Grown.On out) room what e = let z : _≡_ {A = ℕ} 0 1 = cc in absur
 took-kept (Grown.Stop w) room what e = refl
 
 module _ (text room₀ room after : List ℕ) (L at n end : ℕ) (line : Line) (h : at ≤ length text) (f : n ≤ length room)
-  (e : end ≡ at + upto (stops 10) (drop at text)) (said : line ≡ lineAt text at end)
-  (r : reading 1 [] (pieces (stops 10) text) ≡ reading L (take n room) (pieces (stops 10) (drop at text))) where
+    (e : end ≡ at + upto (stops 10) (drop at text)) (said : line ≡ lineAt text at end)
+    (r : reading 1 [] (pieces (stops 10) text) ≡ reading L (take n room) (pieces (stops 10) (drop at text))) where
   goes : (reading 1 [] (pieces (stops 10) text)
       ≡ onward (grown (take n room) line) (λ more. reading (suc L) more (pieces (stops 10) (drop (end + 1) text)))
       (λ what. record { answer = Fault L what; bytes = take n room }))
@@ -117,8 +116,8 @@ module _ (text room₀ room after : List ℕ) (L at n end : ℕ) (line : Line) (
   -- a line was not: that is the answer, and the room is as it was
   pub after-fault : (what : ℕ) → drop n room ≡ drop n room₀
       → tookOf (grown (take n room) line) ≡ Not what → after ≡ tookInto (grown (take n room) line) room
-      → (Fault L what ≡ readText text .answer) × (after ≡ readInto text room₀)
-  unfolding readText readInto
+      → (Fault L what ≡ readText text .answer) × (after ≡ textInto text room₀)
+  unfolding readText textInto
   after-fault what d t p =
       let g : Grown = grown (take n room) line in
       let all = goes ∙ took-not g what (λ more. reading (suc L) more (pieces (stops 10) (drop (end + 1) text)))
@@ -128,8 +127,8 @@ module _ (text room₀ room after : List ℕ) (L at n end : ℕ) (line : Line) (
 -- the end of the text
 pub after-all : (text room₀ room : List ℕ) (L at n : ℕ) → length text ≤ at → n ≤ length room → drop n room ≡ drop n room₀
     → reading 1 [] (pieces (stops 10) text) ≡ reading L (take n room) (pieces (stops 10) (drop at text))
-    → (Bytes n ≡ readText text .answer) × (room ≡ readInto text room₀)
-unfolding readText readInto
+    → (Bytes n ≡ readText text .answer) × (room ≡ textInto text room₀)
+unfolding readText textInto
 after-all text room₀ room L at n h f d r =
     let all : reading 1 [] (pieces (stops 10) text) ≡ record { answer = Bytes n; bytes = take n room } =
     r ∙ rw (drop-past text at h, ← no-more L (take n room), length-take-le n room f) refl in

@@ -4,7 +4,7 @@ use mathlib.Core.Bool.{Bool, _&&_, _||_, cond}
 use mathlib.Core.List.{List, [], _∷_}
 use lib.Dec.{eqb}
 use lib.ListN.{length, take, getD}
-use Rattle.call_words.specs.Grammar.{heard}
+use Rattle.call_words.specs.Grammar.{hearAll}
 use Rattle.call_words.specs.declared.Heard.the-variants.{Nothing}
 use Rattle.call_words.specs.declared.Line.{Line}
 
@@ -36,7 +36,7 @@ filled ((b ∷ p) ∷ ps) = (b ∷ p) ∷ filled ps
 -- what a line says, without its end: its words up to a comment, "in a comment every byte is taken"
 unfoldable pub says : List ℕ → Line
 unfolding stops
-says line = heard Nothing (filled (pieces (stops 32) (take (upto (stops 35) line) line)))
+says line = hearAll Nothing (filled (pieces (stops 32) (take (upto (stops 35) line) line)))
 
 -- "a line ends with LF or CR LF": where a line feed comes behind it, a line without the CR that is its last byte
 unfoldable pub unreturned : List ℕ → List ℕ

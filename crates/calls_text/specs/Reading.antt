@@ -42,6 +42,6 @@ unfolding stops says
 readText text = reading 1 [] (pieces (stops 10) text)
 
 -- what the room holds then: those calls in front, and the rest kept
-unfoldable pub readInto : List ℕ → List ℕ → List ℕ
+unfoldable pub textInto : List ℕ → List ℕ → List ℕ
 unfolding readText
-readInto text room = readText text .bytes ++ drop (length (readText text .bytes)) room
+textInto text room = readText text .bytes ++ drop (length (readText text .bytes)) room

@@ -4,7 +4,7 @@ ghost use Prim.Native.Nat.{_+_, _%_, _≤_};
 ghost use lib.ListN.{length, take, drop};
 ghost use Rattle.calls_text.specs.Inner.{hearPiece, lineAt, tookOf, tookInto};
 ghost use Rattle.calls_text.specs.Pieces.{stops, upto, says};
-ghost use Rattle.calls_text.specs.Reading.{grown, readText, readInto};
+ghost use Rattle.calls_text.specs.Reading.{grown, readText, textInto};
 use call_words::Heard;
 use call_words::Line;
 
@@ -136,7 +136,7 @@ fn take(line: Line, room: &mut [u8], n: usize) -> Took
 // Reads a text into the room.
 pub fn make(text: &[u8], room: &mut [u8; 16384]) -> Made
     ensures answer { λ r. ⌜ r ≡ readText (now (text .entry)) .answer ⌝ }
-    ensures memory { λ r. ⌜ now (room .exit) ≡ readInto (now (text .entry)) (now (room .entry)) ⌝ }
+    ensures memory { λ r. ⌜ now (room .exit) ≡ textInto (now (text .entry)) (now (room .entry)) ⌝ }
 {
     let mut at: usize = 0;
     let mut number: u64 = 1;

@@ -12,6 +12,7 @@ use Rattle.verdict_sites.specs.Sites.{verdictSites}
 use Rattle.table_made.specs.Made.{made}
 use Rattle.table_text.specs.MakeText.{makeText, isAnswer}
 use Rattle.table_text.specs.ShowText.{showText}
+use Rattle.same_text.specs.SameText.{sameText}
 use Rattle.verdict_text.specs.Verdict.{verdictText, inputText}
 use Rattle.run_text.specs.Run.{runText}
 
@@ -28,3 +29,4 @@ pub data Said (text : List ℕ) : Type 0 where
   ofShow : (image : List ℕ) → text ≡ showText image → Said text
   ofMade : (words : List ℕ) → text ≡ madeText words → Said text
   ofList : (list : List ℕ) → text ≡ listText list → Said text
+  ofSame : (a b : List ℕ) → text ≡ sameText a b → Said text

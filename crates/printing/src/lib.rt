@@ -11,6 +11,7 @@ ghost use Rattle.verdict_sites.specs.Sites.{verdictSites};
 ghost use Rattle.table_made.specs.Made.{made};
 ghost use Rattle.table_text.specs.MakeText.{makeText, isAnswer};
 ghost use Rattle.table_text.specs.ShowText.{showText};
+ghost use Rattle.same_text.specs.SameText.{sameText};
 ghost use Rattle.verdict_text.specs.Verdict.{verdictText, inputText};
 ghost use Rattle.run_text.specs.Run.{runText};
 ghost use Rattle.printing.specs.Said.{Said};
@@ -111,6 +112,13 @@ pub fn say_made(text: &[u8], said: &[u8])
 // Prints a list of calls as text.
 pub fn say_list(list: &[u8], text: &[u8])
     requires { ⌜ now text ≡ listText (now list) ⌝ }
+{
+    say(text);
+}
+
+// Prints the comparison of two lists of calls.
+pub fn say_same(a: &[u8], b: &[u8], text: &[u8])
+    requires { ⌜ now text ≡ sameText (now a) (now b) ⌝ }
 {
     say(text);
 }

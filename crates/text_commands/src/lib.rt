@@ -42,5 +42,9 @@ pub fn of_three(word: &[u8], k: usize, l: usize) -> bool {
         calls_shell::calls_of(k, l);
         return true;
     }
+    if check::same(word, b"same") {
+        calls_shell::same_of(k, l);
+        return true;
+    }
     false
 }

@@ -15,4 +15,5 @@ put-pair-spec =
     (λ c κs. omega (arith, length-decimal (c .before .before .before .before .before .before .before .args .from)))
     (λ c κs. omega (arith, length-decimal (c .before .before .before .before .before .before .before .before .before .before .before .args .from)))
     (λ c. search needs)
-    (λ c. three (c .before .before .before .before .before .before .before .before .before .before .before .put-decimal .ensures) (c .before .before .before .before .before .before .put .ensures) (c .before .before .put-decimal2 .ensures) (omega arith)))
+    (λ c. three (c .before .before .before .before .before .before .before .before .before .before .before .put-decimal .ensures) (c .before .before .before .before .before .before .put .ensures)
+    (c .before .before .put-decimal2 .ensures) (omega arith)))

@@ -43,8 +43,8 @@ loop-again c =
       omega arith,
       c .if3 .left,
       l .inv .2
-      ∙ digit-more (l .x) (now (c .before .before .before .before .before .before .args .word)) (l .i) (c .before .before .before .before .loop-test .taken)
-      (c .before .before .if1 .left) (c .before .if2 .left) (c .if3 .left),
+          ∙ digit-more (l .x) (now (c .before .before .before .before .before .before .args .word)) (l .i) (c .before .before .before .before .loop-test .taken)
+          (c .before .before .if1 .left) (c .before .if2 .left) (c .if3 .left),
     )
 
 returns-4 : tie.Need-returns-4 Inv-loop μ-loop

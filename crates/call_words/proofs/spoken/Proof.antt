@@ -20,14 +20,16 @@ returns-2 c =
 returns-3 : tie.Need-returns-3
 returns-3 c =
     sym
-    (said-vote (now (c .before .before .before .before .before .before .before .before .before .args .word)) (rw (c .before .before .before .before .before .before .before .figure .ensures) at (c .before .before .before .before .before .before .if1 .left))
+    (said-vote (now (c .before .before .before .before .before .before .before .before .before .args .word)) (rw (c .before .before .before .before .before .before .before .figure .ensures) at
+    (c .before .before .before .before .before .before .if1 .left))
     (sym (c .before .before .before .before .spells .ensures) ∙ c .before .before .before .if2 .left)
     (sym (c .before .spells2 .ensures) ∙ c .if3 .taken))
 
 returns-4 : tie.Need-returns-4
 returns-4 c =
     sym
-    (said-accept (now (c .before .before .before .before .before .before .before .before .before .before .before .before .args .word)) (rw (c .before .before .before .before .before .before .before .before .before .before .figure .ensures) at (c .before .before .before .before .before .before .before .before .before .if1 .left))
+    (said-accept (now (c .before .before .before .before .before .before .before .before .before .before .before .before .args .word)) (rw
+    (c .before .before .before .before .before .before .before .before .before .before .figure .ensures) at (c .before .before .before .before .before .before .before .before .before .if1 .left))
     (sym (c .before .before .before .before .before .before .before .spells .ensures) ∙ c .before .before .before .before .before .before .if2 .left)
     (sym (c .before .before .before .before .spells2 .ensures) ∙ c .before .before .before .if3 .left)
     (sym (c .before .spells3 .ensures) ∙ c .if4 .taken))
@@ -35,7 +37,9 @@ returns-4 c =
 returns-5 : tie.Need-returns-5
 returns-5 c =
     sym
-    (said-drill (now (c .before .before .before .before .before .before .before .before .before .before .before .before .before .before .before .args .word)) (rw (c .before .before .before .before .before .before .before .before .before .before .before .before .before .figure .ensures) at (c .before .before .before .before .before .before .before .before .before .before .before .before .if1 .left))
+    (said-drill (now (c .before .before .before .before .before .before .before .before .before .before .before .before .before .before .before .args .word)) (rw
+    (c .before .before .before .before .before .before .before .before .before .before .before .before .before .figure .ensures) at
+    (c .before .before .before .before .before .before .before .before .before .before .before .before .if1 .left))
     (sym (c .before .before .before .before .before .before .before .before .before .before .spells .ensures) ∙ c .before .before .before .before .before .before .before .before .before .if2 .left)
     (sym (c .before .before .before .before .before .before .before .spells2 .ensures) ∙ c .before .before .before .before .before .before .if3 .left)
     (sym (c .before .before .before .before .spells3 .ensures) ∙ c .before .before .before .if4 .left)
@@ -44,8 +48,11 @@ returns-5 c =
 returns-6 : tie.Need-returns-6
 returns-6 c =
     sym
-    (said-live (now (c .before .before .before .before .before .before .before .before .before .before .before .before .before .before .before .before .before .before .args .word)) (rw (c .before .before .before .before .before .before .before .before .before .before .before .before .before .before .before .before .figure .ensures) at (c .before .before .before .before .before .before .before .before .before .before .before .before .before .before .before .if1 .left))
-    (sym (c .before .before .before .before .before .before .before .before .before .before .before .before .before .spells .ensures) ∙ c .before .before .before .before .before .before .before .before .before .before .before .before .if2 .left)
+    (said-live (now (c .before .before .before .before .before .before .before .before .before .before .before .before .before .before .before .before .before .before .args .word)) (rw
+    (c .before .before .before .before .before .before .before .before .before .before .before .before .before .before .before .before .figure .ensures) at
+    (c .before .before .before .before .before .before .before .before .before .before .before .before .before .before .before .if1 .left))
+    (sym (c .before .before .before .before .before .before .before .before .before .before .before .before .before .spells .ensures)
+    ∙ c .before .before .before .before .before .before .before .before .before .before .before .before .if2 .left)
     (sym (c .before .before .before .before .before .before .before .before .before .before .spells2 .ensures) ∙ c .before .before .before .before .before .before .before .before .before .if3 .left)
     (sym (c .before .before .before .before .before .before .before .spells3 .ensures) ∙ c .before .before .before .before .before .before .if4 .left)
     (sym (c .before .before .before .before .spells4 .ensures) ∙ c .before .before .before .if5 .left)
@@ -54,8 +61,11 @@ returns-6 c =
 returns-7 : tie.Need-returns-7
 returns-7 c =
     sym
-    (said-nothing (now (c .before .before .before .before .before .before .before .before .before .before .before .before .before .before .before .before .before .before .args .word)) (rw (c .before .before .before .before .before .before .before .before .before .before .before .before .before .before .before .before .figure .ensures) at (c .before .before .before .before .before .before .before .before .before .before .before .before .before .before .before .if1 .left))
-    (sym (c .before .before .before .before .before .before .before .before .before .before .before .before .before .spells .ensures) ∙ c .before .before .before .before .before .before .before .before .before .before .before .before .if2 .left)
+    (said-nothing (now (c .before .before .before .before .before .before .before .before .before .before .before .before .before .before .before .before .before .before .args .word)) (rw
+    (c .before .before .before .before .before .before .before .before .before .before .before .before .before .before .before .before .figure .ensures) at
+    (c .before .before .before .before .before .before .before .before .before .before .before .before .before .before .before .if1 .left))
+    (sym (c .before .before .before .before .before .before .before .before .before .before .before .before .before .spells .ensures)
+    ∙ c .before .before .before .before .before .before .before .before .before .before .before .before .if2 .left)
     (sym (c .before .before .before .before .before .before .before .before .before .before .spells2 .ensures) ∙ c .before .before .before .before .before .before .before .before .before .if3 .left)
     (sym (c .before .before .before .before .before .before .before .spells3 .ensures) ∙ c .before .before .before .before .before .before .if4 .left)
     (sym (c .before .before .before .before .spells4 .ensures) ∙ c .before .before .before .if5 .left)

@@ -16,7 +16,8 @@ put-expected-requires : tie.Need-put-expected-requires
 put-expected-requires c κs = omega (arith, length-decimal (c .before .before .before .before .before .before .before .before .before .before .before .before .before .before .before .before .args .number))
 
 put-requires-3 : tie.Need-put-requires-3
-put-requires-3 c κs = let a = c .before .before .before .before .before .before .before .before .before .before .before .before .before .before .before .before .before .before .before .before .before .args in omega (arith, length-decimal (a .number), length-expected (a .what))
+put-requires-3 c κs = let a = c .before .before .before .before .before .before .before .before .before .before .before .before .before .before .before .before .before .before .before .before .before .args in omega
+    (arith, length-decimal (a .number), length-expected (a .what))
 
 returns : tie.Need-returns
 unfolding faultLine line

@@ -25,4 +25,5 @@ put-refused-spec =
     (λ c κs. search needs)
     (λ c κs. omega (arith, length-refused Refusal.Refusal.List))
     (λ c. search needs)
-    (λ c. as-text (said-refused _ _ (c .before .before .before .before .before .before .before .before .if1 .left)) (then (c .before .before .before .before .before .before .put-refused .ensures) (c .before .before .put-fault .ensures) (omega arith))))
+    (λ c. as-text (said-refused _ _ (c .before .before .before .before .before .before .before .before .if1 .left)) (then (c .before .before .before .before .before .before .put-refused .ensures)
+    (c .before .before .put-fault .ensures) (omega arith))))

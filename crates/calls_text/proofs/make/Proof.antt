@@ -7,7 +7,7 @@ use lib.ListN.{length, take, drop}
 use borrow.Author.Needs.{needs}
 use denote.Ref.{now}
 use Rattle.calls_text.specs.Pieces.{stops, upto, pieces}
-use Rattle.calls_text.specs.Reading.{reading, readText, readInto}
+use Rattle.calls_text.specs.Reading.{reading, readText, textInto}
 use Rattle.calls_text.proofs.Cuts.{upto-inside}
 use Rattle.calls_text.proofs.Room.{after-line, after-fault, after-all}
 use Rattle.calls_text.proofs.make.Statement.{statement}

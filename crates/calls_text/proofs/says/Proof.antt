@@ -7,7 +7,7 @@ use lib.ListN.{length, take, drop}
 use lib.Seq.{length-take-le}
 use borrow.Author.Needs.{needs}
 use denote.Ref.{now}
-use Rattle.call_words.specs.Grammar.{heard}
+use Rattle.call_words.specs.Grammar.{hearAll}
 use Rattle.call_words.specs.declared.Heard.the-variants.{Nothing}
 use Rattle.calls_text.specs.Pieces.{stops, upto, pieces, filled, says}
 use Rattle.calls_text.proofs.Cuts.{upto-inside, heard-more, heard-end}
@@ -16,7 +16,7 @@ use Rattle.calls_text.proofs.says.Tie as tie
 
 abbrev Inv-loop : tie.InvT-loop
 Inv-loop line end line' s₀ at₀ s at =
-    (at ≤ end + 1) × (heard Nothing (filled (pieces (stops 32) line')) ≡ heard s (filled (pieces (stops 32) (drop at line'))))
+    (at ≤ end + 1) × (hearAll Nothing (filled (pieces (stops 32) line')) ≡ hearAll s (filled (pieces (stops 32) (drop at line'))))
 
 abbrev μ-loop : tie.MeasureT-loop
 μ-loop line end line' s₀ at₀ s at = end + 1 - at
@@ -53,14 +53,16 @@ part-hear-piece-end c =
 add-at : tie.Need-add-at Inv-loop μ-loop
 add-at c =
     let u = c .before .before .before .before .before .before in
-    let i = inside (now (u .before .before .args .line)) (u .upto .result) (c .before .before .before .before .loop .at) (c .before .before .upto2 .result) (u .upto .ensures) (c .before .before .before .loop-test .taken) (c .before .before .upto2 .ensures) in
+    let i = inside (now (u .before .before .args .line)) (u .upto .result) (c .before .before .before .before .loop .at) (c .before .before .upto2 .result) (u .upto .ensures) (c .before .before .before .loop-test .taken)
+    (c .before .before .upto2 .ensures) in
     let j = upto-inside (stops 35) (now (u .before .before .args .line)) 0 (u .upto .result) (omega arith) (u .upto .ensures) in
     search needs
 
 loop-less : tie.Need-loop-less Inv-loop μ-loop
 loop-less c =
     let u = c .before .before .before .before .before .before in
-    let i = inside (now (u .before .before .args .line)) (u .upto .result) (c .before .before .before .before .loop .at) (c .before .before .upto2 .result) (u .upto .ensures) (c .before .before .before .loop-test .taken) (c .before .before .upto2 .ensures) in
+    let i = inside (now (u .before .before .args .line)) (u .upto .result) (c .before .before .before .before .loop .at) (c .before .before .upto2 .result) (u .upto .ensures) (c .before .before .before .loop-test .taken)
+    (c .before .before .upto2 .ensures) in
     omega arith
 
 loop-again : tie.Need-loop-again Inv-loop μ-loop
@@ -69,10 +71,11 @@ loop-again c =
     let l = c .before .before .before .before .loop in
     let p = c .before .before .upto2 in
     let line = now (u .before .before .args .line) in
-    let i = inside line (u .upto .result) (l .at) (p .result) (u .upto .ensures) (c .before .before .before .loop-test .taken) (p .ensures) in
-    (omega arith,
-    l .inv .1 ∙ heard-more (stops 32) (l .s) (take (u .upto .result) line) (l .at) (p .result) (p .ensures)
-    ∙ ap (λ s. heard s (filled (pieces (stops 32) (drop (p .result + 1) (take (u .upto .result) line))))) (sym (c .hear-piece .ensures)))
+    let i = inside line (u .upto .result) (l .at) (p .result) (u .upto .ensures) (c .before .before .before .loop-test .taken) (p .ensures) in (
+      omega arith,
+      l .inv .1 ∙ heard-more (stops 32) (l .s) (take (u .upto .result) line) (l .at) (p .result) (p .ensures)
+          ∙ ap (λ s. hearAll s (filled (pieces (stops 32) (drop (p .result + 1) (take (u .upto .result) line))))) (sym (c .hear-piece .ensures)),
+    )
 
 returns : tie.Need-returns Inv-loop μ-loop
 unfolding says
@@ -83,7 +86,7 @@ returns c =
     let e = cut line (u .upto .result) (u .upto .ensures) in
     let h : length (take (u .upto .result) line) ≤ l .at = omega arith in
     let z : u .upto .result ≡ upto (stops 35) line = omega (arith, u .upto .ensures) in
-    c .ended .ensures ∙ sym (heard-end (stops 32) (l .s) (take (u .upto .result) line) (l .at) h) ∙ sym (l .inv .1) ∙ ap (λ k. heard Nothing (filled (pieces (stops 32) (take k line)))) z
+    c .ended .ensures ∙ sym (heard-end (stops 32) (l .s) (take (u .upto .result) line) (l .at) h) ∙ sym (l .inv .1) ∙ ap (λ k. hearAll Nothing (filled (pieces (stops 32) (take k line)))) z
 
 pub says-spec : {M : Type 1} → statement M
 says-spec =
