@@ -9,7 +9,7 @@ use lib.Dec.{eqb, ltb}
 use lib.ListN.{length, getD, drop}
 use lib.Seq.{drop-cons, drop-length}
 use borrow.Author.Tests.{lt-ltb, le-ltb, eq-eqb, ne-eqb}
-use Rattle.call_words.specs.Word.{lower, spells, figure, spoken}
+use Rattle.call_words.specs.Word.{lower, spells, figure, meant}
 use Rattle.text.specs.Text.{ascii}
 
 -- a letter in small
@@ -71,35 +71,35 @@ pub figure-end : (x : ℕ) (l : List ℕ) (i : ℕ) → i ≡ length l → figur
 figure-end x l i e = rw (ap (λ (k : ℕ). drop k l) e ∙ drop-length l) refl
 
 -- what a word says
-pub said-number : (w : List ℕ) → figure 0 w < 256 → spoken w ≡ figure 0 w
-unfolding spoken
+pub said-number : (w : List ℕ) → figure 0 w < 256 → meant w ≡ figure 0 w
+unfolding meant
 said-number w h = rw (lt-ltb (figure 0 w) 256 h) refl
 
 module _ (w : List ℕ) (n : 256 ≤ figure 0 w) where
-  pub said-propose : spells w (ascii "propose") ≡ true → spoken w ≡ 256
-  unfolding spoken
+  pub said-propose : spells w (ascii "propose") ≡ true → meant w ≡ 256
+  unfolding meant
   said-propose e = rw (le-ltb (figure 0 w) 256 n, e) refl
 
   module _ (p : spells w (ascii "propose") ≡ false) where
-    pub said-vote : spells w (ascii "vote") ≡ true → spoken w ≡ 257
-    unfolding spoken
+    pub said-vote : spells w (ascii "vote") ≡ true → meant w ≡ 257
+    unfolding meant
     said-vote e = rw (le-ltb (figure 0 w) 256 n, p, e) refl
 
     module _ (v : spells w (ascii "vote") ≡ false) where
-      pub said-accept : spells w (ascii "accept") ≡ true → spoken w ≡ 258
-      unfolding spoken
+      pub said-accept : spells w (ascii "accept") ≡ true → meant w ≡ 258
+      unfolding meant
       said-accept e = rw (le-ltb (figure 0 w) 256 n, p, v, e) refl
 
       module _ (a : spells w (ascii "accept") ≡ false) where
-        pub said-drill : spells w (ascii "drill") ≡ true → spoken w ≡ 259
-        unfolding spoken
+        pub said-drill : spells w (ascii "drill") ≡ true → meant w ≡ 259
+        unfolding meant
         said-drill e = rw (le-ltb (figure 0 w) 256 n, p, v, a, e) refl
 
         module _ (d : spells w (ascii "drill") ≡ false) where
-          pub said-live : spells w (ascii "live") ≡ true → spoken w ≡ 260
-          unfolding spoken
+          pub said-live : spells w (ascii "live") ≡ true → meant w ≡ 260
+          unfolding meant
           said-live e = rw (le-ltb (figure 0 w) 256 n, p, v, a, d, e) refl
 
-          pub said-nothing : spells w (ascii "live") ≡ false → spoken w ≡ 261
-          unfolding spoken
+          pub said-nothing : spells w (ascii "live") ≡ false → meant w ≡ 261
+          unfolding meant
           said-nothing e = rw (le-ltb (figure 0 w) 256 n, p, v, a, d, e) refl

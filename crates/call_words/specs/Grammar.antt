@@ -10,7 +10,7 @@ use Prim.Native.Nat.{ℕ, _-_}
 use mathlib.Core.Bool.{cond, _||_}
 use mathlib.Core.List.{List, [], _∷_}
 use lib.Dec.{eqb, ltb}
-use Rattle.call_words.specs.Word.{spoken}
+use Rattle.call_words.specs.Word.{meant}
 use Rattle.call_words.specs.declared.Heard.{Heard}
 use Rattle.call_words.specs.declared.Line.{Line}
 use Rattle.call_words.specs.declared.Line.the-variants.{Empty, Fault}
@@ -29,18 +29,18 @@ hear (Whole a b c d) w = Wrong 3
 hear (Wrong what) w = Wrong what
 
 -- the end of the line: nothing, a whole call, or what was expected there
-unfoldable pub ended : Heard → Line
-ended Nothing = Empty
-ended (Kind kind) = Fault 1
-ended (From kind from) = Fault 1
-ended (Ends kind from to) = Fault 2
-ended (One a) = Fault 1
-ended (Two a b) = Fault 1
-ended (Three a b c) = Fault 1
-ended (Whole a b c d) = Line.Call a b c d
-ended (Wrong what) = Fault what
+unfoldable pub closed : Heard → Line
+closed Nothing = Empty
+closed (Kind kind) = Fault 1
+closed (From kind from) = Fault 1
+closed (Ends kind from to) = Fault 2
+closed (One a) = Fault 1
+closed (Two a b) = Fault 1
+closed (Three a b c) = Fault 1
+closed (Whole a b c d) = Line.Call a b c d
+closed (Wrong what) = Fault what
 
 -- the words of a line, one after the other
 abbrev pub hearAll : Heard → List (List ℕ) → Line
-hearAll s [] = ended s
-hearAll s (w ∷ ws) = hearAll (hear s (spoken w)) ws
+hearAll s [] = closed s
+hearAll s (w ∷ ws) = hearAll (hear s (meant w)) ws

@@ -25,9 +25,9 @@ figure x (b ∷ t) =
     (figure (10 * x + (b - 48)) t))
 
 -- what a word says: 0 to 255 that number, 256 to 258 a kind of call, 259 and 260 a side, 261 nothing of a call
-unfoldable pub spoken : List ℕ → ℕ
+unfoldable pub meant : List ℕ → ℕ
 unfolding lower
-spoken w =
+meant w =
     cond (ltb (figure 0 w) 256) (figure 0 w)
     (cond (spells w (ascii "propose")) 256
     (cond (spells w (ascii "vote")) 257

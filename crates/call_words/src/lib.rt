@@ -1,7 +1,7 @@
 // A word of a text, and what the words of a line say of a call.
 ghost use mathlib.Core.Path.{_≡_};
-ghost use Rattle.call_words.specs.Grammar.{hear, ended};
-ghost use Rattle.call_words.specs.Word.{lower, figure, spells, spoken};
+ghost use Rattle.call_words.specs.Grammar.{hear, closed};
+ghost use Rattle.call_words.specs.Word.{lower, figure, spells, meant};
 
 // What the words of a line have said so far. The fields are the call's bytes as far as they are known.
 pub enum Heard {
@@ -77,8 +77,8 @@ fn figure(word: &[u8]) -> u64
 }
 
 // What a word says.
-pub fn spoken(word: &[u8]) -> u64
-    ensures { λ r. ⌜ r ≡ spoken (now (word .entry)) ⌝ }
+pub fn meant(word: &[u8]) -> u64
+    ensures { λ r. ⌜ r ≡ meant (now (word .entry)) ⌝ }
 {
     let x = figure(word);
     if x < 256 {
@@ -179,8 +179,8 @@ pub fn hear(s: Heard, w: u64) -> Heard
 }
 
 // The end of the line.
-pub fn ended(s: Heard) -> Line
-    ensures { λ r. ⌜ r ≡ ended s ⌝ }
+pub fn closed(s: Heard) -> Line
+    ensures { λ r. ⌜ r ≡ closed s ⌝ }
 {
     match s {
         Heard::Nothing => Line::Empty,

@@ -11,7 +11,7 @@ use borrow.Author.Tests.{ltb-true, eqb-true, eqb-false, ne-eqb, lt-ltb, not-true
 use Rattle.ground.proofs.Every.{every-at}
 use Rattle.ground.proofs.Logic.{and-l, and-r}
 use Rattle.ground.specs.Search.{every, least}
-use Rattle.call_words.specs.Word.{lower, spells, figure, spoken}
+use Rattle.call_words.specs.Word.{lower, spells, figure, meant}
 use Rattle.calls_text.specs.Pieces.{stops, upto, onto, pieces, filled}
 use Rattle.text.specs.Text.{ascii, decimal, digitCount}
 
@@ -44,11 +44,11 @@ no-stop kind b k e =
 
 -- all bytes below 256 are shown as clean words that are read as these numbers
 unfoldable good : ℕ → Bool
-unfolding all-clean decimal spoken
-good x = all-clean (decimal x) && (ltb 0 (length (decimal x)) && eqb (spoken (decimal x)) x)
+unfolding all-clean decimal meant
+good x = all-clean (decimal x) && (ltb 0 (length (decimal x)) && eqb (meant (decimal x)) x)
 
 all-good : every 256 good ≡ true
-unfolding every good all-clean clean decimal digitCount least spoken lower
+unfolding every good all-clean clean decimal digitCount least meant lower
 all-good = refl
 
 module _ (x : ℕ) (h : x < 256) where
@@ -63,6 +63,6 @@ module _ (x : ℕ) (h : x < 256) where
   unfolding good
   decimal-filled = ltb-true 0 (length (decimal x)) (and-l (ltb 0 (length (decimal x))) _ (and-r (all-clean (decimal x)) _ each))
 
-  pub decimal-spoken : spoken (decimal x) ≡ x
+  pub decimal-meant : meant (decimal x) ≡ x
   unfolding good
-  decimal-spoken = eqb-true (spoken (decimal x)) x (and-r (ltb 0 (length (decimal x))) _ (and-r (all-clean (decimal x)) _ each))
+  decimal-meant = eqb-true (meant (decimal x)) x (and-r (ltb 0 (length (decimal x))) _ (and-r (all-clean (decimal x)) _ each))

@@ -13,14 +13,14 @@ use Rattle.ground.proofs.Logic.{cases, and-l, and-r, or-e, or-none}
 use Rattle.ground.proofs.Numbers.{same?}
 use Rattle.ground.specs.Pieces.{cat}
 use Rattle.call_lines.specs.CallLine.{worded, kindName, sideName, callWords, spaced, saidCall}
-use Rattle.call_words.specs.Grammar.{hear, hearAll, ended}
-use Rattle.call_words.specs.Word.{lower, spoken}
+use Rattle.call_words.specs.Grammar.{hear, hearAll, closed}
+use Rattle.call_words.specs.Word.{lower, meant}
 use Rattle.call_words.specs.declared.Heard.the-variants.{Nothing}
 use Rattle.call_words.specs.declared.Line.the-variants.{Call}
 use Rattle.calls_listed.specs.Listed.{saidAt, listLines, listText}
 use Rattle.calls_listed.proofs.Ways.{whole-list}
 use Rattle.calls_round.proofs.Lines.{words-clean, read-line}
-use Rattle.calls_round.proofs.Plain.{clean, all-clean, decimal-clean, decimal-filled, decimal-spoken}
+use Rattle.calls_round.proofs.Plain.{clean, all-clean, decimal-clean, decimal-filled, decimal-meant}
 use Rattle.calls_round.specs.Theorems.{ListThenRead}
 use Rattle.calls_text.specs.Pieces.{stops, pieces, says}
 use Rattle.calls_text.specs.Reading.{Reading, reading, readText}
@@ -41,9 +41,9 @@ side-clean : (side : ℕ) → (all-clean (sideName side) ≡ true) × (0 < lengt
 unfolding sideName all-clean clean
 side-clean side = ⊎-elim (λ e. rw e (refl, omega arith)) (λ e. rw e (refl, omega arith)) (cases (eqb side 0))
 
-side-spoken : (side : ℕ) → side < 2 → spoken (sideName side) ≡ 259 + side
-unfolding sideName spoken lower
-side-spoken side h =
+side-meant : (side : ℕ) → side < 2 → meant (sideName side) ≡ 259 + side
+unfolding sideName meant lower
+side-meant side h =
     ⊎-elim (λ e. rw (eq-eqb side 0 e, e) refl) (λ n. let e : side ≡ 1 = omega arith in rw (ne-eqb side 0 n, e) refl) (same? side 0)
 
 kind-clean : (kind : ℕ) → (all-clean (kindName kind) ≡ true) × (0 < length (kindName kind))
@@ -53,24 +53,24 @@ kind-clean kind =
     (λ n. ⊎-elim (λ e. rw (ne-eqb kind 0 n, eq-eqb kind 1 e) (refl, omega arith))
     (λ m. rw (ne-eqb kind 0 n, ne-eqb kind 1 m) (refl, omega arith)) (same? kind 1)) (same? kind 0)
 
-kind-spoken : (kind : ℕ) → kind < 3 → spoken (kindName kind) ≡ 256 + kind
-unfolding kindName spoken lower
-kind-spoken kind h =
+kind-meant : (kind : ℕ) → kind < 3 → meant (kindName kind) ≡ 256 + kind
+unfolding kindName meant lower
+kind-meant kind h =
     ⊎-elim (λ e. rw (eq-eqb kind 0 e, e) refl)
     (λ n. ⊎-elim (λ e. rw (ne-eqb kind 0 n, eq-eqb kind 1 e, e) refl)
     (λ m. let e : kind ≡ 2 = omega arith in rw (ne-eqb kind 0 n, ne-eqb kind 1 m, e) refl) (same? kind 1)) (same? kind 0)
 
 -- what three or four words say
-heard-proposal : (p w s : List ℕ) (v side : ℕ) → spoken p ≡ 256 → spoken w ≡ v → v < 256 → spoken s ≡ 259 + side → side < 2
+heard-proposal : (p w s : List ℕ) (v side : ℕ) → meant p ≡ 256 → meant w ≡ v → v < 256 → meant s ≡ 259 + side → side < 2
     → hearAll Nothing (p ∷ w ∷ s ∷ []) ≡ Call 0 v v side
-unfolding hear ended
+unfolding hear closed
 heard-proposal p w s v side a b h c k =
     let z : 259 + side - 259 ≡ side = omega arith in
     rw (a, b, c, lt-ltb v 256 h, le-ltb (259 + side) 259 (omega arith), le-ltb 260 (259 + side) (omega arith)) (ap (Call 0 v v) z)
 
-heard-words : (p w x s : List ℕ) (kind u v side : ℕ) → spoken p ≡ 256 + kind → kind < 3 → (kind ≡ 0 → ⊥) → spoken w ≡ u → u < 256 → spoken x ≡ v → v < 256
-    → spoken s ≡ 259 + side → side < 2 → hearAll Nothing (p ∷ w ∷ x ∷ s ∷ []) ≡ Call kind u v side
-unfolding hear ended
+heard-words : (p w x s : List ℕ) (kind u v side : ℕ) → meant p ≡ 256 + kind → kind < 3 → (kind ≡ 0 → ⊥) → meant w ≡ u → u < 256 → meant x ≡ v → v < 256
+    → meant s ≡ 259 + side → side < 2 → hearAll Nothing (p ∷ w ∷ x ∷ s ∷ []) ≡ Call kind u v side
+unfolding hear closed
 heard-words p w x s kind u v side a h n b i c j d k =
     let y : 256 + kind - 256 ≡ kind = omega arith in
     let z : 259 + side - 259 ≡ side = omega arith in
@@ -89,9 +89,9 @@ heard-words p w x s kind u v side a h n b i c j d k =
       le-ltb 260 (259 + side) (omega arith),
     ) (ap (Call kind u v) z)
 
-heard-numbers : (p w x s : List ℕ) (a b c d : ℕ) → spoken p ≡ a → a < 256 → spoken w ≡ b → b < 256 → spoken x ≡ c → c < 256 → spoken s ≡ d → d < 256
+heard-numbers : (p w x s : List ℕ) (a b c d : ℕ) → meant p ≡ a → a < 256 → meant w ≡ b → b < 256 → meant x ≡ c → c < 256 → meant s ≡ d → d < 256
     → hearAll Nothing (p ∷ w ∷ x ∷ s ∷ []) ≡ Call a b c d
-unfolding hear ended
+unfolding hear closed
 heard-numbers p w x s a b c d e h f i g j k l =
     rw (e, f, g, k, lt-ltb a 256 h, lt-ltb b 256 i, lt-ltb c 256 j, lt-ltb d 256 l) refl
 
@@ -129,7 +129,7 @@ module _ (L : ℕ) (out : List ℕ) (kind from to side : ℕ) (rest : List ℕ) 
       (number-more kind (decimal from ∷ decimal to ∷ decimal side ∷ []) a
       (number-more from (decimal to ∷ decimal side ∷ []) b (number-more to (decimal side ∷ []) c (number-more side [] d refl))))
       (heard-numbers (decimal kind) (decimal from) (decimal to) (decimal side) kind from to side
-      (decimal-spoken kind a) a (decimal-spoken from b) b (decimal-spoken to c) c (decimal-spoken side d) d))
+      (decimal-meant kind a) a (decimal-meant from b) b (decimal-meant to c) c (decimal-meant side d) d))
 
   said-in-words : worded kind from to side ≡ true → (side < 2) × (kind < 3) × (kind ≡ 0 → from ≡ to)
   unfolding worded
@@ -152,14 +152,14 @@ module _ (L : ℕ) (out : List ℕ) (kind from to side : ℕ) (rest : List ℕ) 
       (λ z. rw (proposal-words w z)
       (read-line L out (kindName kind) (decimal from ∷ sideName side ∷ []) kind from to side rest room
       (clean-more (kindName kind) (decimal from ∷ sideName side ∷ []) (k .0) (k .1) (number-more from (sideName side ∷ []) b last-side))
-      (heard-proposal (kindName kind) (decimal from) (sideName side) from side (kind-spoken kind (p .1) ∙ ap (λ (x : ℕ). 256 + x) z) (decimal-spoken from b) b
-      (side-spoken side (p .0)) (p .0) ∙ one-site z (p .2 z))))
+      (heard-proposal (kindName kind) (decimal from) (sideName side) from side (kind-meant kind (p .1) ∙ ap (λ (x : ℕ). 256 + x) z) (decimal-meant from b) b
+      (side-meant side (p .0)) (p .0) ∙ one-site z (p .2 z))))
       (λ n. rw (other-words w n)
       (read-line L out (kindName kind) (decimal from ∷ decimal to ∷ sideName side ∷ []) kind from to side rest room
       (clean-more (kindName kind) (decimal from ∷ decimal to ∷ sideName side ∷ []) (k .0) (k .1)
       (number-more from (decimal to ∷ sideName side ∷ []) b (number-more to (sideName side ∷ []) c last-side)))
-      (heard-words (kindName kind) (decimal from) (decimal to) (sideName side) kind from to side (kind-spoken kind (p .1)) (p .1) n (decimal-spoken from b) b
-      (decimal-spoken to c) c (side-spoken side (p .0)) (p .0))))
+      (heard-words (kindName kind) (decimal from) (decimal to) (sideName side) kind from to side (kind-meant kind (p .1)) (p .1) n (decimal-meant from b) b
+      (decimal-meant to c) c (side-meant side (p .0)) (p .0))))
       (same? kind 0)
 
   pub call-read : Read

@@ -14,8 +14,8 @@ use Rattle.refusals.specs.declared.Refusal as Refusal
 use Rattle.text.specs.Text.{ascii, decimal}
 
 -- "what was expected there"; of a call too many, what the number means
-unfoldable pub expected : ℕ → String
-expected what =
+unfoldable pub wantedThere : ℕ → String
+wantedThere what =
     cond (eqb what 0) "expected propose, vote, accept or a number, 0 to 255"
     (cond (eqb what 1) "expected a number, 0 to 255"
     (cond (eqb what 2) "expected drill or live"
@@ -24,8 +24,8 @@ expected what =
 
 -- `line L: ..`
 unfoldable pub faultLine : ℕ → ℕ → List ℕ
-unfolding line decimal expected
-faultLine number what = line (ascii "line ") (decimal number ++ (ascii ": " ++ ascii (expected what)))
+unfolding line decimal wantedThere
+faultLine number what = line (ascii "line ") (decimal number ++ (ascii ": " ++ ascii (wantedThere what)))
 
 -- what is printed. A fault in the text prints nothing: its line goes to standard error. "a 4,097th is number 17: prints `refused 17 0` and `line L: `
 -- with the meaning"

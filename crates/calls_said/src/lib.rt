@@ -1,7 +1,7 @@
 // What is said of a text of calls that was read: how many calls there are, or the line that is wrong and what was expected there.
 ghost use Prim.Native.Nat.{_+_, _≤_};
 ghost use lib.ListN.{length};
-ghost use Rattle.calls_said.specs.Faults.{expected, faultLine, madeLines};
+ghost use Rattle.calls_said.specs.Faults.{wantedThere, faultLine, madeLines};
 ghost use Rattle.io.specs.Counts.{Counts};
 ghost use Rattle.text.specs.Text.{ascii};
 ghost use Rattle.text.specs.Written.{Writes};
@@ -11,7 +11,7 @@ use refusals::Refusal;
 // What was expected.
 fn put_expected(room: &mut [u8], at: usize, what: u8) -> usize
     requires { ⌜ at + 200 ≤ length (now room) ⌝ }
-    ensures { λ r. ⌜ Writes (ascii (expected what)) (now (room .entry)) at r (now (room .exit)) ⌝ }
+    ensures { λ r. ⌜ Writes (ascii (wantedThere what)) (now (room .entry)) at r (now (room .exit)) ⌝ }
 {
     if what == 0 {
         return text::put(

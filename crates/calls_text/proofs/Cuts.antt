@@ -12,13 +12,13 @@ use lib.ListN.{length, getD, take, drop, length-drop}
 use lib.Seq.{drop-cons, drop-length, drop-drop, drop-nil, take-length, take-take, length-take-le, getD-take, getD-drop}
 use borrow.Author.Tests.{lt-ltb, le-ltb, eq-eqb, ne-eqb}
 use Rattle.ground.proofs.Logic.{cases}
-use Rattle.call_words.specs.Grammar.{hear, hearAll, ended}
-use Rattle.call_words.specs.Word.{spoken}
+use Rattle.call_words.specs.Grammar.{hear, hearAll, closed}
+use Rattle.call_words.specs.Word.{meant}
 use Rattle.call_words.specs.declared.Heard.{Heard}
 use Rattle.call_words.specs.declared.Line.{Line}
 use Rattle.calls_text.specs.Inner.{hearPiece, lineAt}
 use Rattle.calls_text.specs.Pieces.{stops, upto, onto, pieces, filled, says, unreturned, lineOf}
-use Rattle.calls_text.specs.Reading.{Grown, grown, onward, Reading, reading}
+use Rattle.calls_text.specs.Reading.{Grown, withLine, thenOn, Reading, reading}
 use Rattle.calls_text.specs.declared.Made.the-variants.{Fault}
 
 -- a byte stops
@@ -83,7 +83,7 @@ pub no-word : (s : Heard) (p : List ℕ) → length p ≡ 0 → s ≡ hearPiece 
 no-word s [] e = refl
 no-word s (b ∷ w) e = absurd (omega arith)
 
-pub a-word : (s : Heard) (p : List ℕ) (w : ℕ) → (length p ≡ 0 → ⊥) → w ≡ spoken p → hear s w ≡ hearPiece s p
+pub a-word : (s : Heard) (p : List ℕ) (w : ℕ) → (length p ≡ 0 → ⊥) → w ≡ meant p → hear s w ≡ hearPiece s p
 a-word s [] w n e = absurd (n refl)
 a-word s (b ∷ p) w n e = ap (hear s) e
 
@@ -113,7 +113,7 @@ pub heard-more : (stop : ℕ → Bool) (s : Heard) (l : List ℕ) (at end : ℕ)
     → hearAll s (filled (pieces stop (drop at l))) ≡ hearAll (hearPiece s (take (end - at) (drop at l))) (filled (pieces stop (drop (end + 1) l)))
 heard-more stop s l at end e = rw (behind stop l at end e, ← wide (upto stop (drop at l)) at end e) (heard-next stop s (drop at l))
 
-pub heard-end : (stop : ℕ → Bool) (s : Heard) (l : List ℕ) (at : ℕ) → length l ≤ at → hearAll s (filled (pieces stop (drop at l))) ≡ ended s
+pub heard-end : (stop : ℕ → Bool) (s : Heard) (l : List ℕ) (at : ℕ) → length l ≤ at → hearAll s (filled (pieces stop (drop at l))) ≡ closed s
 heard-end stop s l at h = rw (drop-past l at h) refl
 
 -- the bytes of a line
@@ -155,13 +155,13 @@ pub lines-behind : (stop : ℕ → Bool) (l x : List ℕ) → lineOf l (pieces s
 lines-behind stop l [] = refl
 lines-behind stop l (b ∷ t) = ⊎-elim (λ e. rw e refl) (λ e. rw e (onto-more l b (pieces stop t))) (cases (stop b))
 
-onward-alike : (g : Grown) (f k : List ℕ → Reading) (s : ℕ → Reading) → ((m : List ℕ) → f m ≡ k m) → onward g f s ≡ onward g k s
-onward-alike (Grown.On out) f k s h = h out
-onward-alike (Grown.Stop what) f k s h = refl
+thenOn-alike : (g : Grown) (f k : List ℕ → Reading) (s : ℕ → Reading) → ((m : List ℕ) → f m ≡ k m) → thenOn g f s ≡ thenOn g k s
+thenOn-alike (Grown.On out) f k s h = h out
+thenOn-alike (Grown.Stop what) f k s h = refl
 
 -- an empty line at the end
 pub no-more : (L : ℕ) (out : List ℕ) → reading L out [] ≡ reading L out ([] ∷ [])
-unfolding says ended
+unfolding says closed
 no-more L out = refl
 
 module _ (L : ℕ) (out text : List ℕ) (at end : ℕ) (h : at ≤ length text) (e : end ≡ at + upto (stops 10) (drop at text)) where
@@ -169,7 +169,7 @@ module _ (L : ℕ) (out text : List ℕ) (at end : ℕ) (h : at ≤ length text)
   faulty what = record { answer = Fault L what; bytes = out }
 
   pub reading-more : reading L out (pieces (stops 10) (drop at text))
-      ≡ onward (grown out (lineAt text at end)) (λ more. reading (suc L) more (pieces (stops 10) (drop (end + 1) text)))
+      ≡ thenOn (withLine out (lineAt text at end)) (λ more. reading (suc L) more (pieces (stops 10) (drop (end + 1) text)))
       (λ what. record { answer = Fault L what; bytes = out })
   unfolding faulty
   reading-more =
@@ -180,7 +180,7 @@ module _ (L : ℕ) (out text : List ℕ) (at end : ℕ) (h : at ≤ length text)
       (λ z. let last : length text ≤ end = omega (arith, length-drop at text) in
       let past : drop (end + 1) text ≡ [] = drop-past text (end + 1) (omega arith) in
       rw (pieces-whole (stops 10) d z, le-ltb end (length text) last, ← w, z, take-length d, past)
-      (onward-alike (grown out (says d)) (λ more. reading (suc L) more []) (λ more. reading (suc L) more ([] ∷ [])) faulty (no-more (suc L))))
+      (thenOn-alike (withLine out (says d)) (λ more. reading (suc L) more []) (λ more. reading (suc L) more ([] ∷ [])) faulty (no-more (suc L))))
       (λ z. let inside : end < length text = omega (arith, length-drop at text) in
       rw (pieces-cut (stops 10) d z, lines-behind (stops 10) (take u d) (drop (suc u) d), lt-ltb end (length text) inside, ← w, behind (stops 10) text at end e) refl)
       (eq-or-lt-of-le (upto-le (stops 10) d))

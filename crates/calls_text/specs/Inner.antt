@@ -5,7 +5,7 @@ use mathlib.Core.List.{List, [], _∷_, _++_}
 use lib.Dec.{ltb}
 use lib.ListN.{length, take, drop}
 use Rattle.call_words.specs.Grammar.{hear}
-use Rattle.call_words.specs.Word.{spoken}
+use Rattle.call_words.specs.Word.{meant}
 use Rattle.call_words.specs.declared.Heard.{Heard}
 use Rattle.call_words.specs.declared.Line.{Line}
 use Rattle.calls_text.specs.Pieces.{says, unreturned}
@@ -16,7 +16,7 @@ use Rattle.calls_text.specs.declared.Took.the-variants.{To, Not}
 -- a piece of a line is heard if it is a word
 abbrev pub hearPiece : Heard → List ℕ → Heard
 hearPiece s [] = s
-hearPiece s (b ∷ w) = hear s (spoken (b ∷ w))
+hearPiece s (b ∷ w) = hear s (meant (b ∷ w))
 
 -- the line from a place to its end
 abbrev pub lineAt : List ℕ → ℕ → ℕ → Line

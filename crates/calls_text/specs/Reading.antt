@@ -16,25 +16,25 @@ pub data Grown : Type 0 where
   Stop : ℕ → Grown
 
 -- 4: "a 4,097th is number 17"; the others are what was expected in the line
-abbrev pub grown : List ℕ → Line → Grown
-grown out Empty = Grown.On out
-grown out (Call a b c d) = cond (ltb (length out) 16384) (Grown.On (out ++ (a ∷ b ∷ c ∷ d ∷ []))) (Grown.Stop 4)
-grown out (Line.Fault what) = Grown.Stop what
+abbrev pub withLine : List ℕ → Line → Grown
+withLine out Empty = Grown.On out
+withLine out (Call a b c d) = cond (ltb (length out) 16384) (Grown.On (out ++ (a ∷ b ∷ c ∷ d ∷ []))) (Grown.Stop 4)
+withLine out (Line.Fault what) = Grown.Stop what
 
 -- the answer, and the calls of all lines before the first that is wrong
 pub record Reading : Type 0 where
   pub answer : Made
   pub bytes : List ℕ
 
-abbrev pub onward : Grown → (List ℕ → Reading) → (ℕ → Reading) → Reading
-onward (Grown.On out) on stop = on out
-onward (Grown.Stop what) on stop = stop what
+abbrev pub thenOn : Grown → (List ℕ → Reading) → (ℕ → Reading) → Reading
+thenOn (Grown.On out) on stop = on out
+thenOn (Grown.Stop what) on stop = stop what
 
 -- the lines from number L on, with the calls of those before
 abbrev pub reading : ℕ → List ℕ → List (List ℕ) → Reading
 reading L out [] = record { answer = Bytes (length out); bytes = out }
 reading L out (l ∷ ls) =
-    onward (grown out (says (lineOf l ls))) (λ more. reading (suc L) more ls) (λ what. record { answer = Fault L what; bytes = out })
+    thenOn (withLine out (says (lineOf l ls))) (λ more. reading (suc L) more ls) (λ what. record { answer = Fault L what; bytes = out })
 
 -- a text: "lines counted from 1, empty and comment lines too"
 unfoldable pub readText : List ℕ → Reading

@@ -4,7 +4,7 @@ ghost use Prim.Native.Nat.{_+_, _%_, _≤_};
 ghost use lib.ListN.{length, take, drop};
 ghost use Rattle.calls_text.specs.Inner.{hearPiece, lineAt, tookOf, tookInto};
 ghost use Rattle.calls_text.specs.Pieces.{stops, upto, says};
-ghost use Rattle.calls_text.specs.Reading.{grown, readText, textInto};
+ghost use Rattle.calls_text.specs.Reading.{withLine, readText, textInto};
 use call_words::Heard;
 use call_words::Line;
 
@@ -61,7 +61,7 @@ fn hear_piece(s: Heard, piece: &[u8]) -> Heard
     if piece.len() == 0 {
         return s;
     }
-    let w = call_words::spoken(piece);
+    let w = call_words::meant(piece);
     call_words::hear(s, w)
 }
 
@@ -78,7 +78,7 @@ fn says(line: &[u8]) -> Line
         s = hear_piece(s, &line[at..stop]);
         at = stop + 1;
     }
-    call_words::ended(s)
+    call_words::closed(s)
 }
 
 // What the line from `at` to `end` says. The last line of a text has no end; of any other a CR at its end is cut off.
@@ -105,8 +105,8 @@ fn put_call(room: &mut [u8], n: usize, a: u8, b: u8, c: u8, d: u8) -> Took
     requires { ⌜ length (now room) ≡ 16384 ⌝ }
     requires { ⌜ n ≤ 16384 ⌝ }
     requires { ⌜ n % 4 ≡ 0 ⌝ }
-    ensures answer { λ r. ⌜ r ≡ tookOf (grown (take n (now (room .entry))) (Line.Call a b c d)) ⌝ }
-    ensures memory { λ r. ⌜ now (room .exit) ≡ tookInto (grown (take n (now (room .entry))) (Line.Call a b c d)) (now (room .entry)) ⌝ }
+    ensures answer { λ r. ⌜ r ≡ tookOf (withLine (take n (now (room .entry))) (Line.Call a b c d)) ⌝ }
+    ensures memory { λ r. ⌜ now (room .exit) ≡ tookInto (withLine (take n (now (room .entry))) (Line.Call a b c d)) (now (room .entry)) ⌝ }
 {
     if n < 16384 {
         room[n] = a;
@@ -123,8 +123,8 @@ fn take(line: Line, room: &mut [u8], n: usize) -> Took
     requires { ⌜ length (now room) ≡ 16384 ⌝ }
     requires { ⌜ n ≤ 16384 ⌝ }
     requires { ⌜ n % 4 ≡ 0 ⌝ }
-    ensures answer { λ r. ⌜ r ≡ tookOf (grown (take n (now (room .entry))) line) ⌝ }
-    ensures memory { λ r. ⌜ now (room .exit) ≡ tookInto (grown (take n (now (room .entry))) line) (now (room .entry)) ⌝ }
+    ensures answer { λ r. ⌜ r ≡ tookOf (withLine (take n (now (room .entry))) line) ⌝ }
+    ensures memory { λ r. ⌜ now (room .exit) ≡ tookInto (withLine (take n (now (room .entry))) line) (now (room .entry)) ⌝ }
 {
     match line {
         Line::Empty => Took::To(n),

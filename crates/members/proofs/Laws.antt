@@ -16,7 +16,7 @@ use Rattle.lines.proofs.Chain.{as-text}
 use Rattle.lines.proofs.Lengths.{length-line}
 use Rattle.lines.specs.Lines.{line}
 use Rattle.masks.specs.Mask.{has}
-use Rattle.members.specs.Members.{member, members}
+use Rattle.members.specs.Members.{siteShown, members}
 use Rattle.text.proofs.Width.{length-digits}
 use Rattle.text.proofs.Written.{then}
 use Rattle.text.specs.Text.{ascii, decimal, digitCount}
@@ -52,13 +52,13 @@ one : (b : Bool) (l : List ℕ) → length l ≤ 2 → length (cond b (ascii " "
 one true l h = omega arith
 one false l h = omega arith
 
-pub length-member : (set u : ℕ) → u < 64 → length (member set u) ≤ 3
-unfolding member
-length-member set u h = one (has set u) (decimal u) (two-digits u h)
+pub length-siteShown : (set u : ℕ) → u < 64 → length (siteShown set u) ≤ 3
+unfolding siteShown
+length-siteShown set u h = one (has set u) (decimal u) (two-digits u h)
 
 pub length-members : (set : ℕ) → length (members set) ≤ 192
 unfolding members
-length-members set = cat-le (member set) 3 64 (length-member set)
+length-members set = cat-le (siteShown set) 3 64 (length-siteShown set)
 
 pub members-line : (word : List ℕ) (set : ℕ) → length (line word (members set)) ≤ length word + 193
 members-line word set = omega (arith, length-line word (members set), length-members set)

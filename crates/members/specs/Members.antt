@@ -7,10 +7,10 @@ use Rattle.masks.specs.Mask.{has}
 use Rattle.text.specs.Text.{ascii, decimal}
 
 -- site u with a blank before it, if it is in the set
-unfoldable pub member : ℕ → ℕ → List ℕ
-member set u = cond (has set u) (ascii " " ++ decimal u) []
+unfoldable pub siteShown : ℕ → ℕ → List ℕ
+siteShown set u = cond (has set u) (ascii " " ++ decimal u) []
 
 -- the sites of the set
 unfoldable pub members : ℕ → List ℕ
-unfolding cat member
-members set = cat (member set) 64
+unfolding cat siteShown
+members set = cat (siteShown set) 64

@@ -3,13 +3,13 @@ ghost use Prim.Native.Nat.{_+_, _≤_, _<_};
 ghost use lib.ListN.{length};
 ghost use Rattle.lines.specs.Lines.{line};
 ghost use Rattle.text.specs.Written.{Writes};
-ghost use Rattle.members.specs.Members.{member, members};
+ghost use Rattle.members.specs.Members.{siteShown, members};
 
 // Site u with a blank before it, if it is in the set.
 fn put_member(room: &mut [u8], at: usize, set: u64, u: u64) -> usize
     requires { ⌜ u < 64 ⌝ }
     requires { ⌜ at + 21 ≤ length (now room) ⌝ }
-    ensures { λ r. ⌜ Writes (member set u) (now (room .entry)) at r (now (room .exit)) ⌝ }
+    ensures { λ r. ⌜ Writes (siteShown set u) (now (room .entry)) at r (now (room .exit)) ⌝ }
 {
     if masks::has(set, u) {
         let at = text::put(room, at, b" ");

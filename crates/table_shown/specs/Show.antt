@@ -5,24 +5,15 @@ use mathlib.Core.List.{List, [], _++_}
 use lib.Dec.{eqb}
 use lib.ListN.{length}
 use Rattle.ground.specs.Pieces.{cat}
-use Rattle.masks.specs.Mask.{has}
+use Rattle.members.specs.Members.{members}
 use Rattle.table.specs.Table.{siteOf, sites}
 use Rattle.rows.specs.Site.{count, slice}
 use Rattle.text.specs.Text.{ascii, decimal}
 
--- site u with a blank before it, if it is in the group q
-unfoldable pub siteShown : ℕ → ℕ → List ℕ
-siteShown q u = cond (has q u) (ascii " " ++ decimal u) []
-
--- the sites of a group
-unfoldable pub group : ℕ → List ℕ
-unfolding cat siteShown
-group q = cat (siteShown q) 64
-
 -- group k of a site, parted from the one before
 unfoldable pub placed : List ℕ → ℕ → List ℕ
-unfolding group
-placed m k = cond (eqb k 0) [] (ascii " |") ++ group (slice m k)
+unfolding members
+placed m k = cond (eqb k 0) [] (ascii " |") ++ members (slice m k)
 
 -- the line of site v, with its 63 numbers
 unfoldable pub row : ℕ → List ℕ → List ℕ

@@ -11,34 +11,7 @@ ghost use Rattle.rows.specs.Site.{count, slice};
 ghost use Rattle.table.specs.Table.{Table, check};
 ghost use Rattle.text.specs.Text.{ascii};
 ghost use Rattle.text.specs.Written.{Writes};
-ghost use Rattle.table_shown.specs.Show.{siteShown, group, placed, row, rows, headLine, show};
-
-// Site u with a blank before it, if it is in the group.
-fn put_member(room: &mut [u8], at: usize, q: u64, u: u64) -> usize
-    requires { ⌜ u < 64 ⌝ }
-    requires { ⌜ at + 21 ≤ length (now room) ⌝ }
-    ensures { λ r. ⌜ Writes (siteShown q u) (now (room .entry)) at r (now (room .exit)) ⌝ }
-{
-    if masks::has(q, u) {
-        let at = text::put(room, at, b" ");
-        return text::put_decimal(room, at, u);
-    }
-    at
-}
-
-// The sites of a group.
-fn put_group(room: &mut [u8], at: usize, q: u64) -> usize
-    requires { ⌜ at + 210 ≤ length (now room) ⌝ }
-    ensures { λ r. ⌜ Writes (group q) (now (room .entry)) at r (now (room .exit)) ⌝ }
-{
-    let mut end = at;
-    let mut u: u64 = 0;
-    while u < 64 {
-        end = put_member(room, end, q, u);
-        u += 1;
-    }
-    end
-}
+ghost use Rattle.table_shown.specs.Show.{placed, row, rows, headLine, show};
 
 // A bar before every group but the first.
 fn put_bar(room: &mut [u8], at: usize, k: usize) -> usize
@@ -60,7 +33,7 @@ fn put_placed(room: &mut [u8], at: usize, m: &[u64], k: usize) -> usize
 {
     let q = m[1 + k];
     let at = put_bar(room, at, k);
-    put_group(room, at, q)
+    members::put_members(room, at, q)
 }
 
 // The first many groups of a site.

@@ -17,7 +17,7 @@ use Rattle.questions.specs.declared.Standing.{Standing}
 use Rattle.refusals.specs.declared.Refusal.{Refusal}
 use Rattle.text.proofs.Written.{written-nothing}
 use Rattle.text.specs.Written.{Writes}
-use Rattle.verdict_sites.specs.Sites.{spelled, judgedSites, verdictSites}
+use Rattle.verdict_sites.specs.Sites.{setsSpelled, judgedSites, verdictSites}
 
 -- nothing is written
 pub nothing : (room : List ℕ) (at : ℕ) → at ≤ length room → Writes [] room at at room
@@ -39,10 +39,10 @@ module _ (image : List ℕ) (F : ℕ) where
 -- on a table, from what the questions answered, for n sites and those outside F
 module _ (t : List ℕ) (F : ℕ) {n o : ℕ} (e : n ≡ sitesOf t) (f : o ≡ minus (allBelow n) F) {s : Standing} {g : Greatest} {h : Sharing}
     (es : s ≡ intact t F) where
-  pub judged-by : g ≡ largest t o → h ≡ shared t → spelled F n s g h ≡ judgedSites F t
+  pub judged-by : g ≡ largest t o → h ≡ shared t → setsSpelled F n s g h ≡ judgedSites F t
   unfolding judgedSites
   judged-by eg eh = rw (es, eg, eh, f, e) refl
 
 pub judged-none : (t : List ℕ) (F : ℕ) (r : Refusal) → Standing.Refused r ≡ intact t F → [] ≡ judgedSites F t
 unfolding judgedSites
-judged-none t F r e = ap (λ (s : Standing). spelled F (sitesOf t) s (largest t (minus (allBelow (sitesOf t)) F)) (shared t)) e
+judged-none t F r e = ap (λ (s : Standing). setsSpelled F (sitesOf t) s (largest t (minus (allBelow (sitesOf t)) F)) (shared t)) e

@@ -30,15 +30,15 @@ parted Meet = []
 parted (Apart p q) = line (ascii "parted") (members p ++ (ascii " |" ++ members q))
 parted (Sharing.Refused r) = []
 
-abbrev pub spelled : ℕ → ℕ → Standing → Greatest → Sharing → List ℕ
-spelled F n (Intact whole) (Set quorum rounds) s = fourSets F n whole quorum ++ parted s
-spelled F n (Intact whole) (Greatest.Refused r) s = []
-spelled F n (Standing.Refused r) g s = []
+abbrev pub setsSpelled : ℕ → ℕ → Standing → Greatest → Sharing → List ℕ
+setsSpelled F n (Intact whole) (Set quorum rounds) s = fourSets F n whole quorum ++ parted s
+setsSpelled F n (Intact whole) (Greatest.Refused r) s = []
+setsSpelled F n (Standing.Refused r) g s = []
 
 -- of a table in memory: by the answers of the public questions
 unfoldable pub judgedSites : ℕ → List ℕ → List ℕ
 unfolding largest shared intact fourSets
-judgedSites F t = let n = sitesOf t in spelled F n (intact t F) (largest t (minus (allBelow n) F)) (shared t)
+judgedSites F t = let n = sitesOf t in setsSpelled F n (intact t F) (largest t (minus (allBelow n) F)) (shared t)
 
 -- of an image
 unfoldable pub verdictSites : ℕ → List ℕ → List ℕ

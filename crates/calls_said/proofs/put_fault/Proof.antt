@@ -1,7 +1,7 @@
 -- `put_fault` meets its contract: the line's number and what was expected.
 use borrow.Author.Needs.{needs}
 use native.Mathlib.Omega.{arith}
-use Rattle.calls_said.proofs.Told.{length-expected}
+use Rattle.calls_said.proofs.Told.{length-wantedThere}
 use Rattle.calls_said.specs.Faults.{faultLine}
 use Rattle.lines.proofs.Chain.{five}
 use Rattle.lines.specs.Lines.{line}
@@ -12,12 +12,12 @@ use Rattle.calls_said.proofs.put_fault.Tie as tie
 put-requires-2 : tie.Need-put-requires-2
 put-requires-2 c κs = omega (arith, length-decimal (c .before .before .before .before .before .before .before .before .before .before .before .before .args .number))
 
-put-expected-requires : tie.Need-put-expected-requires
-put-expected-requires c κs = omega (arith, length-decimal (c .before .before .before .before .before .before .before .before .before .before .before .before .before .before .before .before .args .number))
+put-wantedThere-requires : tie.Need-put-wantedThere-requires
+put-wantedThere-requires c κs = omega (arith, length-decimal (c .before .before .before .before .before .before .before .before .before .before .before .before .before .before .before .before .args .number))
 
 put-requires-3 : tie.Need-put-requires-3
 put-requires-3 c κs = let a = c .before .before .before .before .before .before .before .before .before .before .before .before .before .before .before .before .before .before .before .before .before .args in omega
-    (arith, length-decimal (a .number), length-expected (a .what))
+    (arith, length-decimal (a .number), length-wantedThere (a .what))
 
 returns : tie.Need-returns
 unfolding faultLine line
@@ -26,7 +26,7 @@ returns c =
     let q = e .before .before .before .before in
     let d = q .before .before .before .before .before in
     let p = d .before .before .before .before in
-    five (p .put .ensures) (d .put-decimal .ensures) (q .put2 .ensures) (e .put-expected .ensures) (c .before .before .put3 .ensures) (omega arith)
+    five (p .put .ensures) (d .put-decimal .ensures) (q .put2 .ensures) (e .put-wantedThere .ensures) (c .before .before .put3 .ensures) (omega arith)
 
 pub put-fault-spec : {M : Type 1} → statement M
 put-fault-spec =
@@ -37,7 +37,7 @@ put-fault-spec =
     (λ c κs. search needs)
     (λ c. search needs)
     put-requires-2
-    put-expected-requires
+    put-wantedThere-requires
     (λ c. search needs)
     put-requires-3
     (λ c. search needs)

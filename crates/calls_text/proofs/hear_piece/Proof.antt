@@ -14,4 +14,4 @@ hear-piece-spec =
     (λ c κs. search needs)
     (λ c κs. search needs)
     (λ c. let a = c .before .before .before .before .args in
-    c .hear .ensures ∙ a-word (a .s) (now (a .piece)) (c .before .spoken .result) (c .before .before .if1 .left) (c .before .spoken .ensures)))
+    c .hear .ensures ∙ a-word (a .s) (now (a .piece)) (c .before .meant .result) (c .before .before .if1 .left) (c .before .meant .ensures)))

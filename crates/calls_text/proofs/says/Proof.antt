@@ -86,7 +86,7 @@ returns c =
     let e = cut line (u .upto .result) (u .upto .ensures) in
     let h : length (take (u .upto .result) line) ≤ l .at = omega arith in
     let z : u .upto .result ≡ upto (stops 35) line = omega (arith, u .upto .ensures) in
-    c .ended .ensures ∙ sym (heard-end (stops 32) (l .s) (take (u .upto .result) line) (l .at) h) ∙ sym (l .inv .1) ∙ ap (λ k. hearAll Nothing (filled (pieces (stops 32) (take k line)))) z
+    c .closed .ensures ∙ sym (heard-end (stops 32) (l .s) (take (u .upto .result) line) (l .at) h) ∙ sym (l .inv .1) ∙ ap (λ k. hearAll Nothing (filled (pieces (stops 32) (take k line)))) z
 
 pub says-spec : {M : Type 1} → statement M
 says-spec =

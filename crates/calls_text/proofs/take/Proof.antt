@@ -3,7 +3,7 @@ use borrow.Author.Needs.{needs}
 use denote.Ref.{now}
 use mathlib.Core.Path.{refl}
 use native.Mathlib.Omega.{arith}
-use Rattle.calls_text.specs.Reading.{grown}
+use Rattle.calls_text.specs.Reading.{withLine}
 use Rattle.calls_text.proofs.Room.{nothing-taken}
 use Rattle.calls_text.proofs.take.Statement.{statement}
 use Rattle.calls_text.proofs.take.Tie as tie

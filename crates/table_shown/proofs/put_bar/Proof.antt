@@ -11,7 +11,6 @@ use denote.Ref.{now}
 use Rattle.text.specs.Written.{Writes}
 use Rattle.text.proofs.Written.{then, written-nothing}
 use Rattle.ground.specs.Pieces.{cat}
-use Rattle.table_shown.proofs.Laws.{as-text, more, cat-none, two-digits, length-member, length-group, length-placed, length-groups, length-row}
 use Rattle.table_shown.proofs.put_bar.Statement.{statement}
 use Rattle.table_shown.proofs.put_bar.Tie as tie
 

@@ -16,7 +16,9 @@ use Rattle.text.specs.Written.{Writes}
 use Rattle.text.proofs.Width.{length-decimal}
 use Rattle.text.proofs.Written.{then, written-nothing}
 use Rattle.ground.specs.Pieces.{cat}
-use Rattle.table_shown.proofs.Laws.{as-text, more, cat-none, two-digits, length-member, length-group, length-placed, length-groups, length-row, bar, three, four}
+use Rattle.lines.proofs.Chain.{as-text}
+use Rattle.members.proofs.Laws.{more, cat-none}
+use Rattle.table_shown.proofs.Laws.{length-placed}
 use Rattle.table_shown.proofs.put_groups.Statement.{statement}
 use Rattle.table_shown.proofs.put_groups.Tie as tie
 
@@ -53,8 +55,8 @@ returns c =
     let e : l .k ≡ c .before .before .before .before .args .many = omega arith in
     rw e at (l .inv .3)
 
-pub put-groups-spec : {M : Type 1} → statement M
-put-groups-spec =
+pub put-memberss-spec : {M : Type 1} → statement M
+put-memberss-spec =
     tie.close
     (tie.spec
     Inv-loop

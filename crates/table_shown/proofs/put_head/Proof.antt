@@ -16,7 +16,6 @@ use Rattle.text.specs.Written.{Writes}
 use Rattle.text.proofs.Width.{length-decimal}
 use Rattle.text.proofs.Written.{then, written-nothing}
 use Rattle.ground.specs.Pieces.{cat}
-use Rattle.table_shown.proofs.Laws.{as-text, more, cat-none, two-digits, length-member, length-group, length-placed, length-groups, length-row, bar, three, four}
 use Rattle.table_shown.proofs.put_head.Statement.{statement}
 use Rattle.table_shown.proofs.put_head.Tie as tie
 

@@ -16,16 +16,16 @@ use Rattle.text.specs.Written.{Writes}
 use Rattle.text.proofs.Width.{length-decimal}
 use Rattle.text.proofs.Written.{then, written-nothing}
 use Rattle.ground.specs.Pieces.{cat}
-use Rattle.table_shown.proofs.Laws.{as-text, more, cat-none, two-digits, length-member, length-group, length-placed, length-groups, length-row, bar, three, four}
+use Rattle.table_shown.proofs.Laws.{bar}
 use Rattle.table_shown.proofs.put_placed.Statement.{statement}
 use Rattle.table_shown.proofs.put_placed.Tie as tie
 
-put-group-requires : tie.Need-put-group-requires
-put-group-requires c κs = omega (arith, c .before .before .before .put-bar .ensures .place, bar (eqb (c .before .before .before .before .before .before .before .before .args .k) 0))
+put-members-requires : tie.Need-put-members-requires
+put-members-requires c κs = omega (arith, c .before .before .before .put-bar .ensures .place, bar (eqb (c .before .before .before .before .before .before .before .before .args .k) 0))
 
 returns : tie.Need-returns
 unfolding placed
-returns c = then (c .before .before .before .before .before .before .put-bar .ensures) (c .before .before .put-group .ensures) (omega arith)
+returns c = then (c .before .before .before .before .before .before .put-bar .ensures) (c .before .before .put-members .ensures) (omega arith)
 
 pub put-placed-spec : {M : Type 1} → statement M
 put-placed-spec =
@@ -35,6 +35,6 @@ put-placed-spec =
     (λ c. search needs)
     (λ c. search needs)
     (λ c κs. search needs)
-    put-group-requires
+    put-members-requires
     (λ c. search needs)
     returns)

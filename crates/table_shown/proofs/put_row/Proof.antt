@@ -16,15 +16,16 @@ use Rattle.text.specs.Written.{Writes}
 use Rattle.text.proofs.Width.{length-decimal}
 use Rattle.text.proofs.Written.{then, written-nothing}
 use Rattle.ground.specs.Pieces.{cat}
-use Rattle.table_shown.proofs.Laws.{as-text, more, cat-none, two-digits, length-member, length-group, length-placed, length-groups, length-row, bar, three, four}
+use Rattle.members.proofs.Laws.{two-digits}
+use Rattle.table_shown.proofs.Laws.{length-groups, four}
 use Rattle.table_shown.proofs.put_row.Statement.{statement}
 use Rattle.table_shown.proofs.put_row.Tie as tie
 
 put-requires : tie.Need-put-requires
 put-requires c κs = omega (arith, two-digits (c .before .before .before .before .before .before .before .before .before .args .v) (omega arith))
 
-put-groups-requires : tie.Need-put-groups-requires
-put-groups-requires c κs = (omega arith, (omega arith, omega (arith, two-digits (c .before .before .before .before .before .before .before .before .before .before .before .before .before .args .v) (omega arith))))
+put-memberss-requires : tie.Need-put-memberss-requires
+put-memberss-requires c κs = (omega arith, (omega arith, omega (arith, two-digits (c .before .before .before .before .before .before .before .before .before .before .before .before .before .args .v) (omega arith))))
 
 put-requires-2 : tie.Need-put-requires-2
 put-requires-2 c κs =
@@ -39,7 +40,7 @@ put-requires-2 c κs =
 returns : tie.Need-returns
 unfolding row
 returns c = four (c .before .before .before .before .before .before .before .before .before .before .before .before .before .before .before .before .put-decimal .ensures)
-    (c .before .before .before .before .before .before .before .before .before .before .before .put .ensures) (c .before .before .before .before .before .before .before .put-groups .ensures)
+    (c .before .before .before .before .before .before .before .before .before .before .before .put .ensures) (c .before .before .before .before .before .before .before .put-memberss .ensures)
     (c .before .before .put2 .ensures) (omega arith)
 
 pub put-row-spec : {M : Type 1} → statement M
@@ -50,7 +51,7 @@ put-row-spec =
     (λ c κs. search needs)
     (λ c. search needs)
     put-requires
-    put-groups-requires
+    put-memberss-requires
     (λ c. search needs)
     put-requires-2
     (λ c. search needs)

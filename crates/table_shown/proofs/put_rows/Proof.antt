@@ -18,7 +18,9 @@ use Rattle.text.specs.Written.{Writes}
 use Rattle.text.proofs.Written.{then, written-nothing}
 use Rattle.ground.specs.Pieces.{cat}
 use Rattle.ground.proofs.Pieces.{part-cut, length-part}
-use Rattle.table_shown.proofs.Laws.{as-text, more, cat-none, length-row, length-head}
+use Rattle.lines.proofs.Chain.{as-text}
+use Rattle.members.proofs.Laws.{more, cat-none}
+use Rattle.table_shown.proofs.Laws.{length-row}
 use Rattle.table_shown.proofs.put_rows.Statement.{statement}
 use Rattle.table_shown.proofs.put_rows.Tie as tie
 

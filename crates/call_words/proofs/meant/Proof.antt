@@ -3,8 +3,8 @@ use borrow.Author.Needs.{needs}
 use denote.Ref.{now}
 use mathlib.Core.Path.{sym, _∙_}
 use Rattle.call_words.proofs.Words.{said-number, said-propose, said-vote, said-accept, said-drill, said-live, said-nothing}
-use Rattle.call_words.proofs.spoken.Statement.{statement}
-use Rattle.call_words.proofs.spoken.Tie as tie
+use Rattle.call_words.proofs.meant.Statement.{statement}
+use Rattle.call_words.proofs.meant.Tie as tie
 
 returns : tie.Need-returns
 returns c =
@@ -71,8 +71,8 @@ returns-7 c =
     (sym (c .before .before .before .before .spells4 .ensures) ∙ c .before .before .before .if5 .left)
     (sym (c .before .spells5 .ensures) ∙ c .if6 .left))
 
-pub spoken-spec : {M : Type 1} → statement M
-spoken-spec =
+pub meant-spec : {M : Type 1} → statement M
+meant-spec =
     tie.close
     (tie.spec
     (λ c κs. search needs)
