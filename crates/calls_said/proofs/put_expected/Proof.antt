@@ -5,8 +5,8 @@ use Rattle.lines.proofs.Chain.{as-text}
 use Rattle.calls_said.proofs.put_expected.Statement.{statement}
 use Rattle.calls_said.proofs.put_expected.Tie as tie
 
-pub put-wantedThere-spec : {M : Type 1} → statement M
-put-wantedThere-spec =
+pub put-expected-spec : {M : Type 1} → statement M
+put-expected-spec =
     tie.close
     (tie.spec
     (λ c. search needs)

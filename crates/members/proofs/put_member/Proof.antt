@@ -19,8 +19,8 @@ returns-2 : tie.Need-returns-2
 unfolding siteShown
 returns-2 c = rw (← c .before .has .ensures, c .if1 .left) (record { place = omega arith; memory = sym (written-nothing _ _); inside = omega arith })
 
-pub put-siteShown-spec : {M : Type 1} → statement M
-put-siteShown-spec =
+pub put-member-spec : {M : Type 1} → statement M
+put-member-spec =
     tie.close
     (tie.spec
     (λ c κs. search needs)

@@ -9,7 +9,7 @@ use Rattle.lines.proofs.Chain.{as-text}
 use Rattle.members.specs.Members.{siteShown, members}
 use Rattle.text.proofs.Written.{written-nothing}
 use Rattle.text.specs.Written.{Writes}
-use Rattle.members.proofs.Laws.{more, cat-none, length-siteShown}
+use Rattle.members.proofs.Laws.{more, cat-none, length-member}
 use Rattle.members.proofs.put_members.Statement.{statement}
 use Rattle.members.proofs.put_members.Tie as tie
 
@@ -31,12 +31,12 @@ loop-holds c = (
 
 loop-again : tie.Need-loop-again Inv-loop μ-loop
 loop-again c =
-    let p = c .before .before .put-siteShown in
+    let p = c .before .before .put-member in
     let l = c .before .before .before .before .before .loop in
     let a = c .before .before .before .before .before .before .before .args in (
       omega arith,
       omega arith,
-      omega (arith, p .ensures .place, length-siteShown (a .set) (l .u) (c .before .before .before .before .loop-test .taken)),
+      omega (arith, p .ensures .place, length-member (a .set) (l .u) (c .before .before .before .before .loop-test .taken)),
       more (siteShown (a .set)) (l .u) (l .inv .3) (p .ensures) (omega arith),
     )
 

@@ -1,16 +1,10 @@
 -- `put_bar` meets its contract: one law for each way out.
-use mathlib.Core.Path.{_≡_, refl, sym, ap, _∙_}
+use mathlib.Core.Path.{sym}
 use native.Mathlib.Omega.{arith}
 use borrow.Author.Needs.{needs}
-use borrow.Author.Tests.{lt-ltb, le-ltb, eq-eqb, ne-eqb}
-use Rattle.table_shown.specs.Show.{siteShown}
-use Prim.Native.Nat.{ℕ, _+_, _-_, _*_, _≤_, _<_}
-use mathlib.Core.List.{List, []}
-use lib.ListN.{length}
-use denote.Ref.{now}
-use Rattle.text.specs.Written.{Writes}
-use Rattle.text.proofs.Written.{then, written-nothing}
-use Rattle.ground.specs.Pieces.{cat}
+use borrow.Author.Tests.{eq-eqb, ne-eqb}
+use Prim.Native.Nat.{_-_}
+use Rattle.text.proofs.Written.{written-nothing}
 use Rattle.table_shown.proofs.put_bar.Statement.{statement}
 use Rattle.table_shown.proofs.put_bar.Tie as tie
 

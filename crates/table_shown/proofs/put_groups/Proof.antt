@@ -1,20 +1,13 @@
 -- `put_groups` meets its contract: one law for each way out.
-use mathlib.Core.Path.{_≡_, refl, sym, ap, _∙_}
+use mathlib.Core.Path.{_≡_, refl, sym}
 use native.Mathlib.Omega.{arith}
 use borrow.Author.Needs.{needs}
-use borrow.Author.Tests.{lt-ltb, le-ltb, eq-eqb, ne-eqb}
 use Rattle.table_shown.specs.Show.{placed}
-use Prim.Native.Nat.{ℕ, _+_, _-_, _*_, _≤_, _<_}
-use mathlib.Core.List.{List, []}
-use lib.Dec.{eqb}
+use Prim.Native.Nat.{_+_, _-_, _*_, _≤_}
 use lib.ListN.{length}
 use denote.Ref.{now}
-use Rattle.rows.specs.Site.{count, slice}
-use Rattle.table.specs.Table.{siteOf, Table}
-use Rattle.text.specs.Text.{decimal}
 use Rattle.text.specs.Written.{Writes}
-use Rattle.text.proofs.Width.{length-decimal}
-use Rattle.text.proofs.Written.{then, written-nothing}
+use Rattle.text.proofs.Written.{written-nothing}
 use Rattle.ground.specs.Pieces.{cat}
 use Rattle.lines.proofs.Chain.{as-text}
 use Rattle.members.proofs.Laws.{more, cat-none}
@@ -55,8 +48,8 @@ returns c =
     let e : l .k ≡ c .before .before .before .before .args .many = omega arith in
     rw e at (l .inv .3)
 
-pub put-memberss-spec : {M : Type 1} → statement M
-put-memberss-spec =
+pub put-groups-spec : {M : Type 1} → statement M
+put-groups-spec =
     tie.close
     (tie.spec
     Inv-loop

@@ -1,21 +1,9 @@
 -- `put_head` meets its contract: one law for each way out.
-use mathlib.Core.Path.{_≡_, refl, sym, ap, _∙_}
 use native.Mathlib.Omega.{arith}
 use borrow.Author.Needs.{needs}
-use borrow.Author.Tests.{lt-ltb, le-ltb, eq-eqb, ne-eqb}
 use Rattle.table_shown.specs.Show.{headLine}
-use Prim.Native.Nat.{ℕ, _+_, _-_, _*_, _≤_, _<_}
-use mathlib.Core.List.{List, []}
-use lib.Dec.{eqb}
-use lib.ListN.{length}
-use denote.Ref.{now}
-use Rattle.rows.specs.Site.{count, slice}
-use Rattle.table.specs.Table.{siteOf, Table}
-use Rattle.text.specs.Text.{decimal}
-use Rattle.text.specs.Written.{Writes}
 use Rattle.text.proofs.Width.{length-decimal}
-use Rattle.text.proofs.Written.{then, written-nothing}
-use Rattle.ground.specs.Pieces.{cat}
+use Rattle.lines.proofs.Chain.{three}
 use Rattle.table_shown.proofs.put_head.Statement.{statement}
 use Rattle.table_shown.proofs.put_head.Tie as tie
 

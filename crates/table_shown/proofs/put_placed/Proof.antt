@@ -1,21 +1,10 @@
 -- `put_placed` meets its contract: one law for each way out.
-use mathlib.Core.Path.{_≡_, refl, sym, ap, _∙_}
 use native.Mathlib.Omega.{arith}
 use borrow.Author.Needs.{needs}
-use borrow.Author.Tests.{lt-ltb, le-ltb, eq-eqb, ne-eqb}
 use Rattle.table_shown.specs.Show.{placed}
-use Prim.Native.Nat.{ℕ, _+_, _-_, _*_, _≤_, _<_}
-use mathlib.Core.List.{List, []}
+use Prim.Native.Nat.{_-_}
 use lib.Dec.{eqb}
-use lib.ListN.{length}
-use denote.Ref.{now}
-use Rattle.rows.specs.Site.{count, slice}
-use Rattle.table.specs.Table.{siteOf, Table}
-use Rattle.text.specs.Text.{decimal}
-use Rattle.text.specs.Written.{Writes}
-use Rattle.text.proofs.Width.{length-decimal}
-use Rattle.text.proofs.Written.{then, written-nothing}
-use Rattle.ground.specs.Pieces.{cat}
+use Rattle.text.proofs.Written.{then}
 use Rattle.table_shown.proofs.Laws.{bar}
 use Rattle.table_shown.proofs.put_placed.Statement.{statement}
 use Rattle.table_shown.proofs.put_placed.Tie as tie

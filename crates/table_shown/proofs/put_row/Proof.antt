@@ -1,21 +1,10 @@
 -- `put_row` meets its contract: one law for each way out.
-use mathlib.Core.Path.{_≡_, refl, sym, ap, _∙_}
 use native.Mathlib.Omega.{arith}
 use borrow.Author.Needs.{needs}
-use borrow.Author.Tests.{lt-ltb, le-ltb, eq-eqb, ne-eqb}
-use Rattle.table_shown.specs.Show.{row, placed}
-use Prim.Native.Nat.{ℕ, _+_, _-_, _*_, _≤_, _<_}
-use mathlib.Core.List.{List, []}
-use lib.Dec.{eqb}
-use lib.ListN.{length}
+use Rattle.table_shown.specs.Show.{row}
+use Prim.Native.Nat.{_-_}
 use denote.Ref.{now}
-use Rattle.rows.specs.Site.{count, slice}
-use Rattle.table.specs.Table.{siteOf, Table}
-use Rattle.text.specs.Text.{decimal}
-use Rattle.text.specs.Written.{Writes}
-use Rattle.text.proofs.Width.{length-decimal}
-use Rattle.text.proofs.Written.{then, written-nothing}
-use Rattle.ground.specs.Pieces.{cat}
+use Rattle.rows.specs.Site.{count}
 use Rattle.members.proofs.Laws.{two-digits}
 use Rattle.table_shown.proofs.Laws.{length-groups, four}
 use Rattle.table_shown.proofs.put_row.Statement.{statement}
@@ -24,8 +13,8 @@ use Rattle.table_shown.proofs.put_row.Tie as tie
 put-requires : tie.Need-put-requires
 put-requires c κs = omega (arith, two-digits (c .before .before .before .before .before .before .before .before .before .args .v) (omega arith))
 
-put-memberss-requires : tie.Need-put-memberss-requires
-put-memberss-requires c κs = (omega arith, (omega arith, omega (arith, two-digits (c .before .before .before .before .before .before .before .before .before .before .before .before .before .args .v) (omega arith))))
+put-groups-requires : tie.Need-put-groups-requires
+put-groups-requires c κs = (omega arith, (omega arith, omega (arith, two-digits (c .before .before .before .before .before .before .before .before .before .before .before .before .before .args .v) (omega arith))))
 
 put-requires-2 : tie.Need-put-requires-2
 put-requires-2 c κs =
@@ -40,7 +29,7 @@ put-requires-2 c κs =
 returns : tie.Need-returns
 unfolding row
 returns c = four (c .before .before .before .before .before .before .before .before .before .before .before .before .before .before .before .before .put-decimal .ensures)
-    (c .before .before .before .before .before .before .before .before .before .before .before .put .ensures) (c .before .before .before .before .before .before .before .put-memberss .ensures)
+    (c .before .before .before .before .before .before .before .before .before .before .before .put .ensures) (c .before .before .before .before .before .before .before .put-groups .ensures)
     (c .before .before .put2 .ensures) (omega arith)
 
 pub put-row-spec : {M : Type 1} → statement M
@@ -51,7 +40,7 @@ put-row-spec =
     (λ c κs. search needs)
     (λ c. search needs)
     put-requires
-    put-memberss-requires
+    put-groups-requires
     (λ c. search needs)
     put-requires-2
     (λ c. search needs)

@@ -1,21 +1,14 @@
 -- `put_rows` meets its contract: one law for each way out.
-use mathlib.Core.Path.{_≡_, refl, sym, ap, _∙_}
+use mathlib.Core.Path.{_≡_, refl, sym, ap}
 use native.Mathlib.Omega.{arith}
 use borrow.Author.Needs.{needs}
-use borrow.Author.Tests.{lt-ltb, le-ltb, eq-eqb, ne-eqb}
 use Rattle.table_shown.specs.Show.{row, rows}
-use Prim.Native.Nat.{ℕ, _+_, _-_, _*_, _≤_, _<_}
-use mathlib.Core.List.{List, []}
-use lib.Dec.{eqb}
+use Prim.Native.Nat.{_+_, _-_, _*_, _≤_, _<_}
 use lib.ListN.{length}
 use denote.Ref.{now}
-use native.Mathlib.Nat.{le-refl}
-use Rattle.rows.specs.Site.{count, slice}
-use Rattle.table.specs.Table.{siteOf, sites, Table}
-use Rattle.table.proofs.Exact.{exact}
-use Rattle.text.specs.Text.{decimal}
+use Rattle.table.specs.Table.{siteOf}
 use Rattle.text.specs.Written.{Writes}
-use Rattle.text.proofs.Written.{then, written-nothing}
+use Rattle.text.proofs.Written.{written-nothing}
 use Rattle.ground.specs.Pieces.{cat}
 use Rattle.ground.proofs.Pieces.{part-cut, length-part}
 use Rattle.lines.proofs.Chain.{as-text}

@@ -1,13 +1,11 @@
 -- `show` meets its contract: one law for each way out.
-use mathlib.Core.Path.{_≡_, refl, sym, ap, _∙_}
 use native.Mathlib.Omega.{arith}
 use borrow.Author.Needs.{needs}
-use borrow.Author.Tests.{lt-ltb, le-ltb, eq-eqb, ne-eqb}
 use Rattle.table_shown.specs.Show.{show}
-use Prim.Native.Nat.{ℕ, _+_, _-_, _*_, _≤_, _<_}
+use Prim.Native.Nat.{_-_}
 use lib.ListN.{length}
 use denote.Ref.{now}
-use Rattle.table.specs.Table.{sites, Table}
+use Rattle.table.specs.Table.{sites}
 use Rattle.table.proofs.Exact.{checked}
 use Rattle.text.proofs.Written.{then}
 use Rattle.table_shown.proofs.Laws.{length-head}
