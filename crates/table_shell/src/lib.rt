@@ -27,7 +27,7 @@ fn tell(text: &[u8], answer: Made)
     printing::blame(text, &room[..end]);
 }
 
-// Makes the table of a text under the name that an argument gives. What is made is sound, so that its image is always written.
+// Makes the table of a text under the name that an argument gives. The writer checks the table once more: one that it refuses is not put on file.
 fn make_table(text: &[u8], name: usize) {
     let mut table = [0u64; 4032];
     let answer = table_made::make(text, &mut table);
@@ -39,6 +39,7 @@ fn make_table(text: &[u8], name: usize) {
     let mut image = [0u8; 32768];
     let written = image_write::write(&table[..end], &mut image);
     let Writing::Sites(k) = written else {
+        files::complain(b"desk make TEXT TABLE: the table is not sound, and nothing was written\n");
         return;
     };
     let end = 512 * (k as usize);
