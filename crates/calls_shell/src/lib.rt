@@ -74,22 +74,3 @@ pub fn list_of(calls: usize) {
     let end = calls_listed::list(list, &mut room);
     printing::say_list(list, &room[..end]);
 }
-
-// desk same CALLS CALLS
-pub fn same_of(first: usize, second: usize) {
-    let mut a = io::large_buffer();
-    let whole = files::fetch(b"desk same CALLS CALLS", first, &mut a);
-    let Fetched::Bytes(n) = whole else {
-        return;
-    };
-    let a = &a[..n];
-    let mut b = io::large_buffer();
-    let whole = files::fetch(b"desk same CALLS CALLS", second, &mut b);
-    let Fetched::Bytes(m) = whole else {
-        return;
-    };
-    let b = &b[..m];
-    let mut room = [0u8; 752640];
-    let end = same_text::same(a, b, &mut room);
-    printing::say_same(a, b, &room[..end]);
-}

@@ -43,7 +43,7 @@ pub fn of_three(word: &[u8], k: usize, l: usize) -> bool {
         return true;
     }
     if check::same(word, b"same") {
-        calls_shell::same_of(k, l);
+        same_shell::same_of(k, l);
         return true;
     }
     false
