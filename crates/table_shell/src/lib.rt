@@ -1,4 +1,4 @@
-// What the desk does with tables as text: read, have the table or the text made, put it on file, print. Nothing here decides anything of the rules. A file is
+// What the desk does with a table's text: read, have the table made, put it on file, print. Nothing here decides anything of the rules. A file is
 // written by `put_on_file` alone, which is lent the text that was read and the image of its table.
 ghost use mathlib.Core.Path.{_≡_};
 ghost use Rattle.table_made.specs.Made.{made};
@@ -53,7 +53,7 @@ fn empty() -> [u8; 786432] {
     [0u8; 786432]
 }
 
-// desk make TEXT TABLE, where TEXT and TABLE are the numbers of arguments; so is the word of the other
+// desk make TEXT TABLE, where TEXT and TABLE are the numbers of arguments
 pub fn make_of(words: usize, name: usize) {
     let mut text = empty();
     let whole = files::fetch(b"desk make TEXT TABLE", words, &mut text);
@@ -64,17 +64,4 @@ pub fn make_of(words: usize, name: usize) {
     if filing::is_free(b"desk make TEXT TABLE", name) {
         make_table(text, name);
     }
-}
-
-// desk show TABLE
-pub fn show_of(k: usize) {
-    let mut image = io::large_buffer();
-    let whole = files::fetch(b"desk show TABLE", k, &mut image);
-    let Fetched::Bytes(n) = whole else {
-        return;
-    };
-    let image = &image[..n];
-    let mut room = [0u8; 786432];
-    let end = table_text::show(image, &mut room);
-    printing::say_show(image, &room[..end]);
 }

@@ -22,7 +22,7 @@ pub fn usage_of_calls() {
 // A call in two words, the second of them argument k. Answers whether there is such a call, as does the next.
 pub fn of_two(word: &[u8], k: usize) -> bool {
     if check::same(word, b"show") {
-        table_shell::show_of(k);
+        show_shell::show_of(k);
         return true;
     }
     if check::same(word, b"list") {

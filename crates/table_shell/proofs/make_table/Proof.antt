@@ -69,6 +69,8 @@ make-table-spec =
     (λ c. search needs)
     (λ c. search needs)
     (λ c. search needs)
+    (λ c κs. search needs)
+    (λ c. search needs)
     mul-end-2
     array-share-prefix-image
     slice-aggregate-put-on-file

@@ -2,8 +2,8 @@
 use Rattle.files.proofs.Fetching.{counts}
 use borrow.Author.Needs.{needs}
 use Rattle.printing.proofs.Told.{told}
-use Rattle.table_shell.proofs.show_of.Statement.{statement}
-use Rattle.table_shell.proofs.show_of.Tie as tie
+use Rattle.show_shell.proofs.show_of.Statement.{statement}
+use Rattle.show_shell.proofs.show_of.Tie as tie
 
 pub show-of-spec : {M : Type 1} → statement M
 show-of-spec =
