@@ -179,6 +179,12 @@ fn main() {
     seeds.push(("largest-set", seed(LARGEST, 0, &[&table(&a, MENDED), &[32]])));
     seeds.push(("blocks-b", seed(BLOCKS, 0, &[&table(&b, MENDED), &[6, 0]])));
     seeds.push(("blocks-site", seed(BLOCKS, 0, &[&table(&b, MENDED), &[6, 4]])));
+    // The site itself in the set; and a set that names a site too many, which is the one that is asked for.
+    for (name, rows, mask, site) in
+        [("0", &b, 1, 0), ("0-1", &b, 3, 0), ("0-1-2", &b, 7, 0), ("alone", &one, 1, 0), ("outside", &b, 16, 4)]
+    {
+        seeds.push((format!("blocks-own-{name}").leak(), seed(BLOCKS, 0, &[&table(rows, MENDED), &[mask, site]])));
+    }
 
     seeds.push(("shared-apart", seed(SHARED, 0, &[&table(&apart, MENDED)])));
     seeds.push(("shared-b", seed(SHARED, 0, &[&table(&b, MENDED)])));
