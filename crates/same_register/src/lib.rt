@@ -1,0 +1,1 @@
+// What it says of two lists that they are the same calls: statements and proofs only, in specs/ and proofs/.
