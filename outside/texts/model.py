@@ -1,4 +1,4 @@
-"""Tables and calls as text, worked out from the words that describe them to a person, and from nothing else.
+"""Tables and calls as text: a second writing, in plain Python, of the words that describe them to a person.
 
 A text of a table is a table (its image on file), a fault (a line and nothing more), or a refusal (number, site, line). A text of calls is a list of
 calls, a fault, or a refusal."""
