@@ -16,7 +16,7 @@ use Rattle.rules.proofs.WorkWays.{table-rests}
 use Rattle.rules.specs.Sound.{Sound as SoundState}
 use Rattle.rules.specs.State.{width}
 use Rattle.rules.specs.Vote.{voteOf}
-use Rattle.run.proofs.Public.{fit, the-run}
+use Rattle.run.proofs.Public.{fit, end-sound}
 use Rattle.run.specs.Run.{ran, runCheck, theRun, toRan}
 use Rattle.run.specs.Theorems.{Taken, endState}
 use Rattle.run.specs.declared.Ran.the-variants.{Passes}
@@ -31,17 +31,6 @@ use Rattle.voting.proofs.StepWays.{sound-table, sound-state}
 use Rattle.voting.specs.Step.{soundCheck, stepInto}
 use Rattle.published.proofs.Voting.{of-state}
 use Rattle.published.specs.Voting.{EndAsPublished, NeverUnsound}
-
--- the run of a list is the only one, and it ends in a sound state
-module _ {t : List ℕ} {F : ℕ} {list state answers : List ℕ} {p : ℕ} (T : Taken t F list state answers p) where
-  abbrev n : ℕ
-  n = sites (length t)
-
-  end-sound : SoundState (questions t) n F (endState t F list state p)
-  end-sound =
-      let A = is-run (voteOf t n F) (lawful (fit T .table) F) (calls list) in
-      let same = only-run (voteOf t n F) (calls list) _ _ (the-run t F list state answers p T) (A .0) in
-      subst (SoundState (questions t) n F) (sym (ap (λ (r : Run (List ℕ)). r .state) same)) (A .1)
 
 pub end-as-published : EndAsPublished
 end-as-published t F list state answers p T = of-state (table-rests (fit T .table)) (end-sound T)

@@ -11,12 +11,14 @@ use Rattle.pass.proofs.Turns.{length-answers}
 use Rattle.pass.specs.Calls.{calls, callAt}
 use Rattle.refusals.specs.declared.Check.{Check}
 use Rattle.refusals.specs.declared.Check.the-variants.{Sound, Refused}
+use Rattle.rules.specs.Sound.{Sound as SoundState}
 use Rattle.rules.specs.State.{width}
 use Rattle.rules.specs.Vote.{voteOf}
 use Rattle.run.proofs.RunWays.{Fits, fits}
 use Rattle.run.specs.Run.{runCheck, theRun, toRan, ran, stateInto, answersInto}
 use Rattle.run.specs.Theorems.{Taken, endState, endAnswers, OrderFree, FewPasses, TheRun, FewerBelow}
 use Rattle.run.specs.declared.Ran.the-variants.{Passes}
+use Rattle.sets.specs.Promises.{questions}
 use Rattle.table.specs.Table.{sites}
 use Rattle.votes.proofs.AnyVote.{is-run, order-free, few-passes, fewer-below}
 use Rattle.votes.specs.Call.{Call}
@@ -47,11 +49,15 @@ module _ {t : List ℕ} {F : ℕ} {list state answers : List ℕ} {p : ℕ} (T :
   call-count = calls-length list (length list / 4) (fit .four)
 
   -- the front of the state room is the state of the run, the front of the answer room its answers
-  state-is-run : endState t F list state p ≡ theRun t F list .state
+  pub state-is-run : endState t F list state p ≡ theRun t F list .state
   unfolding stateInto
   state-is-run =
       take-at (theRun t F list .state) (drop (width (sites (length t))) state) (width (sites (length t)))
       (law .long (theRun t F list .state) (is-run X law (calls list) .1))
+
+  -- a run ends in a sound state
+  pub end-sound : SoundState (questions t) (sites (length t)) F (endState t F list state p)
+  end-sound = subst (SoundState (questions t) (sites (length t)) F) (sym state-is-run) (is-run X law (calls list) .1)
 
   answers-are-run : endAnswers t F list answers p ≡ theRun t F list .answers
   unfolding answersInto

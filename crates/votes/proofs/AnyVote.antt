@@ -8,6 +8,7 @@ use Rattle.ground.proofs.Alike.{alike-eq, alike-refl}
 use Rattle.ground.specs.Alike.{alike}
 use Rattle.refusals.specs.Refusal.{code}
 use Rattle.votes.proofs.Loops.{iter-more}
+use Rattle.votes.proofs.Passes as Passes
 use Rattle.votes.proofs.Passes.{Spends, Rises, Ends, run-ends, run-same-state, run-same-answers, run-below, run-bound}
 use Rattle.votes.specs.Call.{Call, propose}
 use Rattle.votes.specs.Inner.{Lawful}
@@ -64,6 +65,17 @@ is-run X L l =
       },
       E .inv,
     )
+
+-- what the fresh state has and each call of the list keeps, its run ends with
+pub run-keeps : (X : Vote) → Lawful X → (l : List Call) (P : List ℕ → Type 0) → ((c : Call) → List·Memᴰ c l → (s : List ℕ) → P s → P (step X c s)) →
+    P (fresh (X .width)) → P (runOf X l .state)
+unfolding runOf
+run-keeps X L l P =
+    Passes.run-keeps (step X) alike (spends X L) (L .below-antisym) (fresh (X .width)) (L .fresh-least) (L .fresh-sound) (λ c s. code (X .answer c s)) l P
+
+-- a sound state that a pass leaves as it was, each call of the list leaves so
+pub pass-each : (X : Vote) → Lawful X → (l : List Call) (s : List ℕ) → X .Sound s → pass (step X) l s ≡ s → (c : Call) → List·Memᴰ c l → step X c s ≡ s
+pass-each X L = Passes.fixed-each (step X) alike (spends X L) (L .below-antisym) (fresh (X .width)) (L .fresh-least) (L .fresh-sound)
 
 pub order-free : VoteOrderFree
 unfolding runOf

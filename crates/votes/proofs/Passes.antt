@@ -196,7 +196,7 @@ getD-mapped f (x ∷ l) (suc i) d h = getD-mapped f l i d (omega arith)
 module _ {S C : Type 0} (step : C → S → S) (same : S → S → Bool) (W : Spends step same)
     (anti : (s t : S) → W .Inv s → W .Inv t → W .Le s t → W .Le t s → s ≡ t) (fresh : S) (least : (s : S) → W .Inv s → W .Le fresh s) (inv : W .Inv fresh) where
   -- a state that a pass leaves alone, each of its calls leaves alone
-  fixed-each : (l : List C) (s : S) → W .Inv s → pass step l s ≡ s → (c : C) → List·Memᴰ c l → step c s ≡ s
+  pub fixed-each : (l : List C) (s : S) → W .Inv s → pass step l s ≡ s → (c : C) → List·Memᴰ c l → step c s ≡ s
   fixed-each [] s i e c m = absurd (List·Memᴰ·not-nil m)
   fixed-each (x ∷ l) s i e c m =
       let first : step x s ≡ s = anti (step x s) s (W .inv-step x s i) i (subst (λ (u : S). W .Le (step x s) u) e (pass-up step same W l (step x s) (W .inv-step x s i))) (W .up x s i) in
@@ -215,7 +215,7 @@ module _ {S C : Type 0} (step : C → S → S) (same : S → S → Bool) (W : Sp
   iter-keeps P l h (suc k) s p = iter-keeps P l h k (pass step l s) (pass-keeps P l h s p)
 
   -- what every step of the list keeps, the end of its run has
-  run-keeps : (ans : C → S → ℕ) (l : List C) (P : S → Type 0) → ((c : C) → List·Memᴰ c l → (s : S) → P s → P (step c s)) → P fresh → P ((run step ans same fresh l) .state)
+  pub run-keeps : (ans : C → S → ℕ) (l : List C) (P : S → Type 0) → ((c : C) → List·Memᴰ c l → (s : S) → P s → P (step c s)) → P fresh → P ((run step ans same fresh l) .state)
   run-keeps ans l P h p = let E = run-ends step same W ans fresh inv l in subst P (sym (E .state-is)) (iter-keeps P l h (E .changing) fresh p)
 
   -- Fewer calls, in whichever order and with whichever repeats, end lower.

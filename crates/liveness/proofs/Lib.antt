@@ -1,0 +1,4 @@
+pub mod Spread
+pub mod Liveness
+pub mod Complete
+pub mod Witness
