@@ -19,18 +19,21 @@ use Rattle.run.proofs.Public.{fit, state-is-run}
 use Rattle.sets.specs.Promises.{questions}
 use Rattle.sets.specs.Slices.{fbqsOf}
 use Rattle.table.proofs.SetCheck.{set-table}
-use Rattle.table.specs.Table.{sites, setCheck}
+use Rattle.table.specs.Table.{sites, setCheck, Table}
 use Rattle.votes.proofs.AnyVote.{run-keeps}
 use Rattle.votes.specs.Call.{Call}
-use Rattle.votes.specs.Vote.{step, ifTaken, fresh}
+use Rattle.votes.specs.Vote.{step, ifTaken, fresh, runOf}
 use Rattle.voting.specs.Step.{soundCheck, stepInto}
+
+-- of the run of a table in memory
+pub table-agrees : {t : List ℕ} {n : ℕ} → Table t n → (F : ℕ) → Premises (fbqsOf t n) F → (l : List Call) → Agreed n F (runOf (voteOf t n F) l .state)
+table-agrees {t} {n} T F P l =
+    let R = table-rests T in
+    good-agreed R F P (run-keeps (voteOf t n F) (lawful T F) l (Good R F P) (λ c m. good-step R F P c) (good-fresh R F P))
 
 pub run-agrees : RunAgrees
 run-agrees t F list state answers p T P =
-    let n = sites (length t) in
-    let R = table-rests (fit T .table) in
-    subst (Agreed n F) (sym (state-is-run T))
-    (good-agreed R F P (run-keeps (voteOf t n F) (lawful (fit T .table) F) (calls list) (Good R F P) (λ c m. good-step R F P c) (good-fresh R F P)))
+    subst (Agreed (sites (length t)) F) (sym (state-is-run T)) (table-agrees (fit T .table) F P (calls list))
 
 fresh-agreed : (n F : ℕ) → Agreed n F (fresh (width n))
 fresh-agreed n F = record { no-two = λ v w f k h. absurd (fresh-none n (confirmed n 0) h); none-both = λ v f h. absurd (fresh-none n (confirmed n 0) h) }

@@ -54,7 +54,7 @@ reads : (image : List ℕ) → imageCheck image ≡ Sound → read image 4032 �
 unfolding read imageCheck
 reads image e = rw e refl
 
-image-table : (image : List ℕ) → imageCheck image ≡ Sound → Table (tableOn image) (sitesOn image)
+pub image-table : (image : List ℕ) → imageCheck image ≡ Sound → Table (tableOn image) (sitesOn image)
 image-table image e =
     let x = read-taken image 4032 (sitesOn image) (reads image e) in
     let s = blocks-shape (length image) (x .0) in
@@ -81,7 +81,7 @@ read-as-filed image e =
     )
 
 -- the line of a site
-is-drill : (drill live v : ℕ) → v ≤ 63 → (mark v drill live ≡ 1) ↔ ((v ∈ drill) × (v ∈ live → ⊥))
+pub is-drill : (drill live v : ℕ) → v ≤ 63 → (mark v drill live ≡ 1) ↔ ((v ∈ drill) × (v ∈ live → ⊥))
 unfolding mark
 is-drill drill live v h = (
   λ e. both (rw (le-ltb 63 v h) at e),
@@ -97,7 +97,7 @@ is-drill drill live v h = (
         let z = one (has drill v && not (has live v)) e in
         (mem (and-l (has drill v) (not (has live v)) z), λ y. clash (y .holds) (not-t (has live v) (and-r (has drill v) (not (has live v)) z)))
 
-drill-line : (drill live v : ℕ) → (siteLine drill live v ≡ line (ascii "site ") (decimal v ++ ascii " drill")) ↔ (mark v drill live ≡ 1)
+pub drill-line : (drill live v : ℕ) → (siteLine drill live v ≡ line (ascii "site ") (decimal v ++ ascii " drill")) ↔ (mark v drill live ≡ 1)
 unfolding siteLine
 drill-line drill live v = (
   λ e. ⊎-elim (λ h. eqb-true (mark v drill live) 1 h) (λ h. absurd (other (rw h at e))) (cases (eqb (mark v drill live) 1)),

@@ -83,6 +83,11 @@ unfolding shared check tableMisshapen sitesCheck siteCheck rowCheck sliceCheck s
     Quorum.quorum Quorum.round Quorum.left Quorum.dropping Quorum.largest Quorum.rounds Verdicts.beside Verdicts.apart Verdicts.firstApart Verdicts.meets
 meeting = refl
 
+a-meets : shared tableA ≡ Sharing.Sharing.Meet
+unfolding shared check tableMisshapen sitesCheck siteCheck rowCheck sliceCheck strange unordered rowUnfilled some every least first has within minus gather slicesOf
+    Quorum.quorum Quorum.round Quorum.left Quorum.dropping Quorum.largest Quorum.rounds Verdicts.beside Verdicts.apart Verdicts.firstApart Verdicts.meets
+a-meets = refl
+
 not-meeting : shared tableApart ≡ Sharing.Sharing.Apart 3 12
 unfolding shared check tableMisshapen sitesCheck siteCheck rowCheck sliceCheck strange unordered rowUnfilled some every least first has within minus gather slicesOf
     Quorum.quorum Quorum.round Quorum.left Quorum.dropping Quorum.largest Quorum.rounds Verdicts.beside Verdicts.apart Verdicts.firstApart Verdicts.meets
@@ -167,6 +172,7 @@ witnesses = record {
   meeting = meeting;
   not-meeting = not-meeting;
   some-intact = some-intact;
+  relied = record { meet = a-meets; whole = some-intact; somebody = λ e. let z : _≡_ {A = ℕ} 7 0 = e in absurd (omega (arith, z)) };
   b-state = never-unsound .0 tableB 8 b-set;
   b-run = b-run;
   b-image = b-image;

@@ -19,6 +19,7 @@ use Rattle.run.specs.Theorems.{Taken}
 use Rattle.table.specs.Table.{check}
 use Rattle.votes.specs.Vote.{fresh}
 use Rattle.voting.specs.Step.{soundCheck}
+use Rattle.published.specs.Union.{Relied}
 
 -- "vote 0 to 1 drill, propose 0 drill"
 abbrev pub late : List ℕ
@@ -41,6 +42,8 @@ pub record Witnesses : Type 0 where
   pub meeting : shared tableB ≡ Sharing.Sharing.Meet
   pub not-meeting : shared tableApart ≡ Sharing.Sharing.Apart 3 12
   pub some-intact : intact tableA 8 ≡ Standing.Standing.Intact 7
+  -- the premises of the union's promise, as a verdict says them
+  pub relied : Relied tableA 8 7
   -- a state that is not 18, and a run that is taken
   pub b-state : soundCheck tableB 8 (fresh (width 4)) ≡ Sound
   pub b-run : Taken tableB 0 late (replicate 22 7) (replicate 2 7) 3
