@@ -1,0 +1,2 @@
+pub mod Risk
+pub mod Decides

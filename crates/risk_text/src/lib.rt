@@ -1,0 +1,1 @@
+// What `desk risk` prints of an image, as bytes in a lent room.
