@@ -1,1 +1,2 @@
 pub mod Saneness
+pub mod Coincide
