@@ -1,3 +1,4 @@
 pub mod Heard
 pub mod Group
 pub mod Line
+pub mod Round
