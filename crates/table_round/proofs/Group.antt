@@ -1,9 +1,9 @@
 -- The sites of a group, one by one: they are heard as the group.
 use Prim.Native.Nat.{ℕ, zero, suc, _*_, _^_, _≤_, _<_}
 use mathlib.Core.Bool.{Bool, true, false, _&&_, cond}
-use mathlib.Core.List.{List, [], _∷_, _++_}
+use mathlib.Core.List.{List, [], _∷_}
 use mathlib.Core.Logic.{⊎-elim}
-use mathlib.Core.Path.{_≡_, refl, sym, ap, subst, _∙_}
+use mathlib.Core.Path.{_≡_, refl, sym, ap, _∙_}
 use native.Mathlib.Nat.{le-refl}
 use native.Mathlib.Omega.{arith}
 use lib.Bits.{bitOr}
@@ -18,13 +18,13 @@ use Rattle.masks.proofs.Laws.Members.{has-above, ext}
 use Rattle.masks.proofs.Laws.Subsets.{mem, ∈-below, or-⊆-r, ⊆-le}
 use Rattle.masks.specs.Mask.{has, single, gather}
 use Rattle.members.specs.Members.{siteShown, members}
-use Rattle.table_words.specs.declared.Begun.the-variants.{Gap, Digits}
+use Rattle.table_words.specs.declared.Begun.the-variants.{Gap}
 use Rattle.table_words.specs.declared.Token.the-variants.{Number}
 use Rattle.table_grammar.specs.Grammar.{own, member, firstMember, numbered, spoken}
 use Rattle.table_grammar.specs.declared.Phase.{Phase}
 use Rattle.table_grammar.specs.declared.Phase.the-variants.{First, More}
 use Rattle.table_grammar.specs.declared.Spot.{Spot}
-use Rattle.table_reading.specs.Reading.{Here, here, full, hearing, readOn}
+use Rattle.table_reading.specs.Reading.{Here, here, full, readOn}
 use Rattle.table_round.proofs.Heard.{Ready, gap, read-both, read-byte, read-none, read-number, ready-eq, ready-gap, ready-number, blank}
 use Rattle.text.specs.Text.{decimal}
 

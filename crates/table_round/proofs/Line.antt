@@ -1,19 +1,19 @@
 -- The line of a site is heard as that site's row.
 use Prim.Native.Nat.{ℕ, zero, suc, _+_, _-_, _*_, _^_, _≤_, _<_}
-use mathlib.Core.Bool.{Bool, true, false, not, _||_, cond}
-use mathlib.Core.List.{List, [], _∷_, _++_, append-assoc}
+use mathlib.Core.Bool.{Bool, true, false}
+use mathlib.Core.List.{List, [], _∷_, _++_}
 use mathlib.Core.Logic.{⊎-elim}
 use mathlib.Core.Path.{_≡_, refl, sym, ap, subst, _∙_}
 use native.Mathlib.Nat.{eq-or-lt-of-le, le-of-suc-le-suc}
 use native.Mathlib.Omega.{arith}
 use lib.Dec.{eqb, eqb·suc-zero, ltb}
-use lib.ListN.{length, take, drop, getD, replicate, length-append, length-drop, take-append-drop}
+use lib.ListN.{length, take, drop, getD, replicate, length-drop, take-append-drop}
 use lib.Seq.{length-take-le, take-at, drop-at, getD-at, getD-take, getD-drop, take-suc, take-all, drop-drop}
 use borrow.Author.Tests.{lt-ltb, le-ltb, eq-eqb, ne-eqb}
 use Rattle.ground.proofs.Some.{each-none}
 use Rattle.ground.specs.Pieces.{cat}
 use Rattle.group_order.proofs.Sorted.{Each, each-at, each-of, sift-last}
-use Rattle.group_order.specs.Joined.{sift, joined, known}
+use Rattle.group_order.specs.Joined.{joined, known}
 use Rattle.masks.proofs.Laws.Single.{∈-eq}
 use Rattle.masks.proofs.Laws.Subsets.{not-in-zero}
 use Rattle.masks.specs.Mask.{has, _∈_}

@@ -1,20 +1,18 @@
 -- What is shown of a sound table makes the same table.
 use Prim.Native.Nat.{ℕ, zero, suc, _+_, _-_, _*_, _≤_, _<_}
-use mathlib.Core.Bool.{Bool, true, false, not, _||_, cond}
-use mathlib.Core.List.{List, [], _∷_, _++_, append-assoc}
-use mathlib.Core.Path.{_≡_, refl, sym, ap, subst, _∙_}
+use mathlib.Core.Bool.{Bool, cond}
+use mathlib.Core.List.{List, [], _++_, append-assoc}
+use mathlib.Core.Path.{_≡_, refl, sym, ap, _∙_}
 use native.Mathlib.Numerals.{add-one}
 use native.Mathlib.Omega.{arith}
-use lib.Dec.{ltb}
 use lib.ListN.{length, take, drop, replicate, replicate-append-replicate}
 use lib.Seq.{length-take-le, take-all, take-at, take-add}
 use borrow.Author.Tests.{le-ltb}
 use Rattle.ground.proofs.Pieces.{length-part}
 use Rattle.ground.specs.Pieces.{cat}
-use Rattle.refusals.specs.declared.Check.the-variants.{Sound}
 use Rattle.table.proofs.Exact.{checked}
 use Rattle.table.proofs.Table.{slice-lt}
-use Rattle.table.specs.Table.{siteOf, sites, check, Table}
+use Rattle.table.specs.Table.{siteOf, sites, Table}
 use Rattle.table_words.specs.Words.{opens, counts, spelt, plain, spelled}
 use Rattle.table_words.specs.declared.Begun.the-variants.{Fresh, Gap, Digits}
 use Rattle.table_words.specs.declared.Sign.the-variants.{Note}
@@ -24,7 +22,7 @@ use Rattle.table_grammar.specs.declared.Phase.the-variants.{Count, Tail, Owner}
 use Rattle.table_grammar.specs.declared.Spot.{Spot}
 use Rattle.table_reading.proofs.Steps.{undone}
 use Rattle.table_reading.specs.Groups.{judged, kept}
-use Rattle.table_reading.specs.Reading.{Here, here, full, heardAs, hearing, readOn, start, finished, textRead}
+use Rattle.table_reading.specs.Reading.{Here, here, full, hearing, readOn, start, finished, textRead}
 use Rattle.table_made.specs.Made.{answerOf, madeOf, numbers, orShort, made, leaves, tableIn}
 use Rattle.table_made.specs.declared.Made.{Made}
 use Rattle.table_made.specs.declared.Made.the-variants.{Sites, Room}
