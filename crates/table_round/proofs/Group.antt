@@ -20,6 +20,7 @@ use Rattle.masks.specs.Mask.{has, single, gather}
 use Rattle.members.specs.Members.{siteShown, members}
 use Rattle.table_words.specs.declared.Begun.the-variants.{Gap}
 use Rattle.table_words.specs.declared.Token.the-variants.{Number}
+use Rattle.table_grammar.proofs.Ways.{member-more}
 use Rattle.table_grammar.specs.Grammar.{own, member, firstMember, numbered, spoken}
 use Rattle.table_grammar.specs.declared.Phase.{Phase}
 use Rattle.table_grammar.specs.declared.Phase.the-variants.{First, More}
@@ -37,8 +38,7 @@ begun q = cond (eqb q 0) First More
 
 module _ (line n v q x : ℕ) (none : Bool) (e : none ≡ false) (h : x < n) (f : has q x ≡ false) where
   joins : (p : Phase) → member (spot line n v q p) x ≡ spot line n v (bitOr q (single x)) More
-  unfolding member
-  joins p = rw (lt-ltb x n h, f) refl
+  joins p = member-more (spot line n v q p) x h f
 
   joins-first : (p : Phase) → firstMember (spot line n v q p) none x ≡ spot line n v (bitOr q (single x)) More
   unfolding firstMember

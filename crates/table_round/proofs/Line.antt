@@ -9,7 +9,7 @@ use native.Mathlib.Omega.{arith}
 use lib.Dec.{eqb, eqb·suc-zero, ltb}
 use lib.ListN.{length, take, drop, getD, replicate, length-drop, take-append-drop}
 use lib.Seq.{length-take-le, take-at, drop-at, getD-at, getD-take, getD-drop, take-suc, take-all, drop-drop}
-use borrow.Author.Tests.{lt-ltb, le-ltb, eq-eqb, ne-eqb}
+use borrow.Author.Tests.{le-ltb, ne-eqb}
 use Rattle.ground.proofs.Some.{each-none}
 use Rattle.ground.specs.Pieces.{cat}
 use Rattle.group_order.proofs.Sorted.{Each, each-at, each-of, sift-last}
@@ -25,10 +25,12 @@ use Rattle.table.specs.Table.{siteOf}
 use Rattle.table_words.specs.declared.Begun.the-variants.{Fresh, Gap, Digits}
 use Rattle.table_words.specs.declared.Token.{Token}
 use Rattle.table_words.specs.declared.Token.the-variants.{Number, Colon, Bar, End}
+use Rattle.table_grammar.proofs.Ways.{owner-next}
 use Rattle.table_grammar.specs.Grammar.{own, owner, spoken}
 use Rattle.table_grammar.specs.declared.Phase.the-variants.{Owner, Mark, First, More}
 use Rattle.table_grammar.specs.declared.Spot.{Spot}
 use Rattle.table_reading.proofs.Steps.{complete}
+use Rattle.table_reading.proofs.Ways.{group-new}
 use Rattle.table_reading.specs.Groups.{completes, groupCheck, checkOf, ruled, entered, judged, kept}
 use Rattle.table_reading.specs.Reading.{Here, here, full, hearing, readOn}
 use Rattle.table_round.proofs.Group.{spot, group-named}
@@ -70,13 +72,9 @@ module _ (A Z l : List ℕ) (L n v u q : ℕ) (a : length A ≡ 63 * u) (o : own
       each-none (length l) (λ i. eqb (slice (filled l) i) q)
       (λ i h. ap (λ (x : ℕ). eqb x q) (slice-in l i h) ∙ ne-eqb (getD l i 0) q (λ e. omega (arith, each-at above i h)))
 
-  passes : groupCheck u q (filled l) ≡ Sound
-  unfolding groupCheck
-  passes = rw (le-ltb 61 (length l) (omega arith), p, new) refl
-
   checked : checkOf S B ≡ Sound
   unfolding checkOf
-  checked = ap (λ (i : ℕ). groupCheck i q (siteOf B i)) o ∙ ap (groupCheck u q) (row-here A Z l u a (omega arith)) ∙ passes
+  checked = ap (λ (i : ℕ). groupCheck i q (siteOf B i)) o ∙ ap (groupCheck u q) (row-here A Z l u a (omega arith)) ∙ group-new u q (filled l) (omega arith) p new
 
   pub stays : judged S k B ≡ S
   stays = sym (complete S k B c .0) ∙ ap (λ (x : Check). ruled x S) checked
@@ -232,8 +230,7 @@ module _ (n u : ℕ) (m : List ℕ) (r : Row n u m) where
     t₀ = A ++ (replicate 63 0 ++ Z)
 
     called : (b : Bool) → spoken (Number u) b s₀ ≡ spot L n (u + 1) 0 Mark
-    unfolding owner
-    called b = rw (lt-ltb u n l, eq-eqb u u refl) refl
+    called b = owner-next s₀ u l refl
 
     back : u + 1 - 1 ≡ u
     back = omega arith
