@@ -1,1 +1,3 @@
 pub mod Saneness
+pub mod Ways
+pub mod Coincide

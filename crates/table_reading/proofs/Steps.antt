@@ -180,7 +180,7 @@ pub read-end : (h : Here) (text : List ℕ) (i : ℕ) → i ≡ length text → 
 unfolding readOn
 read-end h text i e = ap (λ (j : ℕ). readOn h (drop j text)) e ∙ ap (readOn h) (drop-length text)
 
-whole-step : (h : Here) (b : ℕ) (c : Sign) (w : Begun) (s : Spot) (t : List ℕ) → c ≡ signOf (h .word) b → w ≡ turn c (h .word) b
+pub whole-step : (h : Here) (b : ℕ) (c : Sign) (w : Begun) (s : Spot) (t : List ℕ) → c ≡ signOf (h .word) b → w ≡ turn c (h .word) b
     → s ≡ heardAs c (h .word) (h .spot) (h .table) .0 → t ≡ heardAs c (h .word) (h .spot) (h .table) .1 → here w s t ≡ hearing h b
 unfolding hearing
 whole-step h b c w s t e₁ e₂ e₃ e₄ = cc

@@ -23,8 +23,10 @@ bar false = omega arith
 
 pub length-placed : (m : List ℕ) (k : ℕ) → length (placed m k) ≤ 194
 unfolding placed
-length-placed m k =
-    rw (length-append (cond (eqb k 0) [] (ascii " |")) (members (slice m k))) (omega (arith, bar (eqb k 0), length-members (slice m k)))
+length-placed m k = of (cond (eqb k 0) [] (ascii " |")) (members (slice m k)) (bar (eqb k 0)) (length-members (slice m k))
+  where
+    of : (a b : List ℕ) → length a ≤ 2 → length b ≤ 192 → length (a ++ b) ≤ 194
+    of a b h g = omega (arith, length-append a b)
 
 pub length-groups : (m : List ℕ) (k : ℕ) → length (cat (placed m) k) ≤ 194 * k
 length-groups m k = cat-le (placed m) 194 k (λ i h. length-placed m i)

@@ -1,36 +1,28 @@
 -- One test after the other.
-use mathlib.Core.Path.{_≡_, refl, sym, ap, _∙_}
-use native.Mathlib.Omega.{arith}
+use mathlib.Core.Path.{sym, ap, _∙_}
 use borrow.Author.Needs.{needs}
-use borrow.Author.Tests.{lt-ltb, le-ltb, eq-eqb, ne-eqb}
-use Rattle.table_grammar.specs.Grammar.{at, own, member}
+use Rattle.table_grammar.specs.Grammar.{at}
 use Rattle.table_grammar.specs.declared.Phase.the-variants.{Wrong}
 use Rattle.table_grammar.specs.declared.Why.the-variants.{Rule}
 use Rattle.refusals.specs.declared.Refusal.the-variants.{Slice}
 use Prim.Native.Nat.{ℕ}
+use Rattle.table_grammar.proofs.Ways.{member-above, member-twice, member-more}
 use Rattle.table_grammar.proofs.member.Statement.{statement}
 use Rattle.table_grammar.proofs.member.Tie as tie
 
 returns : tie.Need-returns
-unfolding member
 returns c =
     let s = c .before .before .before .before .args .s in
-    c .at .ensures ∙ ap (λ (v : ℕ). at s (Wrong (Rule (Slice v)))) (c .before .own .ensures) ∙ rw (le-ltb _ _ (c .before .before .if1 .taken)) refl
+    c .at .ensures ∙ ap (λ (v : ℕ). at s (Wrong (Rule (Slice v)))) (c .before .own .ensures) ∙ sym (member-above _ _ (c .before .before .if1 .taken))
 
 returns-2 : tie.Need-returns-2
-unfolding member
 returns-2 c =
-    c .at2 .ensures ∙ rw (lt-ltb _ _ (c .before .before .before .if1 .left), ← c .before .before .has .ensures, c .before .if2 .taken) refl
+    c .at2 .ensures ∙ sym (member-twice _ _ (c .before .before .before .if1 .left) (sym (c .before .before .has .ensures) ∙ c .before .if2 .taken))
 
 returns-3 : tie.Need-returns-3
-unfolding member
 returns-3 c =
-    rw (
-      c .before .single .ensures,
-      lt-ltb _ _ (c .before .before .before .before .if1 .left),
-      ← c .before .before .before .has .ensures,
-      c .before .before .if2 .left,
-    ) refl
+    rw (c .before .single .ensures)
+    (sym (member-more _ _ (c .before .before .before .before .if1 .left) (sym (c .before .before .before .has .ensures) ∙ c .before .before .if2 .left)))
 
 pub member-spec : {M : Type 1} → statement M
 member-spec =

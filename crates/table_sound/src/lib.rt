@@ -1,0 +1,1 @@
+// What is proved of a table that a text makes; no code.
