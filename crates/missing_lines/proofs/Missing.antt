@@ -13,9 +13,9 @@ use Rattle.ground.proofs.Logic.{cases}
 use Rattle.ground.specs.Pieces.{cat}
 use Rattle.lines.proofs.Lengths.{length-line}
 use Rattle.lines.specs.Lines.{line}
-use Rattle.liveness.specs.Complete.{lacks}
+use Rattle.liveness.specs.Complete.{lacks, isComplete}
 use Rattle.masks.specs.Mask.{has}
-use Rattle.missing_lines.specs.Missing.{missingLine, missingFrom}
+use Rattle.missing_lines.specs.Missing.{missingLine, missingFrom, missingLines, sideLines}
 use Rattle.register.proofs.Rows.{length-rows}
 use Rattle.same_calls.specs.Same.{hasCall}
 use Rattle.text.proofs.Width.{length-decimal}
@@ -106,3 +106,15 @@ module _ (among side : ℕ) (list : List ℕ) (accepters : ℕ) where
     where
       few : (u : ℕ) → length (missingFrom n among side list accepters u) ≤ 576
       few u = omega (arith, length-from n u, h)
+
+-- the lines of a side
+pub length-side : (n among side : ℕ) (list : List ℕ) (accepters : ℕ) → n ≤ 12 → length (sideLines n among side list accepters) ≤ 6912
+unfolding sideLines missingLines
+length-side n among side list accepters h =
+    either (isComplete n among side list accepters) (line (ascii "complete ") (sideName side)) (cat (missingFrom n among side list accepters) n)
+    (omega (arith, length-line (ascii "complete ") (sideName side), length-name side, length-append (sideName side) (ascii " ")))
+    (omega (arith, length-senders among side list accepters n n h, h))
+  where
+    either : (b : Bool) (A B : List ℕ) → length A ≤ 6912 → length B ≤ 6912 → length (cond b A B) ≤ 6912
+    either true A B a b = a
+    either false A B a b = b
