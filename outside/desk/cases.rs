@@ -211,6 +211,9 @@ pub fn desk_answer(leaflet: &Leaflet, files: &mut Vec<File>, words: &[&'static s
         ["check", table] => Some(expected::check(leaflet, file(table)?)),
         ["verdict", table, faulty] => Some(expected::verdict(file(table)?, mask(faulty)?)),
         ["run", table, faulty, calls] => Some(expected::run(leaflet, file(table)?, mask(faulty)?, file(calls)?)),
+        ["missing", table, faulty, calls] => {
+            Some(expected::missing(leaflet, file(table)?, mask(faulty)?, file(calls)?))
+        }
         ["keep", calls, name] => {
             let (text, journal) = expected::keep(leaflet, file(calls).filter(|_| free(name))?);
             files.extend(journal.map(|bytes| (*name, bytes)));

@@ -134,6 +134,25 @@ pub fn run(leaflet: &Leaflet, image: &[u8], faulty: u64, calls: &[u8]) -> String
     text
 }
 
+/// `desk missing`: `meet no` where the table does not meet; of drill, then of live, the missing accept calls, side, from,
+/// to; where none is missing, that the list is complete for the side
+pub fn missing(leaflet: &Leaflet, image: &[u8], faulty: u64, calls: &[u8]) -> String {
+    let missing = match read(image).and_then(|memory| model::missing(&memory, faulty, calls)) {
+        Ok(missing) => missing,
+        Err(answer) => return leaflet.refused(answer),
+    };
+    let mut text = if missing.meet { String::new() } else { "meet no\n".to_string() };
+    for (side, calls) in ["drill", "live"].iter().zip(&missing.sides) {
+        for (from, to) in calls {
+            text += &format!("{side} {from} {to}\n");
+        }
+        if calls.is_empty() {
+            text += &format!("complete {side}\n");
+        }
+    }
+    text
+}
+
 /// `blocks K` and `calls N`
 fn counts(blocks: u64, calls: usize) -> String {
     format!("blocks {blocks}\ncalls {calls}\n")

@@ -43,6 +43,7 @@ fn blame(words: &[&str]) -> &'static str {
         ["check", _] => "desk check TABLE: ",
         ["verdict", _, _] => "desk verdict TABLE FAULTY: ",
         ["run", _, _, _] => "desk run TABLE FAULTY CALLS: ",
+        ["missing", _, _, _] => "desk missing TABLE FAULTY CALLS: ",
         ["keep", _, _] => "desk keep CALLS JOURNAL: ",
         ["journal", _] => "desk journal JOURNAL: ",
         ["replay", _, _, _] => "desk replay TABLE FAULTY JOURNAL: ",

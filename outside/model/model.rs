@@ -682,6 +682,40 @@ pub fn run_records(memory: &[u64], faulty: u64, calls: &[[u8; 4]], state: &mut [
     ask().into()
 }
 
+// ---- The accept calls that are missing
+
+/// What a list lacks: whether the table meets; of each side, drill and live, the accept calls that are missing, from and
+/// to.
+pub struct Missing {
+    pub meet: bool,
+    pub sides: [Vec<(usize, usize)>; 2],
+}
+
+/// "a list is complete for a side if each intact site that accepted it at the end says so to each other intact site":
+/// "the accept calls between intact sites that the list lacks". "up to 12 sites": the refusals of a verdict, then 17 as
+/// in a run.
+pub fn missing(memory: &[u64], faulty: u64, list: &[u8]) -> Result<Missing, Answer> {
+    let ask = || {
+        let table = table_in_memory(memory)?;
+        check_set(&table, faulty)?;
+        check_verdict(&table)?;
+        if !list.len().is_multiple_of(4) || list.len() > 4 * MOST_CALLS {
+            return refused(17);
+        }
+        let calls = calls_of(list);
+        let (end, _, _) = passes(&table, faulty, &calls);
+        let intact = intact_sites(&table, faulty);
+        let lacked = |side: usize| {
+            let says = |from: usize, to: usize| calls.contains(&[ACCEPT, from as u8, to as u8, side as u8]);
+            let others = |from: usize| table.members(intact & !only(from)).map(move |to| (from, to));
+            let senders = table.members(intact & end[accepted_at(table.n(), side)]);
+            senders.flat_map(others).filter(|(from, to)| !says(*from, *to)).collect()
+        };
+        Ok(Missing { meet: apart(&table).is_none(), sides: [lacked(DRILL), lacked(LIVE)] })
+    };
+    ask().map_err(|refusal| Err(refusal).into())
+}
+
 // ---- The mark
 
 /// "The mark of a site is 1 (drill) exactly if it has confirmed drill and not live; else 0 (live). It is worked from a

@@ -711,6 +711,75 @@ fn bytes_of_calls_are_not_judged() {
     assert_eq!(answers, [11, 11, 0]);
 }
 
+// ---- The accept calls that are missing
+
+/// The calls of some sites to all others of them: proposals, votes, accepts.
+fn all_calls(sites: &[u8], side: u8) -> Vec<[u8; 4]> {
+    let mut calls: Vec<[u8; 4]> = sites.iter().map(|site| [PROPOSE, *site, *site, side]).collect();
+    for kind in [VOTE, ACCEPT] {
+        for from in sites {
+            calls.extend(sites.iter().filter(|to| *to != from).map(|to| [kind, *from, *to, side]));
+        }
+    }
+    calls
+}
+
+fn missing_of(memory: &[u64], faulty: u64, calls: &[[u8; 4]]) -> (bool, [Vec<(usize, usize)>; 2]) {
+    let missing =
+        missing(memory, faulty, &calls.concat()).map_err(refusal_of).unwrap_or_else(|refusal| panic!("{refusal:?}"));
+    (missing.meet, missing.sides)
+}
+
+#[test]
+fn one_accept_missing() {
+    let full = all_calls(&[0, 1, 2], 0);
+    assert_eq!(missing_of(&memory(&B), 8, &full), (true, [vec![], vec![]]));
+    // without the accept of site 0 to site 1 two intact sites end with different marks
+    let short: Vec<[u8; 4]> = full.iter().copied().filter(|call| *call != [ACCEPT, 0, 1, 0]).collect();
+    assert_eq!(missing_of(&memory(&B), 8, &short), (true, [vec![(0, 1)], vec![]]));
+    // an accept of the other side, a vote, and the same accept to another site stand for it as little
+    let beside = [&short[..], &[[ACCEPT, 0, 1, 1], [VOTE, 0, 1, 0], [ACCEPT, 0, 2, 0]]].concat();
+    assert_eq!(missing_of(&memory(&B), 8, &beside), (true, [vec![(0, 1)], vec![]]));
+}
+
+#[test]
+fn nobody_is_asked_who_has_not_accepted() {
+    // no calls: nobody accepted anything
+    assert_eq!(missing_of(&memory(&B), 0, &[]), (true, [vec![], vec![]]));
+    // the four propose live and vote: each accepts, and tells nobody
+    let votes: Vec<[u8; 4]> = all_calls(&[0, 1, 2, 3], 1).into_iter().filter(|call| call[0] != ACCEPT).collect();
+    let (meet, [drill, live]) = missing_of(&memory(&B), 0, &votes);
+    assert!(meet && drill.is_empty());
+    let pairs: Vec<(usize, usize)> =
+        (0..4).flat_map(|from| (0..4).map(move |to| (from, to))).filter(|(u, v)| u != v).collect();
+    assert_eq!(live, pairs);
+    // with nobody intact nothing is missing
+    assert_eq!(missing_of(&memory(&B), 3, &votes), (true, [vec![], vec![]]));
+}
+
+#[test]
+fn befouled_sites_are_not_asked() {
+    // table A with site 3 faulty: sites 0, 1, 2 are intact, site 4 is correct and befouled
+    let calls = [[PROPOSE, 0, 0, 0], [PROPOSE, 1, 1, 0], [VOTE, 0, 1, 0], [VOTE, 1, 0, 0]];
+    assert_eq!(missing_of(&memory(&A), 8, &calls).1[0], [(0, 1), (0, 2), (1, 0), (1, 2)]);
+}
+
+#[test]
+fn complete_on_a_table_that_does_not_meet() {
+    assert_eq!(missing_of(&memory(&PAIRS), 0, &[]), (false, [vec![], vec![]]));
+}
+
+#[test]
+fn refusals_of_missing_calls() {
+    let refusal = |memory: &[u64], faulty, list: &[u8]| missing(memory, faulty, list).map_err(refusal_of).err();
+    assert_eq!(refusal(&[0; 62], 1, &[0]), Some((1, 0)));
+    assert_eq!(refusal(&loners(13), 1 << 13, &[0]), Some((10, 0)));
+    assert_eq!(refusal(&loners(13), 1, &[0]), Some((16, 0)));
+    assert_eq!(refusal(&loners(12), 1, &[0]), Some((17, 0)));
+    assert_eq!(refusal(&loners(12), 1, &[0; 16388]), Some((17, 0)));
+    assert_eq!(refusal(&loners(12), 1, &[0; 16384]), None);
+}
+
 // ---- The mark and the program
 
 #[test]

@@ -28,7 +28,7 @@ standing-taken : (s : Check) (q m : ℕ) → Standing.Intact m ≡ toStanding s 
 standing-taken Sound q m h = (refl, cc)
 standing-taken (Refused r) q m h = let z : _≡_ {A = ℕ} 0 1 = cc in absurd (omega arith)
 
-standing-stopped : (s : Check) (q : ℕ) (r : Refusal) → Standing.Refused r ≡ toStanding s q → s ≡ Refused r
+pub standing-stopped : (s : Check) (q : ℕ) (r : Refusal) → Standing.Refused r ≡ toStanding s q → s ≡ Refused r
 standing-stopped Sound q r h = let z : _≡_ {A = ℕ} 0 1 = cc in absurd (omega arith)
 standing-stopped (Refused x) q r h = cc
 
@@ -51,13 +51,22 @@ module _ (t : List ℕ) (F : ℕ) where
   judged-refused r h = rw (standing-stopped (verdictCheck t (setCheck t F)) (Verdicts.intact (slicesOf t) (sitesOf t) F) r h) refl
 
   module _ (m : ℕ) (h : Standing.Intact m ≡ Answers.intact t F) where
-    judged : (verdictCheck t (setCheck t F) ≡ Sound) × (m ≡ Verdicts.intact (slicesOf t) (sitesOf t) F)
+    pub judged : (verdictCheck t (setCheck t F) ≡ Sound) × (m ≡ Verdicts.intact (slicesOf t) (sitesOf t) F)
     unfolding Answers.intact
     judged = standing-taken (verdictCheck t (setCheck t F)) (Verdicts.intact (slicesOf t) (sitesOf t) F) m h
 
     table-sound : check t ≡ Sound
     unfolding setCheck
     table-sound = orElse-sound (check t) _ (orElse-sound (setCheck t F) _ (judged .0) .0) .0
+
+    -- whether every two quorums meet, by the question of shared sites
+    pub meets-is : (meet : Bool) → meet ≡ met (Answers.shared t) → meet ≡ Verdicts.meets (slicesOf t .inside) (sitesOf t)
+    unfolding Answers.shared
+    meets-is meet y =
+        let s = slicesOf t .inside in
+        let p = Verdicts.firstApart s (sitesOf t) in
+        let v : verdictCheck t (check t) ≡ Sound = rw table-sound (orElse-sound (setCheck t F) _ (judged .0) .1) in
+        y ∙ shared-met (verdictCheck t (check t)) (Verdicts.meets s (sitesOf t)) p (Verdicts.beside s (sitesOf t) p) v
 
     -- the sites outside F, as the code has them
     module _ (n others : ℕ) (en : n ≡ sitesOf t) (eo : others ≡ minus (allBelow n) F) where
@@ -74,11 +83,8 @@ module _ (t : List ℕ) (F : ℕ) where
 
       pub judged-is : (q k : ℕ) (meet : Bool) → Greatest.Set q k ≡ Answers.largest t others → meet ≡ met (Answers.shared t)
           → sevenLines F n meet m q k ≡ judgedText F t
-      unfolding judgedText Answers.largest Answers.shared
+      unfolding judgedText Answers.largest
       judged-is q k meet e y =
           let s = slicesOf t .inside in
           let g = greatest-taken (setCheck t others) (Quorum.largest s (sitesOf t) others) (Quorum.rounds s (sitesOf t) others) q k others-sound e in
-          let v : verdictCheck t (check t) ≡ Sound = rw table-sound (orElse-sound (setCheck t F) _ (judged .0) .1) in
-          let p = Verdicts.firstApart s (sitesOf t) in
-          let z = y ∙ shared-met (verdictCheck t (check t)) (Verdicts.meets s (sitesOf t)) p (Verdicts.beside s (sitesOf t) p) v in
-          rw (judged .0, judged .1, g .0, g .1, rest, en, z) refl
+          rw (judged .0, judged .1, g .0, g .1, rest, en, meets-is meet y) refl

@@ -10,7 +10,7 @@ use questions::Sharing;
 use questions::Standing;
 
 // Whether every two quorums meet.
-fn meets(s: Sharing) -> bool
+pub fn meets(s: Sharing) -> bool
     ensures { λ r. ⌜ r ≡ met s ⌝ }
 {
     match s {

@@ -1,1 +1,2 @@
 pub mod MissingText
+pub mod Inner

@@ -1,1 +1,101 @@
 // What `desk missing` prints, as bytes in a lent room: the accept calls between intact sites that a list of calls lacks.
+ghost use mathlib.Core.Path.{_≡_};
+ghost use Prim.Native.Nat.{_*_, _≤_};
+ghost use lib.ListN.{length};
+ghost use Rattle.io.specs.Counts.{Counts};
+ghost use Rattle.missing_text.specs.Inner.{linesOf, tableText};
+ghost use Rattle.missing_text.specs.MissingText.{unmet, missingText};
+ghost use Rattle.questions.specs.Answers as Answers;
+ghost use Rattle.questions.specs.declared.Standing.the-variants.{Intact};
+ghost use Rattle.text.specs.Written.{Writes};
+use check_text::ROOM;
+use image::Reading;
+use questions::Standing;
+use run::Ran;
+
+// The line `meet no` where the table does not meet.
+fn put_unmet(room: &mut [u8], meet: bool) -> usize
+    requires { ⌜ 8 ≤ length (now room) ⌝ }
+    ensures { λ r. ⌜ Writes (unmet meet) (now (room .entry)) 0 r (now (room .exit)) ⌝ }
+{
+    if meet {
+        return 0;
+    }
+    lines::line_text(room, 0, b"meet ", b"no")
+}
+
+// That line, and the lines of both sides, from those that accepted each.
+fn put_lacking(
+    room: &mut [u8],
+    n: u8,
+    intact: u64,
+    meet: bool,
+    list: &[u8],
+    drill: u64,
+    live: u64,
+) -> usize
+    requires { ⌜ n ≤ 12 ⌝ }
+    requires { ⌜ 13832 ≤ length (now room) ⌝ }
+    ensures { λ r. ⌜ Writes (linesOf n intact meet (now (list .entry)) drill live) (now (room .entry)) 0 r (now (room .exit)) ⌝ }
+{
+    let at = put_unmet(room, meet);
+    let at = missing_lines::put_side(room, at, n, intact, 0, list, drill);
+    missing_lines::put_side(room, at, n, intact, 1, list, live)
+}
+
+// What the list lacks on a table of which a verdict is given: 17, then the lines.
+fn missing_run(
+    table: &[u64],
+    n: usize,
+    faulty: u64,
+    intact: u64,
+    list: &[u8],
+    room: &mut [u8],
+) -> usize
+    requires { ⌜ 196608 ≤ length (now room) ⌝ }
+    requires { ⌜ length (now table) ≡ 63 * n ⌝ }
+    requires { ⌜ Intact intact ≡ Answers.intact (now table) faulty ⌝ }
+    ensures { λ r. ⌜ Writes (tableText faulty (now (table .entry)) (now (list .entry))) (now (room .entry)) 0 r (now (room .exit)) ⌝ }
+{
+    let mut state = [0u64; 262];
+    let mut answers = [0u8; 4096];
+    let ran = run::run(table, faulty, list, &mut state, &mut answers);
+    match ran {
+        Ran::Refused(r) => refusal_lines::put_explained(room, 0, r),
+        Ran::Passes(_) => {
+            let meet = judged_text::meets(verdict_questions::shared(table));
+            let drill = state[places::accepted(n, 0)];
+            let live = state[places::accepted(n, 1)];
+            put_lacking(room, n as u8, intact, meet, list, drill, live)
+        }
+    }
+}
+
+// What the list lacks on a table that is read: 10, 16, 17, then the lines.
+fn missing_read(table: &[u64], n: usize, faulty: u64, list: &[u8], room: &mut [u8]) -> usize
+    requires { ⌜ 196608 ≤ length (now room) ⌝ }
+    requires { ⌜ length (now table) ≡ 63 * n ⌝ }
+    ensures { λ r. ⌜ Writes (tableText faulty (now (table .entry)) (now (list .entry))) (now (room .entry)) 0 r (now (room .exit)) ⌝ }
+{
+    let standing = verdict_questions::intact(table, faulty);
+    match standing {
+        Standing::Refused(r) => refusal_lines::put_explained(room, 0, r),
+        Standing::Intact(intact) => missing_run(table, n, faulty, intact, list, room),
+    }
+}
+
+// The accept calls between intact sites that a list of calls lacks, or the refusal and what it means. Answers the length of the text.
+pub fn missing(faulty: u64, image: &[u8], list: &[u8], room: &mut [u8; ROOM]) -> usize
+    ensures text { λ r. ⌜ Writes (missingText faulty (now (image .entry)) (now (list .entry))) (now (room .entry)) 0 r (now (room .exit)) ⌝ }
+    ensures counts { λ r. ⌜ Counts r (now (room .exit)) ⌝ }
+{
+    let mut table = [0u64; 4032];
+    let q = image::read(image, &mut table);
+    match q {
+        Reading::Sites(n) => {
+            let n = n as usize;
+            missing_read(&table[..63 * n], n, faulty, list, room)
+        }
+        Reading::Refused(r) => refusal_lines::put_explained(room, 0, r),
+    }
+}

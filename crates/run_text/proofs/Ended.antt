@@ -26,7 +26,7 @@ ran-taken : (s : Check) (q p : ℕ) → Ran.Passes p ≡ toRan s q → (s ≡ So
 ran-taken Sound q p h = (refl, cc)
 ran-taken (Refused r) q p h = let z : _≡_ {A = ℕ} 0 1 = cc in absurd (omega arith)
 
-ran-stopped : (s : Check) (q : ℕ) (r : Refusal) → Ran.Refused r ≡ toRan s q → s ≡ Refused r
+pub ran-stopped : (s : Check) (q : ℕ) (r : Refusal) → Ran.Refused r ≡ toRan s q → s ≡ Refused r
 ran-stopped Sound q r h = let z : _≡_ {A = ℕ} 0 1 = cc in absurd (omega arith)
 ran-stopped (Refused x) q r h = cc
 
@@ -43,23 +43,29 @@ module _ (t : List ℕ) (F : ℕ) (list : List ℕ) where
   ran-refused r h = rw (ran-stopped (runCheck t F (length list) 262 4096) (theRun t F list .passes) r h) refl
 
   module _ (p : ℕ) (h : Ran.Passes p ≡ ran t F list 262 4096) where
-    whole : (runCheck t F (length list) 262 4096 ≡ Sound) × (p ≡ theRun t F list .passes)
+    pub whole : (runCheck t F (length list) 262 4096 ≡ Sound) × (p ≡ theRun t F list .passes)
     unfolding ran
     whole = ran-taken (runCheck t F (length list) 262 4096) (theRun t F list .passes) p h
 
     pub fitting : Fits t (length list) 262 4096
     fitting = fits t F (length list) 262 4096 (whole .0)
 
+    -- the state that stands in front of its room
+    pub ended-state : (states s : List ℕ) → length states ≡ 262 → length s ≡ 262 → s ≡ stateInto (Ran.Passes p) t F list states →
+        take (width (sites (length t))) s ≡ theRun t F list .state
+    unfolding stateInto
+    ended-state states s ls ks es =
+        in-front (theRun t F list .state) states s (width (sites (length t))) (omega (arith, fitting .states)) es (ks ∙ sym ls)
+
     pub ran-ended : (n k : ℕ) (states answers s a : List ℕ) → n ≡ sites (length t) → k ≡ width n → length states ≡ 262 → length answers ≡ 4096
         → length s ≡ 262 → length a ≡ 4096
         → s ≡ stateInto (Ran.Passes p) t F list states → a ≡ answersInto (Ran.Passes p) t F list answers
         → endLines F n p (take k s) (take (length list / 4) a) ≡ ranText F t list
-    unfolding ranText stateInto answersInto
+    unfolding ranText answersInto
     ran-ended n k states answers s a en ek ls la ks ka es ea =
         let f = fitting in
-        let x = in-front (theRun t F list .state) states s (width (sites (length t))) (omega (arith, f .states)) es (ks ∙ sym ls) in
         let y = in-front (theRun t F list .answers) answers a (length list / 4) (omega (arith, f .many)) ea (ka ∙ sym la) in
-        rw (ek, en, whole .0, whole .1, x, y) refl
+        rw (ek, en, whole .0, whole .1, ended-state states s ls ks es, y) refl
 
 -- on an image
 module _ (F : ℕ) (image list : List ℕ) where

@@ -1,0 +1,3 @@
+pub mod Missing
+pub mod Said
+pub mod Coincide
