@@ -61,16 +61,16 @@ heard-quiet c w s t e =
     rw (sym (z .0), sym (z .1)) refl
 
 -- a digit
-unfoldable digit : ℕ → Bool
-digit b = not (ltb b 48) && not (ltb 57 b)
+unfoldable is-digit : ℕ → Bool
+is-digit b = not (ltb b 48) && not (ltb 57 b)
 
-module _ (b : ℕ) (e : digit b ≡ true) where
+module _ (b : ℕ) (e : is-digit b ≡ true) where
   from : 48 ≤ b
-  unfolding digit
+  unfolding is-digit
   from = ltb-false b 48 (not-true (ltb b 48) (and-l (not (ltb b 48)) _ e))
 
   to : b ≤ 57
-  unfolding digit
+  unfolding is-digit
   to = ltb-false 57 b (not-true (ltb 57 b) (and-r (not (ltb b 48)) _ e))
 
   digit-part : plain b ≡ Part
@@ -106,23 +106,23 @@ hear-part : (w : Begun) (s : Spot) (t : List ℕ) (b x : ℕ) → signOf w b ≡
 hear-part w s t b x e f = by-sign (here w s t) b Part _ e (heard-quiet Part w s t refl) ∙ ap (λ (y : Begun). here y s t) f
 
 -- a number, digit by digit
-unfoldable digits : List ℕ → Bool
-unfolding digit
-digits [] = true
-digits (b ∷ l) = digit b && digits l
+unfoldable all-digits : List ℕ → Bool
+unfolding is-digit
+all-digits [] = true
+all-digits (b ∷ l) = is-digit b && all-digits l
 
-unfoldable worth : ℕ → List ℕ → ℕ
-worth x [] = x
-worth x (b ∷ l) = worth (grown x (b - 48)) l
+unfoldable grown-by : ℕ → List ℕ → ℕ
+grown-by x [] = x
+grown-by x (b ∷ l) = grown-by (grown x (b - 48)) l
 
-read-digits : (s : Spot) (t : List ℕ) (x : ℕ) (l : List ℕ) → digits l ≡ true → readOn (here (Digits x) s t) l ≡ here (Digits (worth x l)) s t
-unfolding digits worth
+read-digits : (s : Spot) (t : List ℕ) (x : ℕ) (l : List ℕ) → all-digits l ≡ true → readOn (here (Digits x) s t) l ≡ here (Digits (grown-by x l)) s t
+unfolding all-digits grown-by
 read-digits s t x [] e = read-none (here (Digits x) s t)
 read-digits s t x (b ∷ l) e =
-    let d = and-l (digit b) (digits l) e in
+    let d = and-l (is-digit b) (all-digits l) e in
     read-byte (here (Digits x) s t) b l
     ∙ ap (λ (h : Here). readOn h l) (hear-part (Digits x) s t b (grown x (b - 48)) (digit-part b d) (digit-counts b d x))
-    ∙ read-digits s t (grown x (b - 48)) l (and-r (digit b) (digits l) e)
+    ∙ read-digits s t (grown x (b - 48)) l (and-r (is-digit b) (all-digits l) e)
 
 -- what is in hand is none of a CR and a comment, and a word may begin
 pub record Opens (w : Begun) : Type 0 where
@@ -135,31 +135,31 @@ fresh = record { signs = λ b. refl; starts = λ b. refl }
 pub gap : Opens Gap
 gap = record { signs = λ b. refl; starts = λ b. refl }
 
-read-opened : (w : Begun) (s : Spot) (t l : List ℕ) → Opens w → digits l ≡ true → 0 < length l → readOn (here w s t) l ≡ here (Digits (worth 0 l)) s t
-unfolding digits worth
+read-opened : (w : Begun) (s : Spot) (t l : List ℕ) → Opens w → all-digits l ≡ true → 0 < length l → readOn (here w s t) l ≡ here (Digits (grown-by 0 l)) s t
+unfolding all-digits grown-by
 read-opened w s t [] o e h = absurd (omega arith)
 read-opened w s t (b ∷ l) o e h =
-    let d = and-l (digit b) (digits l) e in
+    let d = and-l (is-digit b) (all-digits l) e in
     read-byte (here w s t) b l
     ∙ ap (λ (h : Here). readOn h l) (hear-part w s t b (grown 0 (b - 48)) (o .signs b ∙ digit-part b d) (o .starts b ∙ digit-opens b d))
-    ∙ read-digits s t (grown 0 (b - 48)) l (and-r (digit b) (digits l) e)
+    ∙ read-digits s t (grown 0 (b - 48)) l (and-r (is-digit b) (all-digits l) e)
 
 -- all numbers up to 64 are shown as digits that are heard as these numbers
 unfoldable good : ℕ → Bool
-unfolding digits decimal worth
-good x = digits (decimal x) && (ltb 0 (length (decimal x)) && eqb (worth 0 (decimal x)) x)
+unfolding all-digits decimal grown-by
+good x = all-digits (decimal x) && (ltb 0 (length (decimal x)) && eqb (grown-by 0 (decimal x)) x)
 
 all-good : every 65 good ≡ true
-unfolding every good digits digit decimal digitCount least worth grown
+unfolding every good all-digits is-digit decimal digitCount least grown-by grown
 all-good = refl
 
 pub read-number : (w : Begun) (s : Spot) (t : List ℕ) (x : ℕ) → Opens w → x ≤ 64 → readOn (here w s t) (decimal x) ≡ here (Digits x) s t
 unfolding good
 read-number w s t x o h =
     let g = every-at 65 good all-good x (omega arith) in
-    let r = and-r (digits (decimal x)) _ g in
-    read-opened w s t (decimal x) o (and-l (digits (decimal x)) _ g) (ltb-true 0 (length (decimal x)) (and-l (ltb 0 (length (decimal x))) _ r))
-    ∙ ap (λ (y : ℕ). here (Digits y) s t) (eqb-true (worth 0 (decimal x)) x (and-r (ltb 0 (length (decimal x))) _ r))
+    let r = and-r (all-digits (decimal x)) _ g in
+    read-opened w s t (decimal x) o (and-l (all-digits (decimal x)) _ g) (ltb-true 0 (length (decimal x)) (and-l (ltb 0 (length (decimal x))) _ r))
+    ∙ ap (λ (y : ℕ). here (Digits y) s t) (eqb-true (grown-by 0 (decimal x)) x (and-r (ltb 0 (length (decimal x))) _ r))
 
 -- a word in hand that makes the spot S where it ends
 pub record Ready (h : Here) (t : List ℕ) (S : Spot) : Type 0 where

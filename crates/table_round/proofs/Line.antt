@@ -88,7 +88,7 @@ module _ (A Z l : List ℕ) (L n v u q : ℕ) (a : length A ≡ 63 * u) (o : own
       (ap (joined q) (row-here A Z l u a (omega arith)) ∙ joined-filled q l few ∙ ap filled (sift-last q l above))
 
 -- what a sound table says of the row of site u
-pub record Row (n u : ℕ) (m : List ℕ) : Type 0 where
+pub record SoundRow (n u : ℕ) (m : List ℕ) : Type 0 where
   pub long : length m ≡ 63
   pub some : 1 ≤ count m
   pub few : count m ≤ 62
@@ -108,7 +108,7 @@ zeros : (l : List ℕ) → ((i : ℕ) → i < length l → getD l i 0 ≡ 0) →
 zeros [] h = refl
 zeros (x ∷ l) h = rw (h 0 (omega arith)) (ap (λ (k : List ℕ). 0 ∷ k) (zeros l (λ i g. h (suc i) (omega arith))))
 
-module _ (n u : ℕ) (m : List ℕ) (r : Row n u m) where
+module _ (n u : ℕ) (m : List ℕ) (r : SoundRow n u m) where
   -- its groups
   abbrev G : List ℕ
   G = take (count m) (drop 1 m)

@@ -28,13 +28,13 @@ use Rattle.table_made.specs.declared.Made.{Made}
 use Rattle.table_made.specs.declared.Made.the-variants.{Sites, Room}
 use Rattle.table_round.proofs.Group.{spot}
 use Rattle.table_round.proofs.Heard.{gap, heard-quiet, read-both, read-byte, read-none, read-number, ready-number, line}
-use Rattle.table_round.proofs.Line.{Row, line-read}
+use Rattle.table_round.proofs.Line.{SoundRow, line-read}
 use Rattle.table_round.specs.Theorems.{ShowThenMake, ShowThenLeft}
 use Rattle.table_shown.specs.Show.{row, rows, headLine, show}
 use Rattle.text.specs.Text.{ascii, decimal}
 
 -- the row of site u in a sound table
-row-of : (t : List ℕ) (n u : ℕ) → Table t n → u < n → Row n u (siteOf t u)
+row-of : (t : List ℕ) (n u : ℕ) → Table t n → u < n → SoundRow n u (siteOf t u)
 row-of t n u s l =
     record {
       long = length-part 63 u n t l (omega (arith, s .long));
