@@ -38,10 +38,10 @@ module _ (t : List ℕ) (n : ℕ) (s : Table t n) where
   here i h =
       let v : ℕ = i / 63 in
       ⊎-elim
-      (λ e. let f : i ≡ 63 * v = omega arith in
+      (λ (e : i % 63 ≡ 0). let f : i ≡ 63 * v = omega arith in
       let c = s .few-slices v (omega arith) in
       rw (f, ← count-at t v) (omega arith))
-      (λ e. let j : ℕ = i % 63 - 1 in
+      (λ (e : i % 63 ≡ 0 → ⊥). let j : ℕ = i % 63 - 1 in
       let f : i ≡ 63 * v + 1 + j = omega arith in
       rw (f, ← slice-at t v j (omega arith)) (lt-of-lt-of-le (slice-lt s v j) (pow-le-pow-right {n = 2} (omega arith) (s .few-sites))))
       (same? (i % 63) 0)
