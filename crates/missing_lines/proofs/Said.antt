@@ -3,13 +3,13 @@ use Prim.Native.Nat.{ℕ, zero, suc, _+_, _<_}
 use mathlib.Core.Bool.{Bool, true, false, not, cond}
 use mathlib.Core.List.{List, [], _∷_, _++_}
 use mathlib.Core.Logic.{⊎-elim}
-use mathlib.Core.Path.{_≡_, refl, sym, ap, _∙_}
+use mathlib.Core.Path.{_≡_, refl, sym, ap, _∙_, subst}
 use native.Mathlib.Omega.{arith}
 use lib.Dec.{eqb}
 use lib.ListN.{length, getD}
 use Rattle.call_lines.specs.CallLine.{sideName}
 use Rattle.ground.proofs.Every.{every-of, every-at}
-use Rattle.ground.proofs.Logic.{cases, not-t, is-false}
+use Rattle.ground.proofs.Logic.{cases, clash, not-t, is-false}
 use Rattle.ground.proofs.Pieces.{cat-split, cat-ext}
 use Rattle.ground.specs.Pieces.{cat}
 use Rattle.lines.proofs.Lengths.{length-line}
@@ -129,6 +129,17 @@ module _ (n among side : ℕ) (list : List ℕ) (accepters : ℕ) where
       ⊎-elim (λ h. h)
       (λ h. absurd (other-lines .first (ap (λ (l : List ℕ). getD l 0 0) (side-missing n among side list accepters h ∙ e) ∙ begins (sideName side))))
       (cases (isComplete n among side list accepters))
+
+  -- where a call is missing, the lines of the side, and whatever stands behind them, do not begin with a c
+  pub missing-begins : isComplete n among side list accepters ≡ false → (rest : List ℕ) → getD (sideLines n among side list accepters ++ rest) 0 0 ≡ 99 → ⊥
+  missing-begins h rest =
+      go (sideLines n among side list accepters)
+      (subst Other (side-missing n among side list accepters h) other-lines)
+      (λ e. clash (none-complete n among side list accepters (side-missing n among side list accepters h ∙ e)) h)
+    where
+      go : (l : List ℕ) → Other l → (l ≡ [] → ⊥) → getD (l ++ rest) 0 0 ≡ 99 → ⊥
+      go [] o f e = f refl
+      go (x ∷ l) o f e = o .first e
 
 pub complete-said : CompleteSaid
 complete-said n among side list accepters =

@@ -7,7 +7,9 @@ use Rattle.agreement.specs.Agreement.{Premises, Agreed, stepsInto, StepsAgree, 
 use Rattle.check_text.specs.Table.{sitesOn, tableOn, imageCheck}
 use Rattle.lines.specs.Lines.{line}
 use Rattle.liveness.specs.Liveness.{RunSpreads, OneMark}
+use Rattle.mark.specs.Mark.{mark}
 use Rattle.masks.specs.Mask.{_∈_}
+use Rattle.missing_text.specs.MissingText.{missingCheck, missingText}
 use Rattle.questions.specs.Answers.{sitesOf, shared, intact}
 use Rattle.questions.specs.declared.Sharing as Sharing
 use Rattle.questions.specs.declared.Standing as Standing
@@ -16,6 +18,7 @@ use Rattle.register.specs.Register.{siteLine}
 use Rattle.rules.specs.State.{accepts, confirmed, width, get}
 use Rattle.run.specs.Run.{runCheck, theRun}
 use Rattle.run.specs.Theorems.{Taken, endState}
+use Rattle.sets.specs.Paper.{Intact}
 use Rattle.text.specs.Text.{ascii, decimal}
 use Rattle.votes.specs.Call.{Call}
 use Rattle.votes.specs.Vote.{fresh}
@@ -52,3 +55,13 @@ RegisterAgrees =
     (v w : ℕ) → v < n → w < n → (w ∈ F → ⊥) →
     siteLine (get s (confirmed n 0)) (get s (confirmed n 1)) v ≡ line (ascii "site ") (decimal v ++ ascii " drill") →
     Confirms (fbqsRead image) w (get s (accepts 1 w)) → ⊥
+
+-- "the line `complete drill` says that all intact sites have one mark": where it is the first line that `desk missing` prints, so that the table meets too
+abbrev pub EntriesAgree : Type 0
+EntriesAgree =
+    (F : ℕ) (image list rest : List ℕ) → imageCheck image ≡ Sound → missingCheck F (tableOn image) (length list) ≡ Sound →
+    missingText F image list ≡ line (ascii "complete ") (ascii "drill") ++ rest →
+    let n = sitesOn image in
+    let s = theRun (tableOn image) F list .state in
+    (v w : ℕ) → Intact (fbqsRead image) F v → Intact (fbqsRead image) F w →
+    mark v (get s (confirmed n 0)) (get s (confirmed n 1)) ≡ mark w (get s (confirmed n 0)) (get s (confirmed n 1))
