@@ -12,8 +12,9 @@ missing-run-requires c κs = let s = c .before .before .before .before .before .
 
 returns : tie.Need-returns
 returns c =
-    let a = c .before .before .before .before .before .before .before .before .before .before .before .args in
-    as-text (verdict-refused (now (a .table)) (a .faulty) (now (a .list)) _ (sym (c .before .before .before .before .before .standing .given .1) ∙ c .before .before .before .before .before .before .before .intact .ensures)) (c .before .before .put-explained .ensures)
+    let q = c .before .before .before .before .before in
+    let a = q .before .before .before .before .before .before .args in
+    as-text (verdict-refused (now (a .table)) (a .faulty) (now (a .list)) _ (sym (q .standing .given .1) ∙ q .before .before .intact .ensures)) (c .before .before .put-explained .ensures)
 
 pub missing-read-spec : {M : Type 1} → statement M
 missing-read-spec =

@@ -51,21 +51,29 @@ put-lacking-requires c κs =
 
 returns : tie.Need-returns
 returns c =
-    let s = c .before .before .before .before .before .before .before .before .before .before .before .before .before .before .before in
+    let g = c .before .before .before .before .before in
+    let r = g .before .before .before .before in
+    let s = r .before .before .before .before .before .before in
     let a = s .args in
-    as-text (run-refused (now (a .table)) (a .faulty) (now (a .list)) (a .intact) (s .pre .1 .1) _ (sym (c .before .before .before .before .before .ran .given .1) ∙ c .before .before .before .before .before .before .before .before .before .run .ensures .0)) (c .before .before .put-explained .ensures)
+    as-text (run-refused (now (a .table)) (a .faulty) (now (a .list)) (a .intact) (s .pre .1 .1) _ (sym (g .ran .given .1) ∙ r .run .ensures .0)) (c .before .before .put-explained .ensures)
 
 returns-2 : tie.Need-returns-2
 returns-2 c =
-    let s = c .before .before .before .before .before .before .before .before .before .before .before .before .before .before .before .before .before .before in
+    let l = c .before .before .before .before in
+    let d = l .before in
+    let w = d .before in
+    let q = w .before .before in
+    let r = q .before .before .before .before .run in
+    let s = q .before .before .before .before .before .before .before .before .before .before in
     let a = s .args in
-    let r = c .before .before .before .before .before .before .before .before .before .before .before .before .run in
-    let g = c .before .before .before .before .before .before .before .before .enum-told .given .1 in
+    let e = q .enum-told .given .1 in
     let n : a .n ≡ sitesOf (now (a .table)) = omega (arith, s .pre .1 .0) in
     as-text
-    (lacking-is (now (a .table)) (a .faulty) (now (a .list)) (a .intact) (s .pre .1 .1) _ (sym g ∙ r .ensures .0) _ _ refl (r .kept .1 .1 .1 .0)
-    (r .ensures .1 .0 ∙ ap (λ x. stateInto x (now (a .table)) (a .faulty) (now (a .list)) _) g) (a .n) _ _ _ n
-    (c .before .before .before .before .before .before .meets .ensures ∙ ap met (c .before .before .before .before .before .before .before .shared .ensures)) (ap (λ i. getD (r .last .1 .1 .1 .0) i 0) (c .before .before .before .before .before .accepted .ensures)) (ap (λ i. getD (r .last .1 .1 .1 .0) i 0) (c .before .before .before .before .accepted2 .ensures)))
+    (lacking-is (now (a .table)) (a .faulty) (now (a .list)) (a .intact) (s .pre .1 .1) _ (sym e ∙ r .ensures .0) _ _ refl (r .kept .1 .1 .1 .0)
+    (r .ensures .1 .0 ∙ ap (λ x. stateInto x (now (a .table)) (a .faulty) (now (a .list)) _) e) (a .n) _ _ _ n
+    (w .meets .ensures ∙ ap met (w .before .shared .ensures))
+    (ap (λ i. getD (r .last .1 .1 .1 .0) i 0) (d .accepted .ensures))
+    (ap (λ i. getD (r .last .1 .1 .1 .0) i 0) (l .accepted2 .ensures)))
     (c .before .before .put-lacking .ensures)
 
 pub missing-run-spec : {M : Type 1} → statement M

@@ -18,7 +18,9 @@ put-side-requires-2 c κs =
     (s .pre .0, omega (arith, s .pre .1, length-unmet (a .meet), length-side (a .n) (a .intact) 0 (now (a .list)) (a .drill) (s .pre .0)))
 
 returns : tie.Need-returns
-returns c = three (c .before .before .before .before .before .before .before .before .before .before .put-unmet .ensures) (c .before .before .before .before .before .before .put-side .ensures) (c .before .before .put-side2 .ensures) (omega arith)
+returns c =
+    let d = c .before .before .before .before .before .before in
+    three (d .before .before .before .before .put-unmet .ensures) (d .put-side .ensures) (c .before .before .put-side2 .ensures) (omega arith)
 
 pub put-lacking-spec : {M : Type 1} → statement M
 put-lacking-spec =
