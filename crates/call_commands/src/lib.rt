@@ -1,15 +1,4 @@
-// The desk's calls on lists of calls: what can be asked, and which answer a call asks for.
-
-// What can be asked.
-pub fn usage() {
-    files::answer(
-        b"desk calls TEXT CALLS               makes a list of calls, as a new file, of a text or a spreadsheet
-desk list CALLS                     the calls as such a text
-desk same CALLS CALLS               are these the same calls, in any order and with any repeats?
-desk run TABLE FAULTY CALLS         the vote: its passes, what was confirmed, drill or live for each site
-",
-    );
-}
+// The desk's calls on lists of calls: which answer a call asks for.
 
 // A call in two words, the second of them argument k. Answers whether there is such a call, as do the next three.
 fn of_two(word: &[u8], k: usize) -> bool {

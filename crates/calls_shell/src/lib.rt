@@ -49,9 +49,14 @@ fn make_list(text: &[u8], name: usize) {
     }
 }
 
+// Room for every text that `desk list` prints, and for some comments.
+fn empty() -> [u8; 524288] {
+    [0u8; 524288]
+}
+
 // desk calls TEXT CALLS, where TEXT and CALLS are the numbers of arguments
 pub fn calls_of(words: usize, name: usize) {
-    let mut text = [0u8; 524288];
+    let mut text = empty();
     let whole = files::fetch(b"desk calls TEXT CALLS", words, &mut text);
     let Fetched::Bytes(n) = whole else {
         return;

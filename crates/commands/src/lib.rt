@@ -1,17 +1,5 @@
 // Which of the desk's answers a call asks for.
 
-// What can be asked.
-fn usage() {
-    table_commands::usage();
-    call_commands::usage();
-    journal_commands::usage();
-    files::answer(
-        b"TEXT, TABLE, CALLS and JOURNAL name files; FAULTY is site numbers behind an s, as in s3,12, s alone for nobody;
-or 1 to 16 hexadecimal digits, bit v for site v, 0 for nobody
-",
-    );
-}
-
 // The call in n arguments from `from` on, by its first word: one subject after the other. Answers whether there is such a call.
 fn called(word: &[u8], from: usize, n: usize) -> bool {
     if 65536 < from {
@@ -29,7 +17,7 @@ fn called(word: &[u8], from: usize, n: usize) -> bool {
 // The desk's command in the n arguments from `from` on.
 pub fn command(from: usize, n: usize) {
     if n == 0 {
-        usage();
+        usage::usage();
         return;
     }
     let mut word = io::buffer();

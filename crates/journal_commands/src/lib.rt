@@ -1,14 +1,4 @@
-// The desk's calls on journals: what can be asked, and which answer a call asks for.
-
-// What can be asked.
-pub fn usage() {
-    files::answer(
-        b"desk keep CALLS JOURNAL             keeps the list of calls as a new file, whole or not at all
-desk journal JOURNAL                is the journal sound, and how many calls does it keep?
-desk replay TABLE FAULTY JOURNAL    the vote, as desk run prints it, of the calls that the journal keeps
-",
-    );
-}
+// The desk's calls on journals: which answer a call asks for.
 
 // A call in n words, the first of which is given; k, l and m are the numbers of the arguments behind it. Answers whether there is such a call.
 pub fn asked(word: &[u8], n: usize, k: usize, l: usize, m: usize) -> bool {

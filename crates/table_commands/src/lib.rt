@@ -1,15 +1,4 @@
-// The desk's calls on tables: what can be asked, and which answer a call asks for.
-
-// What can be asked.
-pub fn usage() {
-    files::answer(
-        b"desk make TEXT TABLE                makes a table, as a new file, of a text in which a person wrote it
-desk show TABLE                     the table as such a text
-desk check TABLE                    is the table sound?
-desk verdict TABLE FAULTY           which sites can be relied on when the sites of FAULTY are faulty?
-",
-    );
-}
+// The desk's calls on tables: which answer a call asks for.
 
 // A call in two words, the second of them argument k. Answers whether there is such a call, as do the next two.
 fn of_two(word: &[u8], k: usize) -> bool {

@@ -6,7 +6,7 @@ use mathlib.Core.Path.{_≡_}
 use Rattle.check_text.specs.Table.{checkText}
 use Rattle.verdict_sites.specs.Sites.{verdictSites}
 use Rattle.table_made.specs.Made.{made}
-use Rattle.table_text.specs.MakeText.{makeText, isAnswer}
+use Rattle.table_said.specs.MakeText.{makeText, isAnswer}
 use Rattle.table_text.specs.ShowText.{showText}
 use Rattle.verdict_text.specs.Verdict.{verdictText, inputText}
 

@@ -5,7 +5,7 @@ ghost use mathlib.Core.Path.{_≡_};
 ghost use Rattle.check_text.specs.Table.{checkText};
 ghost use Rattle.verdict_sites.specs.Sites.{verdictSites};
 ghost use Rattle.table_made.specs.Made.{made};
-ghost use Rattle.table_text.specs.MakeText.{makeText, isAnswer};
+ghost use Rattle.table_said.specs.MakeText.{makeText, isAnswer};
 ghost use Rattle.table_text.specs.ShowText.{showText};
 ghost use Rattle.verdict_text.specs.Verdict.{verdictText, inputText};
 ghost use Rattle.table_printing.specs.SaidOfTables.{SaidOfTables};

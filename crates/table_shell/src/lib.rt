@@ -19,8 +19,8 @@ fn tell(text: &[u8], answer: Made)
     requires { ⌜ answer ≡ made (now text) 4032 ⌝ }
 {
     let mut room = [0u8; 512];
-    let end = table_text::make(text, answer, &mut room);
-    if table_text::is_answer(answer) {
+    let end = table_said::make(text, answer, &mut room);
+    if table_said::is_answer(answer) {
         table_printing::say_make(text, &room[..end]);
         return;
     }

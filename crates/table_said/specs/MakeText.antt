@@ -1,9 +1,7 @@
 -- What `desk make` says of a text.
 use Prim.Native.Nat.{ℕ}
-use Prim.Native.String.{String}
 use mathlib.Core.Bool.{Bool, true, false}
 use mathlib.Core.List.{List, [], _++_}
-use Rattle.leaflet.specs.Leaflet.{meaning}
 use Rattle.lines.specs.Lines.{newline, line}
 use Rattle.refusal_lines.specs.Refused.{refused}
 use Rattle.table_grammar.specs.declared.Why.{Why}
@@ -12,20 +10,8 @@ use Rattle.table_grammar.specs.declared.Why.the-variants.{Sites as NoSites, Cou
 use Rattle.table_made.specs.Made.{made}
 use Rattle.table_made.specs.declared.Made.{Made}
 use Rattle.table_made.specs.declared.Made.the-variants.{Sites, Fault, Room}
+use Rattle.table_wanted.specs.Wanted.{wanted}
 use Rattle.text.specs.Text.{ascii, decimal}
-
--- "what was expected there"; of a refusal "the meaning"
-abbrev pub wanted : Why → String
-wanted NoSites = "the word sites was expected"
-wanted NoCount = "the number of sites was expected, 1 to 64"
-wanted LineEnd = "the end of the line was expected"
-wanted NoOwner = "the number of the next site was expected"
-wanted Nothing = "nothing more was expected"
-wanted NoColon = "a colon was expected"
-wanted Member = "the number of a site was expected"
-wanted Further = "the number of a site, a bar or the end of the line was expected"
-wanted Other = "another site was expected: this one stands in the group already"
-wanted (Rule r) = meaning r
 
 -- a refusal "prints `refused N SITE`" before
 abbrev pub opening : Why → List ℕ

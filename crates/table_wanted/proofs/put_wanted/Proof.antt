@@ -1,18 +1,14 @@
 -- One case an arm.
-use mathlib.Core.Path.{_≡_, refl, sym, ap, _∙_}
-use native.Mathlib.Omega.{arith}
+use mathlib.Core.Path.{sym, ap}
 use borrow.Author.Needs.{needs}
-use borrow.Author.Tests.{lt-ltb, le-ltb, eq-eqb, ne-eqb}
-use Prim.Native.Nat.{ℕ, _*_}
-use mathlib.Core.List.{List, []}
-use denote.Ref.{now}
-use Rattle.lines.proofs.Chain.{as-text, both}
+use Prim.Native.Nat.{ℕ}
+use mathlib.Core.List.{List}
+use Rattle.lines.proofs.Chain.{as-text}
 use Rattle.table_grammar.specs.declared.Why.{Why}
-use Rattle.text.specs.Text.{ascii, decimal}
-use Rattle.table_text.specs.MakeText.{wanted, opening, faultLines, makeText}
-use Rattle.table_text.proofs.Ways.{nothing}
-use Rattle.table_text.proofs.put_wanted.Statement.{statement}
-use Rattle.table_text.proofs.put_wanted.Tie as tie
+use Rattle.text.specs.Text.{ascii}
+use Rattle.table_wanted.specs.Wanted.{wanted}
+use Rattle.table_wanted.proofs.put_wanted.Statement.{statement}
+use Rattle.table_wanted.proofs.put_wanted.Tie as tie
 
 abbrev said : Why → List ℕ
 said why = ascii (wanted why)

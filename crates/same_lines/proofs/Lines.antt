@@ -1,25 +1,20 @@
--- Laws of what is printed of two lists: one for each way out, and how long it is.
-use Prim.Native.Nat.{ℕ, _+_, _*_, _/_, _%_, _≤_}
-use mathlib.Core.Bool.{Bool, true, false, _&&_, _||_, not, cond}
+-- Laws of the lines that are printed of two lists: one for each way out, and how long they are.
+use Prim.Native.Nat.{ℕ, _+_, _*_, _/_, _≤_}
+use mathlib.Core.Bool.{Bool, true, false, _&&_, _||_, cond}
 use mathlib.Core.List.{List, [], _++_}
 use mathlib.Core.Logic.{⊎-elim}
-use mathlib.Core.Path.{_≡_, refl, sym, ap, _∙_}
+use mathlib.Core.Path.{_≡_, refl, sym}
 use native.Mathlib.Omega.{arith}
 use lib.ListN.{length, getD, length-append}
 use Rattle.call_lines.proofs.Said.{length-call}
 use Rattle.calls_listed.specs.Listed.{saidAt}
-use borrow.Author.Tests.{ltb-false}
-use lib.Dec.{eqb, ltb}
-use Rattle.ground.proofs.Logic.{cases, or-none}
+use Rattle.ground.proofs.Logic.{cases}
 use Rattle.ground.specs.Pieces.{cat}
 use Rattle.lines.proofs.Lengths.{decimal-line}
 use Rattle.lines.specs.Lines.{line}
-use Rattle.refusal_lines.specs.Refused.{explained}
-use Rattle.refusals.specs.declared.Refusal as Refusal
 use Rattle.register.proofs.Rows.{length-rows}
-use Rattle.run.specs.Run.{listMisshapen}
-use Rattle.same_calls.specs.Same.{hasThat, sameLists, proposed}
-use Rattle.same_text.specs.SameText.{lackLine, lackLines, bothLine, answerLines, sameText}
+use Rattle.same_calls.specs.Same.{hasThat, proposed}
+use Rattle.same_lines.specs.SameLines.{lackLine, lackLines, bothLine}
 use Rattle.text.proofs.Written.{written-nothing}
 use Rattle.text.specs.Text.{ascii, decimal}
 use Rattle.text.specs.Written.{Writes}
@@ -80,47 +75,6 @@ module _ (a b : List ℕ) (v : ℕ) where
 pub length-boths : (a b : List ℕ) (k : ℕ) → length (cat (bothLine a b) k) ≤ 26 * k
 length-boths a b k = length-rows (bothLine a b) 26 k (length-both a b)
 
-module _ (a b : List ℕ) where
-  pub said-same : sameLists a b ≡ true → ascii "same\n" ≡ answerLines a b
-  unfolding answerLines
-  said-same e = rw e refl
-
-  pub said-apart : sameLists a b ≡ false → lackLines (ascii "first ") a b ++ lackLines (ascii "second ") b a ≡ answerLines a b
-  unfolding answerLines
-  said-apart e = rw e refl
-
-  pub first-refused : listMisshapen (length a) ≡ true → explained Refusal.Refusal.List ≡ sameText a b
-  unfolding sameText
-  first-refused e = rw e refl
-
-  module _ (n : listMisshapen (length a) ≡ false) where
-    pub second-refused : listMisshapen (length b) ≡ true → explained Refusal.Refusal.List ≡ sameText a b
-    unfolding sameText
-    second-refused e = rw (n, e) refl
-
-    pub compared : listMisshapen (length b) ≡ false → answerLines a b ++ cat (bothLine a b) 256 ≡ sameText a b
-    unfolding sameText
-    compared e = rw (n, e) refl
-
-pub short-list : (n : ℕ) → listMisshapen n ≡ false → n ≤ 16384
-unfolding listMisshapen
-short-list n e = ltb-false 16384 n (or-none (not (eqb (n % 4) 0)) (ltb 16384 n) e .1)
-
 pub length-lack-lines : (word a b : List ℕ) → length word ≤ 7 → length (lackLines word a b) ≤ 91 * (length a / 4)
 unfolding lackLines
 length-lack-lines word a b h = length-lacks word a b (length a / 4) h
-
-either : (t : Bool) (l m : List ℕ) → length l ≤ 745472 → length m ≤ 745472 → length (cond t l m) ≤ 745472
-either true l m h k = h
-either false l m h k = k
-
-pub length-answer : (a b : List ℕ) → length a ≤ 16384 → length b ≤ 16384 → length (answerLines a b) ≤ 745472
-unfolding answerLines
-length-answer a b h k =
-    either (sameLists a b) (ascii "same\n") (lackLines (ascii "first ") a b ++ lackLines (ascii "second ") b a) (omega arith)
-    (omega (
-      arith,
-      length-append (lackLines (ascii "first ") a b) (lackLines (ascii "second ") b a),
-      length-lack-lines (ascii "first ") a b (omega arith),
-      length-lack-lines (ascii "second ") b a (omega arith),
-    ))

@@ -8,10 +8,10 @@ use lib.ListN.{length}
 use Rattle.ground.specs.Pieces.{cat}
 use Rattle.register.proofs.Rows.{no-row, row-more}
 use Rattle.text.specs.Written.{Writes}
-use Rattle.same_text.proofs.Shown.{length-boths}
-use Rattle.same_text.specs.SameText.{bothLine}
-use Rattle.same_text.proofs.put_boths.Statement.{statement}
-use Rattle.same_text.proofs.put_boths.Tie as tie
+use Rattle.same_lines.proofs.Lines.{length-boths}
+use Rattle.same_lines.specs.SameLines.{bothLine}
+use Rattle.same_lines.proofs.put_boths.Statement.{statement}
+use Rattle.same_lines.proofs.put_boths.Tie as tie
 
 abbrev Inv-loop : tie.InvT-loop
 Inv-loop room₀ at a b end₀ v₀ room end v = (v ≤ 256) × (length room ≡ length room₀) × Writes (cat (bothLine a b) v) room₀ at end room

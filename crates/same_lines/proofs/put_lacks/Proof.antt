@@ -8,10 +8,10 @@ use lib.ListN.{length}
 use Rattle.ground.specs.Pieces.{cat}
 use Rattle.register.proofs.Rows.{no-row, row-more}
 use Rattle.text.specs.Written.{Writes}
-use Rattle.same_text.proofs.Shown.{length-lacks}
-use Rattle.same_text.specs.SameText.{lackLine, lackLines}
-use Rattle.same_text.proofs.put_lacks.Statement.{statement}
-use Rattle.same_text.proofs.put_lacks.Tie as tie
+use Rattle.same_lines.proofs.Lines.{length-lacks}
+use Rattle.same_lines.specs.SameLines.{lackLine, lackLines}
+use Rattle.same_lines.proofs.put_lacks.Statement.{statement}
+use Rattle.same_lines.proofs.put_lacks.Tie as tie
 
 abbrev Inv-loop : tie.InvT-loop
 Inv-loop room₀ at word a b n end₀ i₀ room end i = (i ≤ length a / 4) × (length room ≡ length room₀) × Writes (cat (lackLine word a b) i) room₀ at end room

@@ -5,9 +5,9 @@ use denote.Ref.{now}
 use mathlib.Core.Path.{sym, _∙_}
 use native.Mathlib.Omega.{arith}
 use Rattle.lines.proofs.Chain.{as-text}
-use Rattle.same_text.proofs.Shown.{nothing-put, no-drill, no-live, both-sides}
-use Rattle.same_text.proofs.put_both.Statement.{statement}
-use Rattle.same_text.proofs.put_both.Tie as tie
+use Rattle.same_lines.proofs.Lines.{nothing-put, no-drill, no-live, both-sides}
+use Rattle.same_lines.proofs.put_both.Statement.{statement}
+use Rattle.same_lines.proofs.put_both.Tie as tie
 
 returns : tie.Need-returns
 returns c =

@@ -1,19 +1,12 @@
 -- Six texts, one behind the other.
-use mathlib.Core.Path.{_≡_, refl, sym, ap, _∙_}
 use native.Mathlib.Omega.{arith}
 use borrow.Author.Needs.{needs}
-use borrow.Author.Tests.{lt-ltb, le-ltb, eq-eqb, ne-eqb}
-use Prim.Native.Nat.{ℕ, _*_}
-use mathlib.Core.List.{List, []}
-use denote.Ref.{now}
-use Rattle.lines.proofs.Chain.{as-text, both}
-use Rattle.table_grammar.specs.declared.Why.{Why}
-use Rattle.text.specs.Text.{ascii, decimal}
-use Rattle.table_text.specs.MakeText.{wanted, opening, faultLines, makeText}
-use Rattle.table_text.proofs.Ways.{length-opening, length-wanted, six}
+use Rattle.table_said.specs.MakeText.{faultLines}
+use Rattle.table_said.proofs.Ways.{length-opening, six}
+use Rattle.table_wanted.proofs.Lengths.{length-wanted}
 use Rattle.text.proofs.Width.{length-decimal}
-use Rattle.table_text.proofs.put_fault.Statement.{statement}
-use Rattle.table_text.proofs.put_fault.Tie as tie
+use Rattle.table_said.proofs.put_fault.Statement.{statement}
+use Rattle.table_said.proofs.put_fault.Tie as tie
 
 put-requires : tie.Need-put-requires
 put-requires c κs = omega (arith, length-opening (c .before .before .before .before .before .before .before .args .why))

@@ -1,18 +1,11 @@
 -- By the answer.
-use mathlib.Core.Path.{_≡_, refl, sym, ap, _∙_}
-use native.Mathlib.Omega.{arith}
+use mathlib.Core.Path.{sym, _∙_}
 use borrow.Author.Needs.{needs}
-use borrow.Author.Tests.{lt-ltb, le-ltb, eq-eqb, ne-eqb}
-use Prim.Native.Nat.{ℕ, _*_}
-use mathlib.Core.List.{List, []}
 use denote.Ref.{now}
 use Rattle.lines.proofs.Chain.{as-text, both}
-use Rattle.table_grammar.specs.declared.Why.{Why}
-use Rattle.text.specs.Text.{ascii, decimal}
-use Rattle.table_text.specs.MakeText.{wanted, opening, faultLines, makeText}
-use Rattle.table_text.proofs.Ways.{nothing, by-answer}
-use Rattle.table_text.proofs.make.Statement.{statement}
-use Rattle.table_text.proofs.make.Tie as tie
+use Rattle.table_said.proofs.Ways.{nothing, by-answer}
+use Rattle.table_said.proofs.make.Statement.{statement}
+use Rattle.table_said.proofs.make.Tie as tie
 
 returns : tie.Need-returns
 returns c =
