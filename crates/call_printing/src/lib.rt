@@ -1,5 +1,5 @@
-// What the programs print of calls and of runs. Of these standard output is written by `say` alone, which has the text in hand and nothing else; it is called by
-// the functions behind it, and each of these is lent the bytes that were read.
+// What the programs print of calls and of runs. Of these standard output is written by `say` alone, which has the text in hand and nothing else; it is called
+// by the functions behind it, and each of these is lent the bytes that were read.
 ghost use mathlib.Core.Path.{_≡_};
 ghost use Rattle.calls_listed.specs.Listed.{listText};
 ghost use Rattle.calls_said.specs.Faults.{madeText};
