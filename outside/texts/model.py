@@ -196,6 +196,9 @@ def once(list_):
 
 
 def same(first, second):
+    for which, data in (("first", first), ("second", second)):
+        if misshapen(data):
+            return ("%s\nrefused 17 0\n%s\n" % (which, MEANING[17])).encode()
     a, b = once(each(first)), once(each(second))
     out = "".join("first %s\n" % in_words(call) for call in a if call not in set(b))
     out += "".join("second %s\n" % in_words(call) for call in b if call not in set(a))

@@ -178,10 +178,14 @@ def calls():
     made("calls", most, calls_answer, "new")
     made("calls", most + b"# all\n\n", calls_answer, "new")
     made("calls", most + b"# one more\nvote 1 0 live\nnothing\n", calls_answer, "new")
+    whole = bytes([1, 1, 0, 0])
+    write("other", whole)
     for data in (b"123", b"\0" * 16388):
         write("list", data)
         held("desk list of %d bytes" % len(data), desk("list", "list"), (b"refused 17 0\n%s\n" % model.MEANING[17].encode(), b""))
-        held("desk same of %d bytes" % len(data), desk("same", "list", "list"), (b"refused 17 0\n%s\n" % model.MEANING[17].encode(), b""))
+        for a, b in (("list", "list"), ("list", "other"), ("other", "list")):
+            both = [data if name == "list" else whole for name in (a, b)]
+            held("desk same of %d and %d bytes" % (len(both[0]), len(both[1])), desk("same", a, b), (model.same(*both), b""))
 
 
 CALLS = [

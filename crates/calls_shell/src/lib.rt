@@ -1,4 +1,4 @@
-// What the desk does with calls as text: read, have the list or the text made, put a list on file, print. Nothing here decides anything of the rules. A file
+// What the desk does with a text of calls: read, have the list made, put it on file, print. Nothing here decides anything of the rules. A file
 // is written by `put_on_file` alone, which is lent the text that was read and its list.
 ghost use mathlib.Core.Path.{_≡_};
 ghost use Rattle.calls_text.specs.Reading.{readText};
@@ -18,7 +18,7 @@ fn tell(text: &[u8], made: Made)
 {
     let mut room = [0u8; 512];
     let end = calls_said::made(made, &mut room);
-    printing::say_made(text, &room[..end]);
+    call_printing::say_made(text, &room[..end]);
 }
 
 // Says on standard error which line of a text is wrong, and what was expected there. A call too many is a refusal, which is printed.
@@ -49,9 +49,14 @@ fn make_list(text: &[u8], name: usize) {
     }
 }
 
-// desk calls TEXT CALLS, where TEXT and CALLS are the numbers of arguments; so are the words of the others
+// Room for every text that `desk list` prints, and for some comments.
+fn empty() -> [u8; 524288] {
+    [0u8; 524288]
+}
+
+// desk calls TEXT CALLS, where TEXT and CALLS are the numbers of arguments
 pub fn calls_of(words: usize, name: usize) {
-    let mut text = [0u8; 524288];
+    let mut text = empty();
     let whole = files::fetch(b"desk calls TEXT CALLS", words, &mut text);
     let Fetched::Bytes(n) = whole else {
         return;
@@ -60,17 +65,4 @@ pub fn calls_of(words: usize, name: usize) {
     if filing::is_free(b"desk calls TEXT CALLS", name) {
         make_list(text, name);
     }
-}
-
-// desk list CALLS
-pub fn list_of(calls: usize) {
-    let mut list = io::large_buffer();
-    let whole = files::fetch(b"desk list CALLS", calls, &mut list);
-    let Fetched::Bytes(n) = whole else {
-        return;
-    };
-    let list = &list[..n];
-    let mut room = [0u8; 344064];
-    let end = calls_listed::list(list, &mut room);
-    printing::say_list(list, &room[..end]);
 }

@@ -19,51 +19,6 @@
 //   e                 1 where the image is what was kept, 0 where it is not
 use cases::number;
 use cases::word;
-use image::Reading;
-use image_write::Writing;
-
-// Reads an image into a table.
-fn read(image: &[u8], table: &mut [u64]) {
-    let reading = image::read(image, table);
-    match reading {
-        Reading::Sites(n) => cases::pair(0, n),
-        Reading::Refused(r) => cases::reason(r),
-    }
-}
-
-// Writes a table into an image, and is silent of the answer where the letter is W.
-fn write(letter: u8, table: &[u64], image: &mut [u8]) {
-    let writing = image_write::write(table, image);
-    if letter == b'W' {
-        return;
-    }
-    match writing {
-        Writing::Sites(n) => cases::pair(0, n),
-        Writing::Refused(r) => cases::reason(r),
-    }
-}
-
-// Makes the check of a block right.
-fn mend(block: &mut [u8]) {
-    if block.len() != 512 {
-        return;
-    }
-    let sums = block::sum_words(block);
-    let s = sums.s;
-    let t = sums.t;
-    le::put32(block, 504, s);
-    le::put32(block, 508, t);
-}
-
-// Reads or writes so many bytes and numbers, of those that there are.
-fn exchange(letter: u8, bytes: usize, numbers: usize, table: &mut [u64], image: &mut [u8]) {
-    let b = cases::least(bytes, image.len());
-    let n = cases::least(numbers, table.len());
-    match letter {
-        b'r' => read(&image[0..b], &mut table[0..n]),
-        _ => write(letter, &table[0..n], &mut image[0..b]),
-    }
-}
 
 // Changes the table and the image as a whole.
 fn whole(
@@ -97,7 +52,7 @@ fn change(letter: u8, at: usize, x: u64, table: &mut [u64], image: &mut [u8]) {
         _ => {
             if at < 64 {
                 if image.len() == 33280 {
-                    mend(&mut image[512 * at..512 * at + 512]);
+                    image_steps::mend(&mut image[512 * at..512 * at + 512]);
                 }
             }
         }
@@ -145,7 +100,7 @@ fn command(
         b'=' | b'\n' => cases::say(line),
         b'T' | b'I' | b'k' | b'b' => whole(letter, x, table, image, kept),
         b't' | b'i' | b'm' => change(letter, at, y, table, image),
-        b'r' | b'w' | b'W' => exchange(letter, at, y as usize, table, image),
+        b'r' | b'w' | b'W' => image_steps::exchange(letter, at, y as usize, table, image),
         _ => tell(letter, at, y, table, image, kept),
     }
 }

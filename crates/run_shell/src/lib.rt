@@ -22,5 +22,5 @@ pub fn run_of(table: usize, sites: usize, calls: usize) {
     let list = &list[..m];
     let mut room = [0u8; 196608];
     let end = run_text::run(faulty, image, list, &mut room);
-    printing::say_run(faulty, image, list, &room[..end]);
+    call_printing::say_run(faulty, image, list, &room[..end]);
 }

@@ -17,5 +17,5 @@ pub fn same_of(first: usize, second: usize) {
     let b = &b[..m];
     let mut room = [0u8; 752640];
     let end = same_text::same(a, b, &mut room);
-    printing::say_same(a, b, &room[..end]);
+    call_printing::say_same(a, b, &room[..end]);
 }

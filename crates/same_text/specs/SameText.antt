@@ -1,41 +1,30 @@
 -- What the desk prints of two lists of calls.
-use Prim.Native.Nat.{ℕ, _/_}
-use mathlib.Core.Bool.{_&&_, _||_, cond}
-use mathlib.Core.List.{List, [], _++_}
+use Prim.Native.Nat.{ℕ}
+use mathlib.Core.Bool.{cond}
+use mathlib.Core.List.{List, _++_}
 use lib.ListN.{length}
-use Rattle.call_lines.specs.CallLine.{saidCall}
-use Rattle.calls_listed.specs.Listed.{saidAt}
 use Rattle.ground.specs.Pieces.{cat}
-use Rattle.lines.specs.Lines.{line}
 use Rattle.refusal_lines.specs.Refused.{explained}
 use Rattle.refusals.specs.declared.Refusal as Refusal
 use Rattle.run.specs.Run.{listMisshapen}
-use Rattle.same_calls.specs.Same.{hasThat, covers, sameLists, proposed}
-use Rattle.text.specs.Text.{ascii, decimal}
-
--- the line of call i of a, where b lacks the call and a does not have it before
-unfoldable pub lackLine : List ℕ → List ℕ → List ℕ → ℕ → List ℕ
-unfolding hasThat saidCall
-lackLine word a b i = cond (hasThat (length b / 4) b a i || hasThat i a a i) [] (word ++ saidAt a i)
-
--- "the calls, in words, that only one of them has"
-unfoldable pub lackLines : List ℕ → List ℕ → List ℕ → List ℕ
-unfolding lackLine cat
-lackLines word a b = cat (lackLine word a b) (length a / 4)
-
--- "a line `both V` for each site to which both sides are proposed", in one list or the other
-unfoldable pub bothLine : List ℕ → List ℕ → ℕ → List ℕ
-unfolding proposed line decimal
-bothLine a b v = cond (proposed a b v 0 && proposed a b v 1) (line (ascii "both ") (decimal v)) []
+use Rattle.same_lines.specs.SameLines.{lackLines, bothLine}
+use Rattle.same_calls.specs.Same.{sameLists}
+use Rattle.text.specs.Text.{ascii}
 
 -- "`same`, or lines `first CALL` and `second CALL`"
 unfoldable pub answerLines : List ℕ → List ℕ → List ℕ
 unfolding sameLists lackLines
 answerLines a b = cond (sameLists a b) (ascii "same\n") (lackLines (ascii "first ") a b ++ lackLines (ascii "second ") b a)
 
--- `desk same`: the comparison of two lists, or the refusal and what it means
+-- a line that says which list it is, then the refusal and what it means
+unfoldable pub refusedList : List ℕ → List ℕ
+unfolding explained
+refusedList which = which ++ explained Refusal.Refusal.List
+
+-- `desk same`: the comparison of two lists, or the refusal of the first of them that is none
 unfoldable pub sameText : List ℕ → List ℕ → List ℕ
-unfolding listMisshapen explained answerLines bothLine cat
+unfolding listMisshapen refusedList answerLines bothLine cat
 sameText a b =
-    cond (listMisshapen (length a) || listMisshapen (length b)) (explained Refusal.Refusal.List)
-    (answerLines a b ++ cat (bothLine a b) 256)
+    cond (listMisshapen (length a)) (refusedList (ascii "first\n"))
+    (cond (listMisshapen (length b)) (refusedList (ascii "second\n"))
+    (answerLines a b ++ cat (bothLine a b) 256))

@@ -10,7 +10,7 @@ pub fn verdict(fd: i32) {
     let given = &input[..n];
     let mut room = [0u8; 196608];
     let end = verdict_text::verdict_on(given, &mut room);
-    printing::say_input(given, &room[..end]);
+    table_printing::say_input(given, &room[..end]);
 }
 
 // desk check TABLE, where TABLE is an argument's number; so are the words of the others
@@ -23,7 +23,7 @@ pub fn check(k: usize) {
     let image = &image[..n];
     let mut room = [0u8; 196608];
     let end = check_text::check(image, &mut room);
-    printing::say_check(image, &room[..end]);
+    table_printing::say_check(image, &room[..end]);
 }
 
 // desk verdict TABLE FAULTY
@@ -40,8 +40,8 @@ pub fn verdict_of(table: usize, sites: usize) {
     };
     let mut room = [0u8; 196608];
     let end = verdict_text::verdict(faulty, image, &mut room);
-    printing::say_verdict(faulty, image, &room[..end]);
+    table_printing::say_verdict(faulty, image, &room[..end]);
     let mut room = [0u8; 196608];
     let end = verdict_sites::verdict_sites(faulty, image, &mut room);
-    printing::say_sites(faulty, image, &room[..end]);
+    table_printing::say_sites(faulty, image, &room[..end]);
 }

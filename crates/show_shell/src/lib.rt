@@ -11,5 +11,5 @@ pub fn show_of(k: usize) {
     let image = &image[..n];
     let mut room = [0u8; 786432];
     let end = table_text::show(image, &mut room);
-    printing::say_show(image, &room[..end]);
+    table_printing::say_show(image, &room[..end]);
 }

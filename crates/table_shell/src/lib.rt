@@ -19,12 +19,12 @@ fn tell(text: &[u8], answer: Made)
     requires { ⌜ answer ≡ made (now text) 4032 ⌝ }
 {
     let mut room = [0u8; 512];
-    let end = table_text::make(text, answer, &mut room);
-    if table_text::is_answer(answer) {
-        printing::say_make(text, &room[..end]);
+    let end = table_said::make(text, answer, &mut room);
+    if table_said::is_answer(answer) {
+        table_printing::say_make(text, &room[..end]);
         return;
     }
-    printing::blame(text, &room[..end]);
+    table_printing::blame(text, &room[..end]);
 }
 
 // Makes the table of a text under the name that an argument gives. The writer checks the table once more: one that it refuses is not put on file.

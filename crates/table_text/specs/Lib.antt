@@ -1,2 +1,1 @@
-pub mod MakeText
 pub mod ShowText

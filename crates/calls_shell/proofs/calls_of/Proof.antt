@@ -8,6 +8,7 @@ pub calls-of-spec : {M : Type 1} → statement M
 calls-of-spec =
     tie.close
     (tie.spec
+    (λ c κs. search needs)
     (λ c. search needs)
     (λ c. search needs)
     (λ c κs. search needs)

@@ -2,7 +2,7 @@
 use borrow.Author.Needs.{needs}
 use mathlib.Core.Path.{ap, _∙_}
 use Rattle.calls_said.specs.Faults.{madeLines, madeText}
-use Rattle.printing.proofs.Told.{told}
+use Rattle.files.proofs.Told.{told}
 use Rattle.calls_shell.proofs.tell.Statement.{statement}
 use Rattle.calls_shell.proofs.tell.Tie as tie
 

@@ -1,7 +1,7 @@
 -- `check_of` meets its contract: the bytes that were fetched stand in the room, and what is printed is the text that `journal_text` wrote for them.
 use Rattle.files.proofs.Fetching.{counts}
 use borrow.Author.Needs.{needs}
-use Rattle.printing.proofs.Told.{told}
+use Rattle.files.proofs.Told.{told}
 use Rattle.journal_shell.proofs.check_of.Statement.{statement}
 use Rattle.journal_shell.proofs.check_of.Tie as tie
 

@@ -1,7 +1,7 @@
 -- `replay_of` meets its contract: the bytes that were fetched stand in the rooms, and what is printed is the text that `replay_text` wrote for them.
 use Rattle.files.proofs.Fetching.{counts}
 use borrow.Author.Needs.{needs}
-use Rattle.printing.proofs.Told.{told}
+use Rattle.files.proofs.Told.{told}
 use Rattle.journal_shell.proofs.replay_of.Statement.{statement}
 use Rattle.journal_shell.proofs.replay_of.Tie as tie
 

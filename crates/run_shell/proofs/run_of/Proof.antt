@@ -1,7 +1,7 @@
 -- `run_of` meets its contract: the bytes that were fetched stand in the rooms, and what is printed is the text that `run_text` wrote for them.
 use Rattle.files.proofs.Fetching.{counts}
 use borrow.Author.Needs.{needs}
-use Rattle.printing.proofs.Told.{told}
+use Rattle.files.proofs.Told.{told}
 use Rattle.run_shell.proofs.run_of.Statement.{statement}
 use Rattle.run_shell.proofs.run_of.Tie as tie
 

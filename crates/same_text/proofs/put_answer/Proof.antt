@@ -4,7 +4,8 @@ use denote.Ref.{now}
 use mathlib.Core.Path.{sym, _∙_}
 use native.Mathlib.Omega.{arith}
 use Rattle.lines.proofs.Chain.{as-text}
-use Rattle.same_text.proofs.Shown.{said-same, said-apart, length-lack-lines}
+use Rattle.same_lines.proofs.Lines.{length-lack-lines}
+use Rattle.same_text.proofs.Ways.{said-same, said-apart}
 use Rattle.text.proofs.Written.{then}
 use Rattle.text.specs.Text.{ascii}
 use Rattle.same_text.proofs.put_answer.Statement.{statement}

@@ -5,22 +5,23 @@ use lib.ListN.{length}
 use mathlib.Core.Path.{sym, _∙_}
 use native.Mathlib.Omega.{arith}
 use Rattle.lines.proofs.Chain.{as-text, both}
-use Rattle.same_text.proofs.Shown.{first-refused, second-refused, compared, short-list, length-answer}
+use Rattle.same_text.proofs.Ways.{first-refused, second-refused, compared, short-list, length-answer}
 use Rattle.text.proofs.Written.{then}
 use Rattle.same_text.proofs.same.Statement.{statement}
 use Rattle.same_text.proofs.same.Tie as tie
 
 returns : tie.Need-returns
 returns c =
-    let a = c .before .before .before .before .before .before .args in
-    both (as-text (first-refused (now (a .a)) (now (a .b)) (sym (c .before .before .before .misshapen .ensures) ∙ c .before .before .if1 .taken)) (c .put-explained .ensures))
+    let i1 = c .before .before .before in
+    let a = i1 .before .before .before .before .args in
+    both (as-text (first-refused (now (a .a)) (now (a .b)) (sym (i1 .before .misshapen .ensures) ∙ i1 .if1 .taken)) (c .put-refusal .ensures))
 
 returns-2 : tie.Need-returns-2
 returns-2 c =
-    let a = c .before .before .before .before .before .before .before .before .args in
-    both (as-text (second-refused (now (a .a)) (now (a .b)) (sym (c .before .before .before .before .before .misshapen .ensures) ∙ c .before .before .before .before .if1 .left) (sym
-    (c .before .before .before .misshapen2 .ensures) ∙ c .before .before .if2 .taken))
-    (c .put-explained2 .ensures))
+    let i2 = c .before .before .before in
+    let i1 = i2 .before .before in
+    let a = i1 .before .before .before .before .args in
+    both (as-text (second-refused (now (a .a)) (now (a .b)) (sym (i1 .before .misshapen .ensures) ∙ i1 .if1 .left) (sym (i2 .before .misshapen2 .ensures) ∙ i2 .if2 .taken)) (c .put-refusal2 .ensures))
 
 put-answer-requires : tie.Need-put-answer-requires
 put-answer-requires c κs =
@@ -57,9 +58,11 @@ same-spec =
     tie.close
     (tie.spec
     (λ c κs. search needs)
+    (λ c. search needs)
     (λ c κs. search needs)
     returns
     (λ c κs. search needs)
+    (λ c. search needs)
     (λ c κs. search needs)
     returns-2
     put-answer-requires

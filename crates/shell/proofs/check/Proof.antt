@@ -1,7 +1,7 @@
 -- `check` meets its contract: the bytes that were fetched stand in the room, and what is printed is the text that `check_text` wrote for them.
 use Rattle.files.proofs.Fetching.{counts}
 use borrow.Author.Needs.{needs}
-use Rattle.printing.proofs.Told.{told}
+use Rattle.files.proofs.Told.{told}
 use Rattle.shell.proofs.check.Statement.{statement}
 use Rattle.shell.proofs.check.Tie as tie
 

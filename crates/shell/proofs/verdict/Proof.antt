@@ -1,6 +1,6 @@
 -- `verdict` meets its contract: what is printed is the text that `verdict_text` wrote for the bytes that were read.
 use borrow.Author.Needs.{needs}
-use Rattle.printing.proofs.Told.{told}
+use Rattle.files.proofs.Told.{told}
 use Rattle.shell.proofs.verdict.Statement.{statement}
 use Rattle.shell.proofs.verdict.Tie as tie
 

@@ -2,7 +2,7 @@
 -- `verdict_sites` wrote for them.
 use Rattle.files.proofs.Fetching.{counts}
 use borrow.Author.Needs.{needs}
-use Rattle.printing.proofs.Told.{told}
+use Rattle.files.proofs.Told.{told}
 use Rattle.shell.proofs.verdict_of.Statement.{statement}
 use Rattle.shell.proofs.verdict_of.Tie as tie
 

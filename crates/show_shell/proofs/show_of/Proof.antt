@@ -1,7 +1,7 @@
 -- `show_of` meets its contract: the bytes that were fetched stand in the room, and what is printed is the text that `table_text` wrote for them.
 use Rattle.files.proofs.Fetching.{counts}
 use borrow.Author.Needs.{needs}
-use Rattle.printing.proofs.Told.{told}
+use Rattle.files.proofs.Told.{told}
 use Rattle.show_shell.proofs.show_of.Statement.{statement}
 use Rattle.show_shell.proofs.show_of.Tie as tie
 

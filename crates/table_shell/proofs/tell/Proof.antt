@@ -1,10 +1,10 @@
--- What is said is the text that `table_text` wrote, and it is said where it belongs.
+-- What is said is the text that `table_said` wrote, and it is said where it belongs.
 use mathlib.Core.Path.{_≡_, refl, sym, ap, _∙_}
 use native.Mathlib.Omega.{arith}
 use borrow.Author.Needs.{needs}
 use borrow.Author.Tests.{lt-ltb, le-ltb, eq-eqb, ne-eqb}
-use Rattle.printing.proofs.Told.{told}
-use Rattle.table_text.specs.MakeText.{isAnswer}
+use Rattle.files.proofs.Told.{told}
+use Rattle.table_said.specs.MakeText.{isAnswer}
 use Rattle.table_shell.proofs.tell.Statement.{statement}
 use Rattle.table_shell.proofs.tell.Tie as tie
 

@@ -1,8 +1,0 @@
--- `say_made` meets its contract: what it hands on is a text that may be printed, since its caller shows so.
-use borrow.Author.Needs.{needs}
-use Rattle.printing.specs.Said.{Said}
-use Rattle.printing.proofs.say_made.Statement.{statement}
-use Rattle.printing.proofs.say_made.Tie as tie
-
-pub say-made-spec : {M : Type 1} → statement M
-say-made-spec = tie.close (tie.spec (λ c κs. Said.ofMade (c .before .before .args .text .now) (c .before .before .pre)) (λ c. search needs))
