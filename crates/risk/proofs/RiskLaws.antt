@@ -118,11 +118,15 @@ module _ (r : Slices) (n : ℕ) where
       fewer G c l f = let h = f (λ e. omega arith) in omega arith
 
   -- a set that leaves nobody intact and has fewer members is the best; any other is passed
-  pub best-taken : {F best : ℕ} → F < 2 ^ n → size F < size best → ruinous r n F ≡ true → Best r n F best → Best r n (F + 1) F
-  best-taken {F} {best} l m e b =
+  abbrev pub better : ℕ → ℕ → Bool
+  better F best = ltb (size F) (size best) && ruinous r n F
+
+  pub best-taken : {F best : ℕ} → F < 2 ^ n → better F best ≡ true → Best r n F best → Best r n (F + 1) F
+  best-taken {F} {best} l e b =
+      let m = ltb-true (size F) (size best) (and-l (ltb (size F) (size best)) (ruinous r n F) e) in
       record {
         below = l;
-        ruins = e;
+        ruins = and-r (ltb (size F) (size best)) (ruinous r n F) e;
         least = λ G h g. ⊎-elim (λ z. less G m (b .least G (ltb-true G F z) g)) (λ z. same G h (ltb-false G F z)) (cases (ltb G F));
         lowest = λ G h g c. more G m c (b .least G h g);
       }
@@ -136,8 +140,8 @@ module _ (r : Slices) (n : ℕ) where
       more : (G : ℕ) → size F < size best → size G ≡ size F → size best ≤ size G → ⊥
       more G a e c = omega arith
 
-  pub best-passed : {F best : ℕ} → (ruinous r n F ≡ true → size best ≤ size F) → Best r n F best → Best r n (F + 1) best
-  best-passed {F} {best} f b =
+  pub best-passed : {F best : ℕ} → better F best ≡ false → Best r n F best → Best r n (F + 1) best
+  best-passed {F} {best} e b =
       record {
         below = b .below;
         ruins = b .ruins;
@@ -148,8 +152,11 @@ module _ (r : Slices) (n : ℕ) where
       upto : (G : ℕ) → G < F + 1 → F ≤ G → F ≡ G
       upto G a c = omega arith
 
+      no-fewer : ruinous r n F ≡ true → size best ≤ size F
+      no-fewer g = ⊎-elim (λ z. absurd (clash (and-i z g) e)) (λ z. ltb-false (size F) (size best) z) (cases (ltb (size F) (size best)))
+
       here : (G : ℕ) → F ≡ G → ruinous r n G ≡ true → size best ≤ size G
-      here G e g = subst (λ (x : ℕ). size best ≤ size x) e (f (subst (λ (x : ℕ). ruinous r n x ≡ true) (sym e) g))
+      here G q g = subst (λ (x : ℕ). size best ≤ size x) q (no-fewer (subst (λ (x : ℕ). ruinous r n x ≡ true) (sym q) g))
 
   -- at the end it is the first
   best-first : {F best : ℕ} → 2 ^ n ≤ F → Best r n F best → First r n (size best) best
