@@ -28,6 +28,10 @@ fn of_four(word: &[u8], k: usize, l: usize, m: usize) -> bool {
         run_shell::run_of(k, l, m);
         return true;
     }
+    if check::same(word, b"missing") {
+        missing_shell::missing_of(k, l, m);
+        return true;
+    }
     false
 }
 

@@ -3,6 +3,7 @@
 ghost use mathlib.Core.Path.{_≡_};
 ghost use Rattle.calls_listed.specs.Listed.{listText};
 ghost use Rattle.calls_said.specs.Faults.{madeText};
+ghost use Rattle.missing_text.specs.MissingText.{missingText};
 ghost use Rattle.same_text.specs.SameText.{sameText};
 ghost use Rattle.run_text.specs.Run.{runText};
 ghost use Rattle.call_printing.specs.SaidOfCalls.{SaidOfCalls};
@@ -19,6 +20,13 @@ pub fn say_run(faulty: u64, image: &[u8], list: &[u8], run: &[u8])
     requires { ⌜ now run ≡ runText faulty (now image) (now list) ⌝ }
 {
     say(run);
+}
+
+// Prints the accept calls that a list of calls lacks on an image.
+pub fn say_missing(faulty: u64, image: &[u8], list: &[u8], missing: &[u8])
+    requires { ⌜ now missing ≡ missingText faulty (now image) (now list) ⌝ }
+{
+    say(missing);
 }
 
 // Prints what is said of a text of calls.

@@ -14,6 +14,29 @@ fn called(word: &[u8], from: usize, n: usize) -> bool {
     journal_commands::asked(word, n, from + 1, from + 2, from + 3)
 }
 
+// Whether the word asks for the usage.
+fn asks_for_help(word: &[u8]) -> bool {
+    if check::same(word, b"--help") {
+        return true;
+    }
+    check::same(word, b"-h")
+}
+
+// What is said of n words that are no call.
+fn wrong(word: &[u8], n: usize) {
+    if n == 1 {
+        if asks_for_help(word) {
+            usage::usage();
+            return;
+        }
+    }
+    if !usage::words(word) {
+        files::complain(
+            b"desk: no such call; desk alone, without a word behind it, says which there are\n",
+        );
+    }
+}
+
 // The desk's command in the n arguments from `from` on.
 pub fn command(from: usize, n: usize) {
     if n == 0 {
@@ -23,8 +46,6 @@ pub fn command(from: usize, n: usize) {
     let mut word = io::buffer();
     let k = os::arg(from, &mut word);
     if !called(&word[..k], from, n) {
-        files::complain(
-            b"desk: no such call; desk alone, without a word behind it, says which there are\n",
-        );
+        wrong(&word[..k], n);
     }
 }

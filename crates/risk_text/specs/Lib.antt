@@ -1,1 +1,2 @@
 pub mod RiskText
+pub mod Inner

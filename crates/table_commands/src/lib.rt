@@ -10,6 +10,10 @@ fn of_two(word: &[u8], k: usize) -> bool {
         shell::check(k);
         return true;
     }
+    if check::same(word, b"risk") {
+        risk_shell::risk_of(k);
+        return true;
+    }
     false
 }
 

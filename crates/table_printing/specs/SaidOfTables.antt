@@ -3,6 +3,7 @@ use Prim.Native.Nat.{ℕ}
 use mathlib.Core.Bool.{true}
 use mathlib.Core.List.{List}
 use mathlib.Core.Path.{_≡_}
+use Rattle.risk_text.specs.RiskText.{riskText}
 use Rattle.check_text.specs.Table.{checkText}
 use Rattle.verdict_sites.specs.Sites.{verdictSites}
 use Rattle.table_made.specs.Made.{made}
@@ -15,5 +16,6 @@ pub data SaidOfTables (text : List ℕ) : Type 0 where
   ofCheck : (image : List ℕ) → text ≡ checkText image → SaidOfTables text
   ofVerdict : (faulty : ℕ) (image : List ℕ) → text ≡ verdictText faulty image → SaidOfTables text
   ofSites : (faulty : ℕ) (image : List ℕ) → text ≡ verdictSites faulty image → SaidOfTables text
+  ofRisk : (image : List ℕ) → text ≡ riskText image → SaidOfTables text
   ofMake : (table : List ℕ) → isAnswer (made table 4032) ≡ true → text ≡ makeText table → SaidOfTables text
   ofShow : (image : List ℕ) → text ≡ showText image → SaidOfTables text

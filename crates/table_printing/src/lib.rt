@@ -4,6 +4,7 @@ ghost use mathlib.Core.Bool.{true, false};
 ghost use mathlib.Core.Path.{_≡_};
 ghost use Rattle.check_text.specs.Table.{checkText};
 ghost use Rattle.verdict_sites.specs.Sites.{verdictSites};
+ghost use Rattle.risk_text.specs.RiskText.{riskText};
 ghost use Rattle.table_made.specs.Made.{made};
 ghost use Rattle.table_said.specs.MakeText.{makeText, isAnswer};
 ghost use Rattle.table_text.specs.ShowText.{showText};
@@ -43,6 +44,13 @@ pub fn say_sites(faulty: u64, image: &[u8], sites: &[u8])
     requires { ⌜ now sites ≡ verdictSites faulty (now image) ⌝ }
 {
     say(sites);
+}
+
+// Prints what is at stake when sites of an image's table break.
+pub fn say_risk(image: &[u8], risk: &[u8])
+    requires { ⌜ now risk ≡ riskText (now image) ⌝ }
+{
+    say(risk);
 }
 
 // Prints what is said of a text that is a table, or that has a group that is refused.

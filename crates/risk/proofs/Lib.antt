@@ -1,0 +1,2 @@
+pub mod RiskLaws
+pub mod Decides
