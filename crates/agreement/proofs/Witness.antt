@@ -1,9 +1,7 @@
 -- Each premise is needed: the checker computes the runs.
-use mathlib.Core.Bool.{true}
-use mathlib.Core.Path.{_≡_, refl}
-use Rattle.agreement.specs.Witness.{premisesNeeded}
-use Rattle.run.specs.Examples.{all}
+use mathlib.Core.Path.{refl}
+use Rattle.agreement.specs.Witness.{premisesNeeded, PremisesNeeded}
 
-pub premises-needed : all premisesNeeded ≡ true
+pub premises-needed : PremisesNeeded
 unfolding premisesNeeded
 premises-needed = refl

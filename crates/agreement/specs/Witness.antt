@@ -2,6 +2,7 @@
 use Prim.Native.Nat.{ℕ}
 use mathlib.Core.Bool.{Bool, true, false, _&&_, not}
 use mathlib.Core.List.{List, [], _∷_, _++_}
+use mathlib.Core.Path.{_≡_}
 use lib.Dec.{eqb}
 use lib.ListN.{length}
 use Rattle.ground.specs.Search.{some, every, least}
@@ -10,7 +11,7 @@ use Rattle.rules.specs.Rules.{accepting, confirming, nowAccepts, nowConfirms, h
 use Rattle.rules.specs.Sound.{notZero, notOwn, notRule, notSent, badSide, badSite, unsound}
 use Rattle.rules.specs.State.{confirmed, get, add}
 use Rattle.rules.specs.Vote.{voteOf}
-use Rattle.run.specs.Examples.{tableB, tableApart}
+use Rattle.run.specs.Examples.{tableB, tableApart, all}
 use Rattle.sets.specs.Promises.{questionsOf, questions}
 use Rattle.sets.specs.Quorum.{quorum, round, left, dropping, largest}
 use Rattle.sets.specs.Slices.{slicesOf}
@@ -57,3 +58,6 @@ premisesNeeded =
     ∷ eqb (get circular (confirmed 4 0)) 7
     ∷ eqb (get circular (confirmed 4 1)) 7
     ∷ []
+
+abbrev pub PremisesNeeded : Type 0
+PremisesNeeded = all premisesNeeded ≡ true

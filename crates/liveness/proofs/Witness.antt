@@ -8,13 +8,13 @@ use Rattle.liveness.proofs.Complete.{complete-decided}
 use Rattle.liveness.proofs.Liveness.{is-table}
 use Rattle.liveness.specs.Complete.{isComplete}
 use Rattle.liveness.specs.Liveness.{accepters, Confirmed, endMark}
-use Rattle.liveness.specs.Witness.{short, full, room, Met, Needed, edges}
+use Rattle.liveness.specs.Witness.{shortList, fullList, room, Met, Needed, edges, EdgesHold}
 use Rattle.mark.specs.Mark.{mark}
 use Rattle.masks.proofs.Laws.Subsets.{mem}
 use Rattle.masks.specs.Mask.{has, within, minus, gather, _∈_}
 use Rattle.rules.specs.Rules.{answer, taken}
 use Rattle.rules.specs.State.{add}
-use Rattle.run.specs.Examples.{tableB, all}
+use Rattle.run.specs.Examples.{tableB}
 use Rattle.run.specs.Run.{ran, stateInto, listMisshapen}
 use Rattle.run.specs.Theorems.{Taken}
 use Rattle.sets.specs.Paper.{Intersection, Intact}
@@ -24,11 +24,11 @@ use Rattle.table.specs.Table.{Table}
 use Rattle.verdicts.proofs.Decides.{table-verdicts}
 use Rattle.verdicts.specs.Verdicts.{meets, intact}
 
-full-taken : Taken tableB 8 full (room 22) (room 15) 2
+full-taken : Taken tableB 8 fullList (room 22) (room 15) 2
 unfolding ran questionsOf slicesOf answer taken has within add gather minus
 full-taken = record { took = refl }
 
-short-taken : Taken tableB 8 short (room 22) (room 14) 2
+short-taken : Taken tableB 8 shortList (room 22) (room 14) 2
 unfolding ran questionsOf slicesOf answer taken has within add gather minus
 short-taken = record { took = refl }
 
@@ -53,19 +53,19 @@ in-7 (suc (suc (suc v))) h = absurd (omega arith)
 is-intact : (v : ℕ) → v < 3 → Intact (fbqsOf tableB 4) 8 v
 is-intact v h = table-verdicts tableB 4 table .intact-set 8 v .0 (rw intact-7 (in-7 v h))
 
-full-confirms : Confirmed tableB 8 full (room 22) 2 0 0
+full-confirms : Confirmed tableB 8 fullList (room 22) 2 0 0
 unfolding stateInto questionsOf slicesOf answer taken has within add gather minus
 full-confirms = mem refl
 
-short-confirms : Confirmed tableB 8 short (room 22) 2 0 0
+short-confirms : Confirmed tableB 8 shortList (room 22) 2 0 0
 unfolding stateInto questionsOf slicesOf answer taken has within add gather minus
 short-confirms = mem refl
 
-full-complete : isComplete 4 (intact (slicesOf tableB) 4 8) 0 full (accepters tableB 8 full (room 22) 2 0) ≡ true
+full-complete : isComplete 4 (intact (slicesOf tableB) 4 8) 0 fullList (accepters tableB 8 fullList (room 22) 2 0) ≡ true
 unfolding isComplete intact stateInto questionsOf slicesOf answer taken has within add gather minus
 full-complete = refl
 
-full-length : listMisshapen (length full) ≡ false
+full-length : listMisshapen (length fullList) ≡ false
 unfolding listMisshapen
 full-length = refl
 
@@ -75,21 +75,21 @@ met = (
   record {
     ran = full-taken;
     shared = is-shared;
-    complete = complete-decided tableB 4 8 0 full (accepters tableB 8 full (room 22) 2 0) table full-length .0 full-complete;
+    complete = complete-decided tableB 4 8 0 fullList (accepters tableB 8 fullList (room 22) 2 0) table full-length .0 full-complete;
   },
 )
 
-short-drill : endMark tableB 8 short (room 22) 2 0 ≡ 1
+short-drill : endMark tableB 8 shortList (room 22) 2 0 ≡ 1
 unfolding mark stateInto questionsOf slicesOf answer taken has within add gather minus
 short-drill = refl
 
-short-live : endMark tableB 8 short (room 22) 2 1 ≡ 0
+short-live : endMark tableB 8 shortList (room 22) 2 1 ≡ 0
 unfolding mark stateInto questionsOf slicesOf answer taken has within add gather minus
 short-live = refl
 
 pub needed : Needed
 needed = (record { took = short-taken; shared = is-shared; intact = is-intact; confirms = short-confirms }, short-drill, short-live)
 
-pub edges-hold : all edges ≡ true
+pub edges-hold : EdgesHold
 unfolding edges
 edges-hold = refl

@@ -11,7 +11,7 @@ use Rattle.liveness.specs.Liveness.{CompleteRun, Confirmed, endMark}
 use Rattle.masks.specs.Mask.{has, within, minus, gather}
 use Rattle.rules.specs.Rules.{accepting, confirming, nowAccepts, nowConfirms, hears, taken, outOfRange, crooked, against, unsent, answer}
 use Rattle.rules.specs.State.{accepted, confirmed, get, add}
-use Rattle.run.specs.Examples.{tableA, tableB, tableApart}
+use Rattle.run.specs.Examples.{tableA, tableB, tableApart, all}
 use Rattle.run.specs.Run.{theRun}
 use Rattle.run.specs.Theorems.{Taken}
 use Rattle.same_calls.specs.Same.{isCall, hasCall}
@@ -29,15 +29,15 @@ abbrev pub bytes : ℕ → ℕ → ℕ → ℕ → List ℕ
 bytes kind from to side = kind ∷ from ∷ to ∷ side ∷ []
 
 -- Table B with site 3 faulty: sites 0, 1 and 2 propose drill and send each other their votes and their accepts, but for the accept of site 0 to site 1
-abbrev pub short : List ℕ
-short =
+abbrev pub shortList : List ℕ
+shortList =
     bytes 0 0 0 0 ++ bytes 0 1 1 0 ++ bytes 0 2 2 0
     ++ bytes 1 0 1 0 ++ bytes 1 0 2 0 ++ bytes 1 1 0 0 ++ bytes 1 1 2 0 ++ bytes 1 2 0 0 ++ bytes 1 2 1 0
     ++ bytes 2 0 2 0 ++ bytes 2 1 0 0 ++ bytes 2 1 2 0 ++ bytes 2 2 0 0 ++ bytes 2 2 1 0
 
 -- and that one too
-abbrev pub full : List ℕ
-full = short ++ bytes 2 0 1 0
+abbrev pub fullList : List ℕ
+fullList = shortList ++ bytes 2 0 1 0
 
 -- an empty room
 abbrev pub room : ℕ → List ℕ
@@ -52,11 +52,11 @@ pub record Shown (list : List ℕ) (k : ℕ) : Type 0 where
 
 -- the full list meets every premise
 abbrev pub Met : Type 0
-Met = Shown full 15 × CompleteRun tableB 8 full (room 22) (room 15) 2 0
+Met = Shown fullList 15 × CompleteRun tableB 8 fullList (room 22) (room 15) 2 0
 
 -- without that one call two intact sites end with different marks
 abbrev pub Needed : Type 0
-Needed = Shown short 14 × (endMark tableB 8 short (room 22) 2 0 ≡ 1) × (endMark tableB 8 short (room 22) 2 1 ≡ 0)
+Needed = Shown shortList 14 × (endMark tableB 8 shortList (room 22) 2 0 ≡ 1) × (endMark tableB 8 shortList (room 22) 2 1 ≡ 0)
 
 -- sites u and v propose drill and send each other their votes
 abbrev pub pair : ℕ → ℕ → List ℕ
@@ -74,7 +74,7 @@ edges =
     pair 0 1 ++ bytes 2 0 1 0 ++ bytes 2 0 2 0 ++ bytes 2 0 4 0 ++ bytes 2 1 0 0 ++ bytes 2 1 2 0 ++ bytes 2 1 4 0
     ++ bytes 2 2 0 0 ++ bytes 2 2 1 0 ++ bytes 2 2 4 0 in
     let toldEnd = theRun tableA 8 told .state in
-    let shortEnd = theRun tableB 8 short .state in
+    let shortEnd = theRun tableB 8 shortList .state in
     -- slices 3; 3; 12; 12, nobody faulty: all are intact, the list is complete, sites 0 and 1 alone confirm; but the table does not meet
     eqb (intact (slicesOf tableApart) 4 0) 15
     ∷ isComplete 4 15 0 apart (get apartEnd (accepted 4 0))
@@ -88,8 +88,11 @@ edges =
     ∷ isComplete 5 7 0 told (get toldEnd (accepted 5 0))
     ∷ eqb (get toldEnd (confirmed 5 0)) 7
     -- B with F = 8: the list that lacks one accept of drill is complete for live, and lacks the accept of site 0 to site 1 alone
-    ∷ isComplete 4 7 1 short (get shortEnd (accepted 4 1))
-    ∷ not (isComplete 4 7 0 short (get shortEnd (accepted 4 0)))
-    ∷ lacks 7 0 short (get shortEnd (accepted 4 0)) 0 1
-    ∷ not (lacks 7 0 short (get shortEnd (accepted 4 0)) 1 0)
+    ∷ isComplete 4 7 1 shortList (get shortEnd (accepted 4 1))
+    ∷ not (isComplete 4 7 0 shortList (get shortEnd (accepted 4 0)))
+    ∷ lacks 7 0 shortList (get shortEnd (accepted 4 0)) 0 1
+    ∷ not (lacks 7 0 shortList (get shortEnd (accepted 4 0)) 1 0)
     ∷ []
+
+abbrev pub EdgesHold : Type 0
+EdgesHold = all edges ≡ true
