@@ -1,17 +1,13 @@
 // What `desk risk` prints, as bytes in a lent room: what is at stake when sites of the table on an image break.
-ghost use mathlib.Core.List.{_++_};
 ghost use Prim.Native.Nat.{_+_, _*_, _≤_, _<_};
 ghost use lib.ListN.{length};
 ghost use Rattle.ground.specs.Pieces.{cat};
 ghost use Rattle.io.specs.Counts.{Counts};
-ghost use Rattle.lines.specs.Lines.{line};
 ghost use Rattle.masks.specs.Mask.{size};
-ghost use Rattle.members.specs.Members.{members};
 ghost use Rattle.risk_text.specs.RiskText.{riskLine, riskLines, riskText};
 ghost use Rattle.risk_text.specs.Inner.{riskRead, firstLines};
 ghost use Rattle.sets.specs.Slices.{slicesOf};
 ghost use Rattle.table.specs.Table.{Table};
-ghost use Rattle.text.specs.Text.{ascii, decimal, mask};
 ghost use Rattle.text.specs.Written.{Writes};
 use check_text::ROOM;
 use image::Reading;

@@ -1,6 +1,5 @@
 -- `put_site` meets its contract: the site, a blank, how many others are befouled.
-use Prim.Native.Nat.{ℕ}
-use mathlib.Core.Path.{ap, _∙_}
+use mathlib.Core.Path.{ap}
 use native.Mathlib.Omega.{arith}
 use borrow.Author.Needs.{needs}
 use Rattle.lines.proofs.Chain.{as-text, five}
