@@ -28,9 +28,7 @@ fn put_site(room: &mut [u8], at: usize, table: &[u64], n: usize, v: u64) -> usiz
     let others = risk_search::taken_along(table, n, v);
     let at = text::put(room, at, b"site ");
     let at = text::put_decimal(room, at, v);
-    let at = text::put(room, at, b" ");
-    let at = text::put_decimal(room, at, others as u64);
-    text::put(room, at, b"\n")
+    lines::line_decimal(room, at, b" ", others as u64)
 }
 
 // The line of each site.
