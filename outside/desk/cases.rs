@@ -210,6 +210,7 @@ pub fn desk_answer(leaflet: &Leaflet, files: &mut Vec<File>, words: &[&'static s
         [] => Some(USAGE.to_string()),
         ["check", table] => Some(expected::check(leaflet, file(table)?)),
         ["verdict", table, faulty] => Some(expected::verdict(file(table)?, mask(faulty)?)),
+        ["risk", table] => Some(expected::risk(leaflet, file(table)?)),
         ["run", table, faulty, calls] => Some(expected::run(leaflet, file(table)?, mask(faulty)?, file(calls)?)),
         ["missing", table, faulty, calls] => {
             Some(expected::missing(leaflet, file(table)?, mask(faulty)?, file(calls)?))

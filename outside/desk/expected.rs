@@ -66,6 +66,22 @@ pub fn verdict(image: &[u8], faulty: u64) -> String {
     }
 }
 
+/// `desk risk`: of each site how many others are befouled if it alone is faulty; the fewest faulty sites that leave
+/// nobody intact, and the lowest such set
+pub fn risk(leaflet: &Leaflet, image: &[u8]) -> String {
+    let memory = match read(image) {
+        Ok(memory) => memory,
+        Err(answer) => return leaflet.refused(answer),
+    };
+    let risk = match model::risk(&memory) {
+        Ok(risk) => risk,
+        Err(refusal) => return leaflet.refused(Err(refusal).into()),
+    };
+    let sites = risk.others.iter().enumerate().map(|(site, others)| format!("site {site} {others}\n"));
+    let first = format!("first {:016x}\nfirst sites{}\n", risk.first, members(risk.first));
+    sites.collect::<String>() + &format!("fewest {}\n", risk.fewest) + &first
+}
+
 /// The faulty sites as they are typed: a mask in 1 to 16 hexadecimal digits, or sites behind an s
 pub fn faulty(word: &str) -> Option<u64> {
     let Some(sites) = word.strip_prefix('s') else {

@@ -448,6 +448,38 @@ pub fn intact(memory: &[u64], faulty: u64) -> Answer {
     ask().into()
 }
 
+// ---- What is at stake
+
+/// What is at stake when sites break.
+#[derive(Clone, Debug, PartialEq, Eq)]
+pub struct Risk {
+    /// Of each site: "how many other sites are befouled if it alone is faulty".
+    pub others: Vec<usize>,
+    /// "the fewest faulty sites that leave nobody intact (0 if nobody is intact at all)"
+    pub fewest: usize,
+    /// "the lowest such set as a number"
+    pub first: u64,
+}
+
+/// Table, 16. "Given the faulty set F, site v is intact if some dispensable B contains F and not v; otherwise befouled."
+pub fn risk(memory: &[u64]) -> Result<Risk, Refusal> {
+    let table = table_in_memory(memory)?;
+    check_verdict(&table)?;
+    let n = table.n();
+    let sets: Vec<u64> = (0..=table.sites).filter(|b| dispensable(&table, *b)).collect();
+    let intact = |faulty: u64, site: usize| sets.iter().any(|b| inside(faulty, *b) && !contains(*b, site));
+    let befouled_beside = |site: usize| (0..n).filter(|other| *other != site && !intact(only(site), *other)).count();
+    let others = (0..n).map(befouled_beside).collect();
+    for fewest in 0..=n {
+        for first in 0..=table.sites {
+            if table.members(first).count() == fewest && !(0..n).any(|site| intact(first, site)) {
+                return Ok(Risk { others, fewest, first });
+            }
+        }
+    }
+    unreachable!("with all sites faulty nobody is intact")
+}
+
 // ---- The voting
 
 /// "The state is a run of 4n + 6 64-bit numbers"

@@ -82,6 +82,27 @@ fn two_pairs_do_not_meet() {
     assert_eq!(intact(&memory(&PAIRS), 0).values, [15, 0, 0]);
 }
 
+/// The risk of a table, worked out by hand from its dispensable sets.
+#[test]
+fn sites_at_stake() {
+    let at_stake = |rows: &[&[u64]]| risk(&memory(rows)).map(|risk| (risk.others, risk.fewest, risk.first));
+    // A: 0, 4, 16, 20, 24, 28, 31. Only 31 contains 0, or 1; 4 contains 2, 24 contains 3 and has 4 too, 16 contains 4
+    assert_eq!(at_stake(&A), Ok((vec![4, 4, 0, 1, 0], 1, 1)));
+    // B: 0, 1, 2, 4, 8, 15. Each site alone is one of them, and of two sites only 15 has both
+    assert_eq!(at_stake(&B), Ok((vec![0, 0, 0, 0], 2, 3)));
+    // two pairs: 3, 12, 15. Each site takes its partner along; 3 spares the other pair, and 5 has one of each
+    assert_eq!(at_stake(&PAIRS), Ok((vec![1, 1, 1, 1], 2, 5)));
+    // all pairs of four sites: 15 alone, since with a site deleted each other one is a quorum by itself
+    let all_pairs: [&[u64]; 4] = [&[3, 5, 9], &[3, 6, 10], &[5, 6, 12], &[9, 10, 12]];
+    assert_eq!(at_stake(&all_pairs), Ok((vec![3, 3, 3, 3], 0, 0)));
+    // one site: 0 and 1
+    assert_eq!(at_stake(&[&[1]]), Ok((vec![0], 1, 1)));
+    // sites that are quorums by themselves: all but one site, and all
+    assert_eq!(at_stake(&[&[1], &[2], &[4]]), Ok((vec![0, 0, 0], 3, 7)));
+    assert_eq!(risk(&loners(13)), Err(Refusal { number: 16, place: 0 }));
+    assert_eq!(risk(&memory(&A)[1..]), Err(Refusal { number: 1, place: 0 }));
+}
+
 #[test]
 fn blocking_in_b() {
     assert_eq!(blocks(&memory(&B), 6, 0).values, [1, 0, 0]);

@@ -8,14 +8,14 @@ use Rattle.masks.proofs.Laws.AllBelow.{⊆-all}
 use Rattle.masks.proofs.Laws.Single.{∈-eq, ∈-single, single-∈}
 use Rattle.masks.proofs.Laws.Subsets.{not-in-zero, below-⊆, ∈-minus, minus-⊆, minus-not-in, empty}
 use Rattle.masks.specs.Mask.{single, minus, others, allBelow, _∈_, _⊆_}
-use Rattle.sets.specs.Paper.{Fbqs, Intact}
+use Rattle.sets.specs.Paper.{Fbqs}
 use Rattle.sets.specs.Slices.{Slices}
 use Rattle.verdicts.proofs.Decides.{table-verdicts}
 use Rattle.verdicts.specs.Decides.{VerdictsDecide}
 use Rattle.verdicts.specs.Verdicts.{intact}
 use Rattle.risk.specs.Decides.{Along, Ruinous, Fewest, TableRisk}
 use Rattle.risk.specs.Risk.{takenAlong, ruinous, fewest, firstRuin}
-use Rattle.risk.proofs.RiskLaws.{First, first-is}
+use Rattle.risk.proofs.RiskLaws.{first-is}
 
 -- of a table whose verdicts are the paper's, and whose sites are the n
 module _ {S : Fbqs} {r : Slices} {n : ℕ} (verdicts : VerdictsDecide S r n) (all : S .sites ≡ allBelow n) where

@@ -21,6 +21,7 @@ use Rattle.masks.specs.Mask.{allBelow, size, gather}
 use Rattle.sets.specs.Slices.{Slices}
 use Rattle.verdicts.proofs.VerdictLaws.{intact-ex}
 use Rattle.verdicts.specs.Verdicts.{isIntact, intact}
+use Rattle.risk.specs.Inner.{First, Best}
 use Rattle.risk.specs.Risk.{ruinous, ruinedBy, fewest, firstRuin}
 
 -- nothing that passes is below the least, and the least passes if anything does
@@ -33,22 +34,6 @@ passes-of k p j l e = let h = below (lowest-of k p j e) in (h, least-passes k p 
   where
     below : least k p ≤ j → least k p < k
     below m = omega arith
-
-module _ (r : Slices) (n : ℕ) where
-  -- F is a set of k sites that leaves nobody intact; no such set has fewer members, and none of as many is below F
-  pub record First (k F : ℕ) : Type 0 where
-    pub below : F < 2 ^ n
-    pub ruins : ruinous r n F ≡ true
-    pub counts : size F ≡ k
-    pub least : (G : ℕ) → G < 2 ^ n → ruinous r n G ≡ true → k ≤ size G
-    pub lowest : (G : ℕ) → G < 2 ^ n → ruinous r n G ≡ true → size G ≡ k → F ≤ G
-
-  -- what the search carries at the set F: the best so far is such a set, none below F has fewer members, and none of as many is below the best
-  pub record Best (F best : ℕ) : Type 0 where
-    pub below : best < 2 ^ n
-    pub ruins : ruinous r n best ≡ true
-    pub least : (G : ℕ) → G < F → ruinous r n G ≡ true → size best ≤ size G
-    pub lowest : (G : ℕ) → G < best → ruinous r n G ≡ true → size G ≡ size best → ⊥
 
 -- there is one such set only
 pub first-once : (r : Slices) (n : ℕ) {k F j G : ℕ} → First r n k F → First r n j G → (k ≡ j) × (F ≡ G)

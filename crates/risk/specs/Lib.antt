@@ -1,2 +1,3 @@
 pub mod Risk
 pub mod Decides
+pub mod Inner

@@ -1,6 +1,6 @@
 -- The ways out of the report of a risk, one law for each; and how long its lines are at most.
 use Prim.Native.Nat.{ℕ, _*_, _≤_, _<_}
-use mathlib.Core.List.{List, _++_}
+use mathlib.Core.List.{List, _++_, append-assoc}
 use mathlib.Core.Path.{_≡_, refl, sym, ap, _∙_}
 use native.Mathlib.Omega.{arith}
 use lib.ListN.{length, drop, take, length-append}
@@ -12,6 +12,7 @@ use Rattle.image.specs.declared.Reading.{Reading}
 use Rattle.image_blocks.proofs.Load.{loads-front}
 use Rattle.image_blocks.specs.Image.{loads}
 use Rattle.lines.proofs.Lengths.{length-line}
+use Rattle.lines.specs.Lines.{newline, line}
 use Rattle.masks.specs.Mask.{size}
 use Rattle.refusal_lines.specs.Refused.{explained}
 use Rattle.refusals.specs.declared.Check.the-variants.{Sound, Refused}
@@ -26,7 +27,15 @@ use Rattle.text.specs.Text.{ascii, decimal}
 use Rattle.risk_text.specs.Inner.{riskRead, firstLines}
 use Rattle.risk_text.specs.RiskText.{riskLine, riskLines, riskText}
 
+-- a word, a number, and a line of a blank and a number are a line of the word and both
+grouped : (A B C D E : List ℕ) → A ++ (B ++ (C ++ (D ++ E))) ≡ A ++ ((B ++ (C ++ D)) ++ E)
+grouped A B C D E = simp append-assoc
+
 module _ (r : Slices) (n : ℕ) where
+  pub site-line : (v k : ℕ) → k ≡ takenAlong r n v → ascii "site " ++ (decimal v ++ line (ascii " ") (decimal k)) ≡ riskLine r n v
+  unfolding riskLine line
+  site-line v k e = rw e (grouped (ascii "site ") (decimal v) (ascii " ") (decimal (takenAlong r n v)) newline)
+
   pub length-site : (v : ℕ) → length (riskLine r n v) ≤ 47
   unfolding riskLine
   length-site v =

@@ -1,17 +1,13 @@
 // What `desk risk` prints, as bytes in a lent room: what is at stake when sites of the table on an image break.
-ghost use mathlib.Core.List.{_++_};
 ghost use Prim.Native.Nat.{_+_, _*_, _≤_, _<_};
 ghost use lib.ListN.{length};
 ghost use Rattle.ground.specs.Pieces.{cat};
 ghost use Rattle.io.specs.Counts.{Counts};
-ghost use Rattle.lines.specs.Lines.{line};
 ghost use Rattle.masks.specs.Mask.{size};
-ghost use Rattle.members.specs.Members.{members};
 ghost use Rattle.risk_text.specs.RiskText.{riskLine, riskLines, riskText};
 ghost use Rattle.risk_text.specs.Inner.{riskRead, firstLines};
 ghost use Rattle.sets.specs.Slices.{slicesOf};
 ghost use Rattle.table.specs.Table.{Table};
-ghost use Rattle.text.specs.Text.{ascii, decimal, mask};
 ghost use Rattle.text.specs.Written.{Writes};
 use check_text::ROOM;
 use image::Reading;
@@ -32,9 +28,7 @@ fn put_site(room: &mut [u8], at: usize, table: &[u64], n: usize, v: u64) -> usiz
     let others = risk_search::taken_along(table, n, v);
     let at = text::put(room, at, b"site ");
     let at = text::put_decimal(room, at, v);
-    let at = text::put(room, at, b" ");
-    let at = text::put_decimal(room, at, others as u64);
-    text::put(room, at, b"\n")
+    lines::line_decimal(room, at, b" ", others as u64)
 }
 
 // The line of each site.

@@ -2,10 +2,10 @@
 use Prim.Native.Nat.{ℕ, _+_, _-_, _≤_, _<_}
 use mathlib.Core.Logic.{⊎-elim}
 use mathlib.Core.Path.{sym, _∙_, subst}
-use native.Mathlib.Omega.{arith}
 use borrow.Author.Needs.{needs}
 use denote.Ref.{now}
-use Rattle.risk.proofs.RiskLaws.{Best, best-none, best-taken, best-passed, best-end}
+use Rattle.risk.specs.Inner.{Best}
+use Rattle.risk.proofs.RiskLaws.{best-none, best-taken, best-passed, best-end}
 use Rattle.sets.specs.Slices.{slicesOf}
 use Rattle.risk_search.proofs.first_ruin.Statement.{statement}
 use Rattle.risk_search.proofs.first_ruin.Tie as tie

@@ -1,5 +1,4 @@
 -- `taken_along` meets its contract: all sites but the intact ones, and but the site itself, are counted.
-use Prim.Native.Nat.{ℕ}
 use mathlib.Core.Path.{ap, ap₂, _∙_}
 use borrow.Author.Needs.{needs}
 use denote.Ref.{now}
