@@ -105,6 +105,8 @@ pub fn desk_files() -> Vec<File> {
     let two = model::journal_of(&window_of(20));
     let over: Vec<[u8; 4]> = (0..34 * 125).map(|i| propose((i % 4) as u8, DRILL)).collect();
     let bad = [[3, 0, 0, 0], [0, 4, 4, 0], [1, 0, 1, 2], [0, 0, 1, 0], [1, 0, 3, 0], [2, 1, 0, 0], [0, 0, 0, 0]];
+    let votes: Vec<[u8; 4]> =
+        whole_vote(&[0, 1, 2, 3], LIVE).into_iter().filter(|call| call[0] != model::ACCEPT).collect();
     vec![
         ("a.table", a.clone()),
         ("b.table", b.clone()),
@@ -128,6 +130,10 @@ pub fn desk_files() -> Vec<File> {
         ("three.calls", bytes(&whole_vote(&[0, 1, 2], DRILL))),
         ("live.calls", bytes(&whole_vote(&[0, 1, 2], LIVE))),
         ("two-faced.calls", bytes(&two_faced())),
+        ("short.calls", bytes(&short())),
+        ("split.calls", bytes(&split())),
+        ("pushed.calls", bytes(&pushed())),
+        ("votes.calls", bytes(&votes)),
         ("opposite.calls", bytes(&opposite)),
         ("late.calls", bytes(&late)),
         ("bad.calls", bytes(&bad)),
@@ -172,6 +178,9 @@ pub fn desk_calls() -> Vec<Vec<&'static str>> {
         |verdict a.table s3,,4|verdict a.table S3|verdict a.table s3.4|verdict a.table s-1|verdict a.table s18446744073709551616\
         |verdict b.table s1,0|verdict apart.table s|verdict twelve.table s11,10|verdict thirteen.table s12|verdict apart.table s0\
         |verdict empty 0|verdict missing.table 0|verdict folder 0|verdict too-long 0|verdict missing.table g\
+        |risk a.table|risk b.table|risk apart.table|risk alone.table|risk twelve.table|risk thirteen.table|risk damaged.table|risk empty\
+        |risk missing.table|risk too-long|risk folder|risk|risk a.table b.table|--help|-h|--help a.table|-help\
+        |run apart.table 0 split.calls|run b.table s2,3 pushed.calls|run b.table 8 short.calls\
         |run b.table 0 empty|run b.table 0 drill.calls|run b.table 8 three.calls|run b.table 8 live.calls|run b.table 8 two-faced.calls\
         |run b.table 0 late.calls|run b.table 0 opposite.calls|run b.table 8 bad.calls|run b.table f drill.calls|run a.table 8 three.calls\
         |run alone.table 0 one.calls|run alone.table 1 one.calls|run apart.table 0 drill.calls|run most.table 0 window.calls\
@@ -179,6 +188,15 @@ pub fn desk_calls() -> Vec<Vec<&'static str>> {
         |run damaged.table 10 cut.calls|run owner.table 0 drill.calls|run cut.table 0 drill.calls|run b.table 0 missing.calls\
         |run b.table 0 too-long|run b.table 0 folder|run missing.table 0 drill.calls|run b.table zz drill.calls|run b.table 0\
         |run b.table 0 drill.calls drill.calls|run\
+        |missing b.table 8 three.calls|missing b.table 8 short.calls|missing b.table 8 live.calls|missing b.table s3 two-faced.calls\
+        |missing b.table 0 votes.calls|missing b.table 1 votes.calls|missing b.table 3 votes.calls|missing b.table f drill.calls\
+        |missing b.table 0 empty|missing b.table 0 bad.calls|missing b.table 0 most.calls|missing a.table 8 three.calls\
+        |missing a.table 0 opposite.calls|missing apart.table 0 drill.calls|missing apart.table 0 votes.calls|missing apart.table 0 split.calls\
+        |missing alone.table 0 one.calls|missing twelve.table 0 window.calls|missing twelve.table 0 votes.calls\
+        |missing thirteen.table 0 window.calls|missing thirteen.table 2000 cut.calls|missing thirteen.table 0 cut.calls\
+        |missing b.table 0 cut.calls|missing b.table 0 over.calls|missing b.table 10 cut.calls|missing damaged.table 10 cut.calls\
+        |missing owner.table 0 drill.calls|missing b.table 0 missing.calls|missing b.table 0 too-long|missing b.table 0 folder\
+        |missing missing.table 0 drill.calls|missing b.table zz drill.calls|missing b.table 0|missing b.table 0 drill.calls drill.calls|missing\
         |journal two.journal|journal drill.journal|journal bad.journal|journal empty|journal most.journal|journal last.journal\
         |journal over.journal|journal cut.journal|journal damaged.journal|journal number.journal|journal swapped.journal\
         |journal few.journal|journal many.journal|journal zeros.journal|journal filler.journal|journal behind.journal\
@@ -207,7 +225,7 @@ pub fn desk_answer(leaflet: &Leaflet, files: &mut Vec<File>, words: &[&'static s
     let free = |name: &str| !name.contains('/') && name != "folder" && files.iter().all(|(file, _)| *file != name);
     let mask = expected::faulty;
     match words {
-        [] => Some(USAGE.to_string()),
+        [] | ["--help"] | ["-h"] => Some(USAGE.to_string()),
         ["check", table] => Some(expected::check(leaflet, file(table)?)),
         ["verdict", table, faulty] => Some(expected::verdict(file(table)?, mask(faulty)?)),
         ["risk", table] => Some(expected::risk(leaflet, file(table)?)),
@@ -234,10 +252,12 @@ desk make TEXT TABLE                makes a table, as a new file, of a text in w
 desk show TABLE                     the table as such a text
 desk check TABLE                    is the table sound?
 desk verdict TABLE FAULTY           which sites can be relied on when the sites of FAULTY are faulty?
+desk risk TABLE                     how many sites does each take with it, and how few broken ones leave none to rely on?
 desk calls TEXT CALLS               makes a list of calls, as a new file, of a text or a spreadsheet
 desk list CALLS                     the calls as such a text
 desk same CALLS CALLS               are these the same calls, in any order and with any repeats?
 desk run TABLE FAULTY CALLS         the vote: its passes, what was confirmed, drill or live for each site
+desk missing TABLE FAULTY CALLS     which accept calls between intact sites does the list lack?
 desk keep CALLS JOURNAL             keeps the list of calls as a new file, whole or not at all
 desk journal JOURNAL                is the journal sound, and how many calls does it keep?
 desk replay TABLE FAULTY JOURNAL    the vote, as desk run prints it, of the calls that the journal keeps

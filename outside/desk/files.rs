@@ -119,6 +119,24 @@ pub fn leaning() -> Vec<[u8; 4]> {
     calls
 }
 
+/// A drill of sites 0, 1 and 2 in which the accept of site 0 to site 1 is missing.
+pub fn short() -> Vec<[u8; 4]> {
+    whole_vote(&[0, 1, 2], DRILL).into_iter().filter(|call| *call != accept(0, 1, DRILL)).collect()
+}
+
+/// Sites 0 and 1 vote drill among themselves, 2 and 3 live.
+pub fn split() -> Vec<[u8; 4]> {
+    [whole_vote(&[0, 1], DRILL), whole_vote(&[2, 3], LIVE)].concat()
+}
+
+/// Sites 2 and 3 say drill to site 0 and live to site 1, each of which is proposed what it hears.
+pub fn pushed() -> Vec<[u8; 4]> {
+    let told = |to, side| {
+        [propose(to, side), vote(2, to, side), vote(3, to, side), accept(2, to, side), accept(3, to, side)]
+    };
+    [told(0, DRILL), told(1, LIVE)].concat()
+}
+
 pub fn bytes(calls: &[[u8; 4]]) -> Vec<u8> {
     calls.concat()
 }

@@ -40,13 +40,19 @@ fn held(what: &str, output: &Output, answer: &Option<String>, blame: &str) {
 /// How the line of a wrong call begins.
 fn blame(words: &[&str]) -> &'static str {
     match words {
-        ["check", _] => "desk check TABLE: ",
-        ["verdict", _, _] => "desk verdict TABLE FAULTY: ",
-        ["run", _, _, _] => "desk run TABLE FAULTY CALLS: ",
-        ["missing", _, _, _] => "desk missing TABLE FAULTY CALLS: ",
-        ["keep", _, _] => "desk keep CALLS JOURNAL: ",
-        ["journal", _] => "desk journal JOURNAL: ",
-        ["replay", _, _, _] => "desk replay TABLE FAULTY JOURNAL: ",
+        ["make", ..] => "desk make TEXT TABLE: ",
+        ["show", ..] => "desk show TABLE: ",
+        ["check", ..] => "desk check TABLE: ",
+        ["verdict", ..] => "desk verdict TABLE FAULTY: ",
+        ["risk", ..] => "desk risk TABLE: ",
+        ["calls", ..] => "desk calls TEXT CALLS: ",
+        ["list", ..] => "desk list CALLS: ",
+        ["same", ..] => "desk same CALLS CALLS: ",
+        ["run", ..] => "desk run TABLE FAULTY CALLS: ",
+        ["missing", ..] => "desk missing TABLE FAULTY CALLS: ",
+        ["keep", ..] => "desk keep CALLS JOURNAL: ",
+        ["journal", ..] => "desk journal JOURNAL: ",
+        ["replay", ..] => "desk replay TABLE FAULTY JOURNAL: ",
         _ => "desk: ",
     }
 }
@@ -291,6 +297,9 @@ pub fn try_all(root: &Path, leaflet: &Leaflet, samples: &[File]) {
         held(&what, &run(&desk, &folder, &["journal", "j"], &[]), &Some(told), "");
         held(&what, &run(&desk, &folder, &["replay", "t", &mask, "j"], &[]), &Some(ran.clone()), "");
         held(&what, &run(&desk, &folder, &["run", "t", &mask, "l"], &[]), &Some(ran), "");
+        let lacks = expected::missing(leaflet, &image, faulty, &list);
+        held(&what, &run(&desk, &folder, &["missing", "t", &mask, "l"], &[]), &Some(lacks), "");
+        held(&what, &run(&desk, &folder, &["risk", "t"], &[]), &Some(expected::risk(leaflet, &image)), "");
         if let Some(last) = journal.len().checked_sub(1) {
             let at = dice.below(last as u64 + 1) as usize;
             journal[at] = journal[at].wrapping_add(1 + dice.below(255) as u8);
