@@ -111,6 +111,7 @@ pub fn desk_files() -> Vec<File> {
         ("a.table", a.clone()),
         ("b.table", b.clone()),
         ("apart.table", image(&table_apart())),
+        ("pairs.table", image(&table_pairs())),
         ("alone.table", image(&table_alone())),
         ("twelve.table", image(&table_round_b(12))),
         ("thirteen.table", image(&table_round_b(13))),
@@ -178,7 +179,7 @@ pub fn desk_calls() -> Vec<Vec<&'static str>> {
         |verdict a.table s3,,4|verdict a.table S3|verdict a.table s3.4|verdict a.table s-1|verdict a.table s18446744073709551616\
         |verdict b.table s1,0|verdict apart.table s|verdict twelve.table s11,10|verdict thirteen.table s12|verdict apart.table s0\
         |verdict empty 0|verdict missing.table 0|verdict folder 0|verdict too-long 0|verdict missing.table g\
-        |risk a.table|risk b.table|risk apart.table|risk alone.table|risk twelve.table|risk thirteen.table|risk damaged.table|risk empty\
+        |risk a.table|risk b.table|risk apart.table|risk pairs.table|risk alone.table|risk twelve.table|risk thirteen.table|risk damaged.table|risk empty\
         |risk missing.table|risk too-long|risk folder|risk|risk a.table b.table|--help|-h|--help a.table|-help\
         |run apart.table 0 split.calls|run b.table s2,3 pushed.calls|run b.table 8 short.calls\
         |run b.table 0 empty|run b.table 0 drill.calls|run b.table 8 three.calls|run b.table 8 live.calls|run b.table 8 two-faced.calls\

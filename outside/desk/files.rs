@@ -20,6 +20,11 @@ pub fn table_b() -> Vec<Vec<u64>> {
     vec![vec![7, 11, 13], vec![7, 11, 14], vec![7, 13, 14], vec![11, 13, 14]]
 }
 
+/// Four sites, each with every pair that it is in: any two of them decide, and nobody is intact.
+pub fn table_pairs() -> Vec<Vec<u64>> {
+    vec![vec![3, 5, 9], vec![3, 6, 10], vec![5, 6, 12], vec![9, 10, 12]]
+}
+
 /// The table of the rules that does not meet: 3; 3; 12; 12.
 pub fn table_apart() -> Vec<Vec<u64>> {
     [3, 3, 12, 12].map(|slice| vec![slice]).to_vec()
