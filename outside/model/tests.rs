@@ -95,6 +95,8 @@ fn sites_at_stake() {
     // all pairs of four sites: 15 alone, since with a site deleted each other one is a quorum by itself
     let all_pairs: [&[u64]; 4] = [&[3, 5, 9], &[3, 6, 10], &[5, 6, 12], &[9, 10, 12]];
     assert_eq!(at_stake(&all_pairs), Ok((vec![3, 3, 3, 3], 0, 0)));
+    // two sites that lean on the third: 0, 1, 2, 7. Only 7 contains 3, and only 7 contains 4, which is above 3 and has fewer
+    assert_eq!(at_stake(&[&[5], &[6], &[5, 6]]), Ok((vec![0, 0, 2], 1, 4)));
     // one site: 0 and 1
     assert_eq!(at_stake(&[&[1]]), Ok((vec![0], 1, 1)));
     // sites that are quorums by themselves: all but one site, and all
