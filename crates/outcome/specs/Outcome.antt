@@ -7,6 +7,7 @@ use Rattle.ground.specs.Pieces.{cat}
 use Rattle.lines.specs.Lines.{line}
 use Rattle.state_lines.specs.State.{stateLines}
 use Rattle.text.specs.Text.{ascii, decimal, mask}
+use Rattle.text.specs.Written.{Writes}
 
 -- `call I A` and the call "as `desk list` shows it": A is call I's answer in the last pass
 unfoldable pub callLine : ℕ → ℕ → ℕ → ℕ → ℕ → ℕ → List ℕ
@@ -29,3 +30,7 @@ endLines F n whole passes s list answers =
     ++ (line (ascii "passes ") (decimal passes)
     ++ (stateLines n F whole s
     ++ callLines list answers)))
+
+-- these lines stand in a lent room, from its start up to `end`; the rest of it is as before
+abbrev pub EndsIn : ℕ → ℕ → ℕ → ℕ → List ℕ → List ℕ → List ℕ → List ℕ → ℕ → List ℕ → Type 0
+EndsIn F n whole passes s list answers before end after = Writes (endLines F n whole passes s list answers) before 0 end after

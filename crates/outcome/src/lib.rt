@@ -2,7 +2,7 @@
 ghost use mathlib.Core.Path.{_≡_};
 ghost use Prim.Native.Nat.{_+_, _*_, _≤_};
 ghost use lib.ListN.{length};
-ghost use Rattle.outcome.specs.Outcome.{callLine, callLines, endLines};
+ghost use Rattle.outcome.specs.Outcome.{callLine, callLines, EndsIn};
 ghost use Rattle.rules.specs.State.{width};
 ghost use Rattle.text.specs.Written.{Writes};
 
@@ -69,7 +69,7 @@ pub fn put_run(
     requires { ⌜ n ≤ 64 ⌝ }
     requires { ⌜ length (now answers) ≤ 4096 ⌝ }
     requires { ⌜ 4 * length (now answers) ≤ length (now list) ⌝ }
-    ensures { λ r. ⌜ Writes (endLines faulty n whole passes (now (state .entry)) (now (list .entry)) (now (answers .entry))) (now (room .entry)) 0 r (now (room .exit)) ⌝ }
+    ensures { λ r. ⌜ EndsIn faulty n whole passes (now (state .entry)) (now (list .entry)) (now (answers .entry)) (now (room .entry)) r (now (room .exit)) ⌝ }
 {
     let at = lines::line_decimal(room, 0, b"sites ", n as u64);
     let at = lines::line_mask(room, at, b"faulty ", faulty);

@@ -15,8 +15,10 @@ returns c =
 
 returns-2 : tie.Need-returns-2
 returns-2 c =
-    let a = c .before .before .before .before .before .before .before .before .args in
-    as-text (mark-live (a .drill) (a .live) (a .v) (ap (λ x. eqb x 1) (sym (c .before .before .before .before .before .before .mark .ensures)) ∙ ne-eqb _ 1 (c .before .before .before .before .before .if1 .left))) (c .before .before .put2 .ensures)
+    let i = c .before .before .before .before .before in
+    let m = i .before in
+    let a = m .before .before .args in
+    as-text (mark-live (a .drill) (a .live) (a .v) (ap (λ x. eqb x 1) (sym (m .mark .ensures)) ∙ ne-eqb _ 1 (i .if1 .left))) (c .before .before .put2 .ensures)
 
 pub put-mark-spec : {M : Type 1} → statement M
 put-mark-spec =

@@ -22,9 +22,10 @@ put-worth-requires c κs =
 
 returns : tie.Need-returns
 returns c =
-    let a = c .before .before .before .before .before .before .before .before .before .before .before .before .before .before .before .before .before .before .args in
+    let d = c .before .before .before .before .before .before .before .before .before .before in
+    let a = d .before .before .before .before .before .before .before .before .args in
     as-text (site-line (a .n) (a .faulty) (a .whole) (a .drill) (a .live) (a .v))
-    (three (c .before .before .before .before .before .before .before .before .before .before .before .before .before .before .put .ensures) (c .before .before .before .before .before .before .before .before .before .before .put-decimal .ensures)
+    (three (d .before .before .before .before .put .ensures) (d .put-decimal .ensures)
     (then (c .before .before .before .before .before .before .put-mark .ensures) (c .before .before .put-worth .ensures) (omega (arith, length-decimal (a .v)))) (omega arith))
 
 pub put-site-spec : {M : Type 1} → statement M

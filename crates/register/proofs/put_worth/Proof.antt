@@ -13,23 +13,27 @@ returns c =
 
 returns-2 : tie.Need-returns-2
 returns-2 c =
-    let a = c .before .before .before .before .before .before .before .before .before .args in
-    as-text (worth-unknown (a .n) (a .faulty) (a .whole) (a .v) (sym (c .before .before .before .before .before .before .before .has .ensures) ∙ c .before .before .before .before .before .before .if1 .left) (c .before .before .before .before .before .if2 .taken)) (c .before .before .put2 .ensures)
+    let i = c .before .before .before .before .before in
+    let h = i .before .before in
+    let a = h .before .before .args in
+    as-text (worth-unknown (a .n) (a .faulty) (a .whole) (a .v) (sym (h .has .ensures) ∙ i .before .if1 .left) (i .if2 .taken)) (c .before .before .put2 .ensures)
 
 returns-3 : tie.Need-returns-3
 returns-3 c =
-    let a = c .before .before .before .before .before .before .before .before .before .before .before .args in
+    let w = c .before .before .before .before .before .before in
+    let h = w .before .before .before in
+    let a = h .before .before .args in
     as-text
-    (worth-intact (a .n) (a .faulty) (a .whole) (a .v) (sym (c .before .before .before .before .before .before .before .before .before .has .ensures) ∙ c .before .before .before .before .before .before .before .before .if1 .left) (c .before .before .before .before .before .before .before .if2 .left)
-    (sym (c .before .before .before .before .before .before .has2 .ensures) ∙ c .before .before .before .before .before .if3 .taken))
+    (worth-intact (a .n) (a .faulty) (a .whole) (a .v) (sym (h .has .ensures) ∙ w .before .before .if1 .left) (w .before .if2 .left) (sym (w .has2 .ensures) ∙ c .before .before .before .before .before .if3 .taken))
     (c .before .before .put3 .ensures)
 
 returns-4 : tie.Need-returns-4
 returns-4 c =
-    let a = c .before .before .before .before .before .before .before .before .before .before .before .args in
+    let w = c .before .before .before .before .before .before in
+    let h = w .before .before .before in
+    let a = h .before .before .args in
     as-text
-    (worth-befouled (a .n) (a .faulty) (a .whole) (a .v) (sym (c .before .before .before .before .before .before .before .before .before .has .ensures) ∙ c .before .before .before .before .before .before .before .before .if1 .left) (c .before .before .before .before .before .before .before .if2 .left)
-    (sym (c .before .before .before .before .before .before .has2 .ensures) ∙ c .before .before .before .before .before .if3 .left))
+    (worth-befouled (a .n) (a .faulty) (a .whole) (a .v) (sym (h .has .ensures) ∙ w .before .before .if1 .left) (w .before .if2 .left) (sym (w .has2 .ensures) ∙ c .before .before .before .before .before .if3 .left))
     (c .before .before .put4 .ensures)
 
 pub put-worth-spec : {M : Type 1} → statement M
