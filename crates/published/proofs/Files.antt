@@ -218,9 +218,9 @@ worth-as-published F image e sub l =
     let T = image-table image e in
     let same : sites (length t) ≡ sitesOn image = sites-of T in
     subst (λ (m : ℕ). m ≤ 12 → (v : ℕ) → v < m → (v ∈ F → ⊥) →
-        ((worth m F (intact (slicesOf t) m F) v ≡ ascii " intact") ↔ Intact (fbqsOf t m) F v)
-        × ((worth m F (intact (slicesOf t) m F) v ≡ ascii " befouled") ↔ Befouled (fbqsOf t m) F v)) same
-        (worths t F (subst (Table t) (sym same) T)) l
+    ((worth m F (intact (slicesOf t) m F) v ≡ ascii " intact") ↔ Intact (fbqsOf t m) F v)
+    × ((worth m F (intact (slicesOf t) m F) v ≡ ascii " befouled") ↔ Befouled (fbqsOf t m) F v)) same
+    (worths t F (subst (Table t) (sym same) T)) l
 
 pub verdict-as-published : VerdictAsPublished
 unfolding verdictText
