@@ -26,7 +26,7 @@ use Rattle.outcome.specs.Outcome.{endLines}
 use Rattle.pass.proofs.Lawful.{lawful}
 use Rattle.pass.specs.Calls.{calls}
 use Rattle.refusals.specs.declared.Check.the-variants.{Sound}
-use Rattle.register.specs.Register.{worth, siteLine}
+use Rattle.register.specs.Register.{worthOf, siteLine}
 use Rattle.rules.proofs.WorkWays.{table-rests}
 use Rattle.rules.specs.State.{accepts, confirmed, get}
 use Rattle.rules.specs.Vote.{voteOf}
@@ -100,16 +100,16 @@ is-drill drill live v h = (
         (mem (and-l (has drill v) (not (has live v)) z), λ y. clash (y .holds) (not-t (has live v) (and-r (has drill v) (not (has live v)) z)))
 
 pub drill-line : (n F whole drill live v : ℕ)
-    → (siteLine n F whole drill live v ≡ line (ascii "site ") (decimal v ++ (ascii " drill" ++ worth n F whole v))) ↔ (mark v drill live ≡ 1)
+    → (siteLine n F whole drill live v ≡ line (ascii "site ") (decimal v ++ (ascii " drill" ++ worthOf n F whole v))) ↔ (mark v drill live ≡ 1)
 unfolding siteLine
 drill-line n F whole drill live v = (
   λ e. ⊎-elim (λ h. eqb-true (mark v drill live) 1 h) (λ h. absurd (other (rw h at e))) (cases (eqb (mark v drill live) 1)),
   λ h. rw h refl,
 )
   where
-    other : line (ascii "site ") (decimal v ++ (ascii " live" ++ worth n F whole v)) ≡ line (ascii "site ") (decimal v ++ (ascii " drill" ++ worth n F whole v)) → ⊥
+    other : line (ascii "site ") (decimal v ++ (ascii " live" ++ worthOf n F whole v)) ≡ line (ascii "site ") (decimal v ++ (ascii " drill" ++ worthOf n F whole v)) → ⊥
     other e =
-        let w = worth n F whole v in
+        let w = worthOf n F whole v in
         omega (
           arith,
           ap length e,
@@ -123,21 +123,21 @@ drill-line n F whole drill live v = (
 
 -- the two words of a correct site, of at most 12 sites
 module _ (n F whole v : ℕ) (f : has F v ≡ false) (l : n ≤ 12) where
-  worth-is : worth n F whole v ≡ cond (has whole v) (ascii " intact") (ascii " befouled")
-  unfolding worth
+  worth-is : worthOf n F whole v ≡ cond (has whole v) (ascii " intact") (ascii " befouled")
+  unfolding worthOf
   worth-is = rw (f, le-ltb 12 n l) refl
 
   differ : ascii " befouled" ≡ ascii " intact" → ⊥
   differ e = omega (arith, ap length e)
 
-  pub intact-word : (worth n F whole v ≡ ascii " intact") ↔ (v ∈ whole)
+  pub intact-word : (worthOf n F whole v ≡ ascii " intact") ↔ (v ∈ whole)
   intact-word = (λ e. mem (word (has whole v) (sym worth-is ∙ e)), λ w. worth-is ∙ rw (w .holds) refl)
     where
       word : (b : Bool) → cond b (ascii " intact") (ascii " befouled") ≡ ascii " intact" → b ≡ true
       word true e = refl
       word false e = absurd (differ e)
 
-  pub befouled-word : (worth n F whole v ≡ ascii " befouled") ↔ (has whole v ≡ false)
+  pub befouled-word : (worthOf n F whole v ≡ ascii " befouled") ↔ (has whole v ≡ false)
   befouled-word = (λ e. word (has whole v) (sym worth-is ∙ e), λ w. worth-is ∙ rw w refl)
     where
       word : (b : Bool) → cond b (ascii " intact") (ascii " befouled") ≡ ascii " befouled" → b ≡ false
@@ -152,7 +152,7 @@ module _ (t : List ℕ) (F : ℕ) (T : Table t (sites (length t))) where
   drills : (list : List ℕ) (v : ℕ) → v < n → (v ∈ F → ⊥) →
       let s = theRun t F list .state in
       let whole = intact (slicesOf t) n F in
-      (siteLine n F whole (get s (confirmed n 0)) (get s (confirmed n 1)) v ≡ line (ascii "site ") (decimal v ++ (ascii " drill" ++ worth n F whole v)))
+      (siteLine n F whole (get s (confirmed n 0)) (get s (confirmed n 1)) v ≡ line (ascii "site ") (decimal v ++ (ascii " drill" ++ worthOf n F whole v)))
       ↔ (Confirms (fbqsOf t n) v (get s (accepts 0 v)) × (Confirms (fbqsOf t n) v (get s (accepts 1 v)) → ⊥))
   drills list v l f =
       let s = theRun t F list .state in
@@ -167,7 +167,7 @@ module _ (t : List ℕ) (F : ℕ) (T : Table t (sites (length t))) where
 
   worths : n ≤ 12 → (v : ℕ) → v < n → (v ∈ F → ⊥) →
       let whole = intact (slicesOf t) n F in
-      ((worth n F whole v ≡ ascii " intact") ↔ Intact (fbqsOf t n) F v) × ((worth n F whole v ≡ ascii " befouled") ↔ Befouled (fbqsOf t n) F v)
+      ((worthOf n F whole v ≡ ascii " intact") ↔ Intact (fbqsOf t n) F v) × ((worthOf n F whole v ≡ ascii " befouled") ↔ Befouled (fbqsOf t n) F v)
   worths l v h f =
       let D = table-verdicts t n T in
       let whole = intact (slicesOf t) n F in
@@ -207,7 +207,7 @@ register-as-published F image list e c =
       rw (e, c) (ap (λ (m : ℕ). endLines F m (intact (slicesOf t) m F) (r .passes) (r .state) list (r .answers)) same),
       subst (λ (m : ℕ). (v : ℕ) → v < m → (v ∈ F → ⊥) →
           (siteLine m F (intact (slicesOf t) m F) (get (r .state) (confirmed m 0)) (get (r .state) (confirmed m 1)) v
-          ≡ line (ascii "site ") (decimal v ++ (ascii " drill" ++ worth m F (intact (slicesOf t) m F) v)))
+          ≡ line (ascii "site ") (decimal v ++ (ascii " drill" ++ worthOf m F (intact (slicesOf t) m F) v)))
           ↔ (Confirms (fbqsOf t m) v (get (r .state) (accepts 0 v)) × (Confirms (fbqsOf t m) v (get (r .state) (accepts 1 v)) → ⊥))) same
           (drills t F (subst (Table t) (sym same) T) list),
     )
@@ -218,8 +218,8 @@ worth-as-published F image e sub l =
     let T = image-table image e in
     let same : sites (length t) ≡ sitesOn image = sites-of T in
     subst (λ (m : ℕ). m ≤ 12 → (v : ℕ) → v < m → (v ∈ F → ⊥) →
-    ((worth m F (intact (slicesOf t) m F) v ≡ ascii " intact") ↔ Intact (fbqsOf t m) F v)
-    × ((worth m F (intact (slicesOf t) m F) v ≡ ascii " befouled") ↔ Befouled (fbqsOf t m) F v)) same
+    ((worthOf m F (intact (slicesOf t) m F) v ≡ ascii " intact") ↔ Intact (fbqsOf t m) F v)
+    × ((worthOf m F (intact (slicesOf t) m F) v ≡ ascii " befouled") ↔ Befouled (fbqsOf t m) F v)) same
     (worths t F (subst (Table t) (sym same) T)) l
 
 pub verdict-as-published : VerdictAsPublished

@@ -12,7 +12,7 @@ use Rattle.masks.proofs.Laws.Subsets.{member-of}
 use Rattle.masks.specs.Mask.{_∈_}
 use Rattle.pass.proofs.Lawful.{lawful}
 use Rattle.pass.specs.Calls.{calls}
-use Rattle.register.specs.Register.{worth, siteLine}
+use Rattle.register.specs.Register.{worthOf, siteLine}
 use Rattle.rules.proofs.SoundLaws.{confirmed-correct}
 use Rattle.rules.proofs.WorkWays.{table-rests}
 use Rattle.rules.specs.State.{accepts, confirmed, get}
@@ -52,7 +52,7 @@ agreed-by-verdict t F m R = (
 NoLine : List ℕ → ℕ → ℕ → ℕ → List ℕ → Type 0
 NoLine t n F whole s =
     (v w : ℕ) → v < n → w < n → (w ∈ F → ⊥) →
-    siteLine n F whole (get s (confirmed n 0)) (get s (confirmed n 1)) v ≡ line (ascii "site ") (decimal v ++ (ascii " drill" ++ worth n F whole v)) →
+    siteLine n F whole (get s (confirmed n 0)) (get s (confirmed n 1)) v ≡ line (ascii "site ") (decimal v ++ (ascii " drill" ++ worthOf n F whole v)) →
     Confirms (fbqsOf t n) w (get s (accepts 1 w)) → ⊥
 
 no-line : {t : List ℕ} {n : ℕ} → Table t n → (F whole : ℕ) → Premises (fbqsOf t n) F → (l : List Call) → NoLine t n F whole (runOf (voteOf t n F) l .state)

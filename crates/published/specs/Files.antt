@@ -14,7 +14,7 @@ use Rattle.masks.specs.Mask.{minus, allBelow, _∈_, _⊆_}
 use Rattle.outcome.specs.Outcome.{endLines}
 use Rattle.refusals.specs.declared.Check.the-variants.{Sound, Refused}
 use Rattle.refusals.specs.declared.Refusal.the-variants.{NoQuorum, Room}
-use Rattle.register.specs.Register.{worth, siteLine}
+use Rattle.register.specs.Register.{worthOf, siteLine}
 use Rattle.rules.specs.State.{accepts, confirmed, width, get}
 use Rattle.run.specs.Run.{runCheck, theRun}
 use Rattle.run_text.specs.Run.{runText}
@@ -79,7 +79,7 @@ RegisterAsPublished =
     (runText F image list ≡ endLines F n whole (r .passes) (r .state) list (r .answers))
     × ((v : ℕ) → v < n → (v ∈ F → ⊥) →
     (siteLine n F whole (get (r .state) (confirmed n 0)) (get (r .state) (confirmed n 1)) v
-    ≡ line (ascii "site ") (decimal v ++ (ascii " drill" ++ worth n F whole v)))
+    ≡ line (ascii "site ") (decimal v ++ (ascii " drill" ++ worthOf n F whole v)))
     ↔ (Confirms (fbqsRead image) v (get (r .state) (accepts 0 v)) × (Confirms (fbqsRead image) v (get (r .state) (accepts 1 v)) → ⊥)))
 
 -- what an entry is worth: of a correct site it says intact exactly if the site is intact, and befouled exactly if it is befouled, by the paper
@@ -89,8 +89,8 @@ WorthAsPublished =
     let n = sitesOn image in
     let whole = wholeOn F image in
     (v : ℕ) → v < n → (v ∈ F → ⊥) →
-    ((worth n F whole v ≡ ascii " intact") ↔ Intact (fbqsRead image) F v)
-    × ((worth n F whole v ≡ ascii " befouled") ↔ Befouled (fbqsRead image) F v)
+    ((worthOf n F whole v ≡ ascii " intact") ↔ Intact (fbqsRead image) F v)
+    × ((worthOf n F whole v ≡ ascii " befouled") ↔ Befouled (fbqsRead image) F v)
 
 -- 7 ("the table holds no quorum") is never the reader's answer
 abbrev pub SevenNever : Type 0

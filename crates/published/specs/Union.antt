@@ -12,7 +12,7 @@ use Rattle.questions.specs.Answers.{sitesOf, shared, intact}
 use Rattle.questions.specs.declared.Sharing as Sharing
 use Rattle.questions.specs.declared.Standing as Standing
 use Rattle.refusals.specs.declared.Check.the-variants.{Sound}
-use Rattle.register.specs.Register.{worth, siteLine}
+use Rattle.register.specs.Register.{worthOf, siteLine}
 use Rattle.rules.specs.State.{accepts, confirmed, width, get}
 use Rattle.run.specs.Run.{runCheck, theRun}
 use Rattle.run.specs.Theorems.{Taken, endState}
@@ -51,5 +51,5 @@ RegisterAgrees =
     let whole = wholeOn F image in
     let s = theRun (tableOn image) F list .state in
     (v w : ℕ) → v < n → w < n → (w ∈ F → ⊥) →
-    siteLine n F whole (get s (confirmed n 0)) (get s (confirmed n 1)) v ≡ line (ascii "site ") (decimal v ++ (ascii " drill" ++ worth n F whole v)) →
+    siteLine n F whole (get s (confirmed n 0)) (get s (confirmed n 1)) v ≡ line (ascii "site ") (decimal v ++ (ascii " drill" ++ worthOf n F whole v)) →
     Confirms (fbqsRead image) w (get s (accepts 1 w)) → ⊥

@@ -15,7 +15,7 @@ use Rattle.lines.proofs.Lengths.{length-line}
 use Rattle.lines.specs.Lines.{newline, line}
 use Rattle.mark.specs.Mark.{mark as markOf}
 use Rattle.masks.specs.Mask.{has}
-use Rattle.register.specs.Register.{worth, siteLine}
+use Rattle.register.specs.Register.{worthOf, siteLine}
 use Rattle.text.proofs.Width.{length-decimal}
 use Rattle.text.proofs.Written.{then, written-nothing}
 use Rattle.text.specs.Text.{ascii, decimal}
@@ -30,28 +30,28 @@ mark-live drill live v e = rw e refl
 
 -- what an entry is worth: one law for each way out
 module _ (n F whole v : ℕ) where
-  pub worth-faulty : has F v ≡ true → ascii " faulty\n" ≡ worth n F whole v ++ newline
-  unfolding worth
+  pub worth-faulty : has F v ≡ true → ascii " faulty\n" ≡ worthOf n F whole v ++ newline
+  unfolding worthOf
   worth-faulty f = rw f refl
 
   module _ (f : has F v ≡ false) where
-    pub worth-unknown : 12 < n → ascii " unknown\n" ≡ worth n F whole v ++ newline
-    unfolding worth
+    pub worth-unknown : 12 < n → ascii " unknown\n" ≡ worthOf n F whole v ++ newline
+    unfolding worthOf
     worth-unknown l = rw (f, lt-ltb 12 n l) refl
 
     module _ (l : n ≤ 12) where
-      pub worth-intact : has whole v ≡ true → ascii " intact\n" ≡ worth n F whole v ++ newline
-      unfolding worth
+      pub worth-intact : has whole v ≡ true → ascii " intact\n" ≡ worthOf n F whole v ++ newline
+      unfolding worthOf
       worth-intact w = rw (f, le-ltb 12 n l, w) refl
 
-      pub worth-befouled : has whole v ≡ false → ascii " befouled\n" ≡ worth n F whole v ++ newline
-      unfolding worth
+      pub worth-befouled : has whole v ≡ false → ascii " befouled\n" ≡ worthOf n F whole v ++ newline
+      unfolding worthOf
       worth-befouled w = rw (f, le-ltb 12 n l, w) refl
 
 -- above 12 sites the lines do not depend on who is intact
 module _ (n F whole other drill live : ℕ) (l : 12 < n) where
   line-above-twelve : (v : ℕ) → siteLine n F whole drill live v ≡ siteLine n F other drill live v
-  unfolding siteLine worth
+  unfolding siteLine worthOf
   line-above-twelve v = rw (lt-ltb 12 n l) refl
 
   pub lines-above-twelve : (k : ℕ) → cat (siteLine n F whole drill live) k ≡ cat (siteLine n F other drill live) k
@@ -59,7 +59,7 @@ module _ (n F whole other drill live : ℕ) (l : 12 < n) where
 
 -- the line of a site: its number, the word of the mark, what the entry is worth
 pub site-line : (n F whole drill live v : ℕ)
-    → ascii "site " ++ (decimal v ++ (cond (eqb (markOf v drill live) 1) (ascii " drill") (ascii " live") ++ (worth n F whole v ++ newline))) ≡ siteLine n F whole drill live v
+    → ascii "site " ++ (decimal v ++ (cond (eqb (markOf v drill live) 1) (ascii " drill") (ascii " live") ++ (worthOf n F whole v ++ newline))) ≡ siteLine n F whole drill live v
 unfolding siteLine line
 site-line n F whole drill live v = simp append-assoc
 
@@ -91,15 +91,15 @@ long-worth false true w = omega arith
 long-worth false false true = omega arith
 long-worth false false false = omega arith
 
-pub length-worth : (n F whole v : ℕ) → length (worth n F whole v) ≤ 9
-unfolding worth
+length-worth : (n F whole v : ℕ) → length (worthOf n F whole v) ≤ 9
+unfolding worthOf
 length-worth n F whole v = long-worth (has F v) (ltb 12 n) (has whole v)
 
 pub length-site : (n F whole drill live v : ℕ) → length (siteLine n F whole drill live v) ≤ 41
 unfolding siteLine
 length-site n F whole drill live v =
     let m = cond (eqb (markOf v drill live) 1) (ascii " drill") (ascii " live") in
-    let w = worth n F whole v in
+    let w = worthOf n F whole v in
     rw (length-line (ascii "site ") (decimal v ++ (m ++ w))) (omega (
       arith,
       length-append (decimal v) (m ++ w),

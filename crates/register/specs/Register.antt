@@ -10,12 +10,12 @@ use Rattle.text.specs.Text.{ascii, decimal}
 
 -- what an entry is worth, of n sites of which those of F are faulty: "a faulty site is `site V live faulty`", "`unknown` above" 12 sites, else whether the
 -- site is intact; `whole` is the mask of those that are
-unfoldable pub worth : ℕ → ℕ → ℕ → ℕ → List ℕ
+unfoldable pub worthOf : ℕ → ℕ → ℕ → ℕ → List ℕ
 unfolding has
-worth n F whole v = cond (has F v) (ascii " faulty") (cond (ltb 12 n) (ascii " unknown") (cond (has whole v) (ascii " intact") (ascii " befouled")))
+worthOf n F whole v = cond (has F v) (ascii " faulty") (cond (ltb 12 n) (ascii " unknown") (cond (has whole v) (ascii " intact") (ascii " befouled")))
 
 -- `site V drill ..` where the site's mark is 1, else `site V live ..`
 unfoldable pub siteLine : ℕ → ℕ → ℕ → ℕ → ℕ → ℕ → List ℕ
-unfolding line decimal markOf worth
+unfolding line decimal markOf worthOf
 siteLine n F whole drill live v =
-    line (ascii "site ") (decimal v ++ (cond (eqb (markOf v drill live) 1) (ascii " drill") (ascii " live") ++ worth n F whole v))
+    line (ascii "site ") (decimal v ++ (cond (eqb (markOf v drill live) 1) (ascii " drill") (ascii " live") ++ worthOf n F whole v))

@@ -10,7 +10,7 @@ ghost use Rattle.lines.specs.Lines.{newline};
 ghost use Rattle.mark.specs.Mark.{mark};
 ghost use Rattle.text.specs.Text.{ascii};
 ghost use Rattle.text.specs.Written.{Writes};
-ghost use Rattle.register.specs.Register.{worth, siteLine};
+ghost use Rattle.register.specs.Register.{worthOf, siteLine};
 
 // Whether a site is intact is known for so many sites at most.
 const MOST: u64 = 12;
@@ -30,7 +30,7 @@ fn put_mark(room: &mut [u8], at: usize, v: u64, drill: u64, live: u64) -> usize
 fn put_worth(room: &mut [u8], at: usize, n: u64, faulty: u64, whole: u64, v: u64) -> usize
     requires { ⌜ at + 10 ≤ length (now room) ⌝ }
     requires { ⌜ v < 64 ⌝ }
-    ensures { λ r. ⌜ Writes (worth n faulty whole v ++ newline) (now (room .entry)) at r (now (room .exit)) ⌝ }
+    ensures { λ r. ⌜ Writes (worthOf n faulty whole v ++ newline) (now (room .entry)) at r (now (room .exit)) ⌝ }
 {
     if masks::has(faulty, v) {
         return text::put(room, at, b" faulty\n");

@@ -26,7 +26,7 @@ use Rattle.check_text.proofs.Ways.{image-sound, image-refused}
 use Rattle.questions.specs.Answers.{toStanding, verdictCheck}
 use Rattle.questions.specs.Answers as Answers
 use Rattle.refusals.proofs.First.{orElse-sound}
-use Rattle.run_text.specs.Inner.{known}
+use Rattle.run_text.specs.Inner.{wholeOf}
 use Rattle.run_text.specs.Run.{ranText, runText}
 use Rattle.run.proofs.RunWays.{Fits, fits}
 use Rattle.run.specs.Run.{runCheck, theRun, toRan, ran, stateInto, answersInto}
@@ -67,20 +67,20 @@ module _ (t : List ℕ) (F : ℕ) (list : List ℕ) where
 
     -- up to 12 sites what is known is who is intact; above, the lines do not depend on it
     known-lines : (p : ℕ) (s a : List ℕ)
-        → endLines F (sites (length t)) (known (Answers.intact t F)) p s list a ≡ endLines F (sites (length t)) (Verdicts.intact (slicesOf t) (sites (length t)) F) p s list a
+        → endLines F (sites (length t)) (wholeOf (Answers.intact t F)) p s list a ≡ endLines F (sites (length t)) (Verdicts.intact (slicesOf t) (sites (length t)) F) p s list a
     unfolding runCheck Answers.intact
     known-lines p s a =
         let n = sites (length t) in
         let c : setCheck t F ≡ Sound = orElse-sound (setCheck t F) _ (whole .0) .0 in
         ⊎-elim
-        (λ l. end-above-twelve F n (known (Answers.intact t F)) (Verdicts.intact (slicesOf t) n F) p s list a (ltb-true 12 n l))
-        (λ l. ap (λ (x : Check). endLines F n (known (toStanding x (Verdicts.intact (slicesOf t) n F))) p s list a) (judged t F c l))
+        (λ l. end-above-twelve F n (wholeOf (Answers.intact t F)) (Verdicts.intact (slicesOf t) n F) p s list a (ltb-true 12 n l))
+        (λ l. ap (λ (x : Check). endLines F n (wholeOf (toStanding x (Verdicts.intact (slicesOf t) n F))) p s list a) (judged t F c l))
         (cases (ltb 12 n))
 
     pub fitting : Fits t (length list) 262 4096
     fitting = fits t F (length list) 262 4096 (whole .0)
 
-    pub ran-ended : (n w k : ℕ) (states answers s a : List ℕ) → n ≡ sites (length t) → w ≡ known (Answers.intact t F) → k ≡ width n → length states ≡ 262 → length answers ≡ 4096
+    pub ran-ended : (n w k : ℕ) (states answers s a : List ℕ) → n ≡ sites (length t) → w ≡ wholeOf (Answers.intact t F) → k ≡ width n → length states ≡ 262 → length answers ≡ 4096
         → length s ≡ 262 → length a ≡ 4096
         → s ≡ stateInto (Ran.Passes p) t F list states → a ≡ answersInto (Ran.Passes p) t F list answers
         → endLines F n w p (take k s) list (take (length list / 4) a) ≡ ranText F t list

@@ -4,6 +4,6 @@ use Rattle.questions.specs.declared.Standing.{Standing}
 use Rattle.questions.specs.declared.Standing.the-variants.{Intact}
 
 -- the intact sites, or nobody where the answer is a refusal
-abbrev pub known : Standing → ℕ
-known (Intact set) = set
-known (Standing.Refused r) = 0
+abbrev pub wholeOf : Standing → ℕ
+wholeOf (Intact set) = set
+wholeOf (Standing.Refused r) = 0

@@ -5,7 +5,7 @@ ghost use lib.ListN.{length};
 ghost use Rattle.io.specs.Counts.{Counts};
 ghost use Rattle.text.specs.Written.{Writes};
 ghost use Rattle.questions.specs.Answers.{intact};
-ghost use Rattle.run_text.specs.Inner.{known};
+ghost use Rattle.run_text.specs.Inner.{wholeOf};
 ghost use Rattle.run_text.specs.Run.{ranText, runText};
 use image::Reading;
 use questions::Standing;
@@ -16,7 +16,7 @@ pub const ROOM: usize = 589824;
 
 // The sites that are intact, or nobody where that is not known.
 fn whole(table: &[u64], faulty: u64) -> u64
-    ensures { λ r. ⌜ r ≡ known (intact (now (table .entry)) faulty) ⌝ }
+    ensures { λ r. ⌜ r ≡ wholeOf (intact (now (table .entry)) faulty) ⌝ }
 {
     let standing = verdict_questions::intact(table, faulty);
     match standing {
