@@ -138,6 +138,8 @@ pub fn desk_files() -> Vec<File> {
         ("opposite.calls", bytes(&opposite)),
         ("late.calls", bytes(&late)),
         ("bad.calls", bytes(&bad)),
+        ("half.calls", bytes(&bad[..6])),
+        ("strange.calls", bytes(&bad[..5])),
         ("window.calls", bytes(&window_of(64))),
         ("most.calls", bytes(&proposals)),
         ("over.calls", bytes(&[&proposals[..], &[propose(0, DRILL)]].concat())),
@@ -148,6 +150,7 @@ pub fn desk_files() -> Vec<File> {
         ("drill.journal", model::journal_of(&whole_vote(&[0, 1, 2, 3], DRILL))),
         ("two-faced.journal", model::journal_of(&two_faced())),
         ("bad.journal", model::journal_of(&[&bad[..], &[[255; 4]]].concat())),
+        ("strange.journal", model::journal_of(&bad[..5])),
         ("two.journal", two.clone()),
         ("most.journal", model::journal_of(&proposals)),
         ("last.journal", model::journal_of(&over[..4097])),
@@ -184,6 +187,9 @@ pub fn desk_calls() -> Vec<Vec<&'static str>> {
         |run apart.table 0 split.calls|run b.table s2,3 pushed.calls|run b.table 8 short.calls\
         |run b.table 0 empty|run b.table 0 drill.calls|run b.table 8 three.calls|run b.table 8 live.calls|run b.table 8 two-faced.calls\
         |run b.table 0 late.calls|run b.table 0 opposite.calls|run b.table 8 bad.calls|run b.table f drill.calls|run a.table 8 three.calls\
+        |run b.table 8 half.calls|run b.table 8 strange.calls|run b.table 10 strange.calls|run twelve.table 8 strange.calls\
+        |run twelve.table 8 three.calls|run thirteen.table 8 three.calls|run thirteen.table 1000 three.calls\
+        |run most.table 8000000000000001 three.calls|run apart.table 1 strange.calls\
         |run alone.table 0 one.calls|run alone.table 1 one.calls|run apart.table 0 drill.calls|run most.table 0 window.calls\
         |run b.table 0 most.calls|run b.table 0 over.calls|run b.table 0 cut.calls|run b.table 10 over.calls|run b.table 10 drill.calls\
         |run damaged.table 10 cut.calls|run owner.table 0 drill.calls|run cut.table 0 drill.calls|run b.table 0 missing.calls\
@@ -202,7 +208,7 @@ pub fn desk_calls() -> Vec<Vec<&'static str>> {
         |journal over.journal|journal cut.journal|journal damaged.journal|journal number.journal|journal swapped.journal\
         |journal few.journal|journal many.journal|journal zeros.journal|journal filler.journal|journal behind.journal\
         |journal drill.calls|journal longest|journal too-long|journal missing.journal|journal folder|journal|journal two.journal empty\
-        |replay b.table 0 drill.journal|replay b.table 8 two-faced.journal|replay b.table 8 bad.journal|replay b.table 0 empty\
+        |replay b.table 0 drill.journal|replay b.table 8 two-faced.journal|replay b.table 8 bad.journal|replay b.table 8 strange.journal|replay b.table 0 empty\
         |replay most.table 0 two.journal|replay most.table f two.journal|replay b.table 0 last.journal|replay b.table 0 cut.journal\
         |replay b.table 0 damaged.journal|replay b.table 0 number.journal|replay b.table 0 behind.journal|replay b.table 0 drill.calls\
         |replay b.table 10 drill.journal|replay b.table 10 damaged.journal|replay b.table 10 last.journal|replay b.table 10 cut.journal\

@@ -109,17 +109,33 @@ pub fn shown(slices: &[Vec<u64>]) -> String {
     format!("sites {}\n", slices.len()) + &rows.collect::<String>()
 }
 
-/// Calls as text, a line each: `desk list` of calls that can be said in words
+/// A call as text: in words, or as four numbers where it cannot be said so
+fn said(call: &[u8]) -> String {
+    let [kind, from, to, side] = call else { panic!("a call has four bytes") };
+    let numbers = format!("{kind} {from} {to} {side}");
+    let Some(word) = ["drill", "live"].get(*side as usize) else { return numbers };
+    match *kind {
+        model::PROPOSE if from == to => format!("propose {from} {word}"),
+        model::VOTE => format!("vote {from} {to} {word}"),
+        model::ACCEPT => format!("accept {from} {to} {word}"),
+        _ => numbers,
+    }
+}
+
+/// Calls as text, a line each: `desk list`
 pub fn listed(calls: &[u8]) -> String {
-    let line = |call: &[u8]| {
-        let side = ["drill", "live"][call[3] as usize];
-        match call[0] {
-            model::PROPOSE => format!("propose {} {side}\n", call[2]),
-            model::VOTE => format!("vote {} {} {side}\n", call[1], call[2]),
-            _ => format!("accept {} {} {side}\n", call[1], call[2]),
-        }
-    };
-    calls.chunks(4).map(line).collect()
+    calls.chunks(4).map(|call| said(call) + "\n").collect()
+}
+
+/// What the register's entry of a site is worth: whether it is faulty; up to 12 sites, whether it is intact
+fn worth(memory: &[u64], faulty: u64, site: usize) -> &'static str {
+    let has = |set: u64| set >> site & 1 == 1;
+    match memory.len() / model::ROW {
+        _ if has(faulty) => "faulty",
+        13.. => "unknown",
+        _ if has(model::intact(memory, faulty).values[0]) => "intact",
+        _ => "befouled",
+    }
 }
 
 /// `desk run`
@@ -142,10 +158,11 @@ pub fn run(leaflet: &Leaflet, image: &[u8], faulty: u64, calls: &[u8]) -> String
     text += &format!("confirmed {}\n", two(model::confirmed_at));
     for site in 0..n {
         let mark = model::mark(site as u64, state[model::confirmed_at(n, 0)], state[model::confirmed_at(n, 1)]);
-        text += &format!("site {site} {}\n", if mark.values[0] == 1 { "drill" } else { "live" });
+        let entry = if mark.values[0] == 1 { "drill" } else { "live" };
+        text += &format!("site {site} {entry} {}\n", worth(&memory, faulty, site));
     }
-    for (i, answer) in answers.iter().enumerate() {
-        text += &format!("call {i} {answer}\n");
+    for (i, (answer, call)) in answers.iter().zip(calls.chunks(4)).enumerate() {
+        text += &format!("call {i} {answer} {}\n", said(call));
     }
     text
 }
@@ -167,6 +184,13 @@ pub fn missing(leaflet: &Leaflet, image: &[u8], faulty: u64, calls: &[u8]) -> St
         }
     }
     text
+}
+
+/// Whether more than half of the calls of a run answer 11, by the text of the run
+pub fn doubtful(text: &str) -> bool {
+    let calls: Vec<&str> = text.lines().filter(|line| line.starts_with("call ")).collect();
+    let strange = calls.iter().filter(|line| line.split(' ').nth(2) == Some("11")).count();
+    2 * strange > calls.len()
 }
 
 /// `blocks K` and `calls N`

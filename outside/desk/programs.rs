@@ -21,14 +21,16 @@ fn text(bytes: &[u8]) -> String {
     String::from_utf8_lossy(bytes).into_owned()
 }
 
-/// The answer on standard output and nothing on standard error; or nothing, and one line that begins as it should.
+/// The answer on standard output and nothing on standard error, or a line that doubts the calls where most of a run's
+/// answer 11; or nothing, and one line that begins as it should.
 fn held(what: &str, output: &Output, answer: &Option<String>, blame: &str) {
     let (out, err) = (text(&output.stdout), text(&output.stderr));
     assert!(output.status.success(), "{what}: ended with {}", output.status);
     match answer {
         Some(answer) => {
             assert_eq!(&out, answer, "{what}");
-            assert_eq!(err, "", "{what}");
+            let doubt = if expected::doubtful(answer) { blame.to_string() + DOUBT } else { String::new() };
+            assert_eq!(err, doubt, "{what}");
         }
         None => {
             assert_eq!(out, "", "{what}");
@@ -36,6 +38,10 @@ fn held(what: &str, output: &Output, answer: &Option<String>, blame: &str) {
         }
     }
 }
+
+/// What is said of a list of which most calls answer 11, behind the words of the call.
+const DOUBT: &str =
+    "most of these calls name a site, kind or side that there is not (11); this may be no list of calls\n";
 
 /// How the line of a wrong call begins.
 fn blame(words: &[&str]) -> &'static str {
@@ -83,8 +89,13 @@ fn random(dice: &mut Dice) -> (Vec<u8>, u64, Vec<u8>) {
         image[at] = image[at].wrapping_add(1 + dice.below(255) as u8);
     }
     let faulty = dice.below(1 << n) & dice.below(1 << n) & dice.below(2 << n);
+    // now and then bytes that are no calls, or that may be some
+    let strange = [0, 0, 0, 1, 2, 4][dice.below(6) as usize];
     let calls: Vec<[u8; 4]> = (0..dice.below(200))
         .map(|_| {
+            if dice.below(4) < strange {
+                return [0; 4].map(|_| dice.below(256) as u8);
+            }
             let (kind, from, to, side) = (dice.below(3), dice.below(n), dice.below(n), dice.below(10) / 9);
             [kind as u8, from as u8, if kind == 0 { from as u8 } else { to as u8 }, side as u8]
         })
@@ -278,7 +289,7 @@ pub fn try_all(root: &Path, leaflet: &Leaflet, samples: &[File]) {
     // tables and lists that are in no file of the repository
     let seed = std::env::var("SEED").ok().and_then(|seed| seed.parse().ok()).unwrap_or(20261115);
     let mut dice = Dice(seed);
-    let mut drills = 0;
+    let (mut drills, mut doubts) = (0, 0);
     for round in 0..500 {
         let (image, faulty, list) = random(&mut dice);
         std::fs::write(folder.join("t"), &image).expect("a file");
@@ -288,15 +299,18 @@ pub fn try_all(root: &Path, leaflet: &Leaflet, samples: &[File]) {
         held(&what, &run(&desk, &folder, &["check", "t"], &[]), &Some(expected::check(leaflet, &image)), "");
         held(&what, &run(&desk, &folder, &["verdict", "t", &mask], &[]), &Some(expected::verdict(&image, faulty)), "");
         let ran = expected::run(leaflet, &image, faulty, &list);
-        drills += usize::from(ran.contains(" drill\n"));
+        drills += usize::from(ran.contains(" drill intact\n"));
+        doubts += usize::from(expected::doubtful(&ran));
         let (told, journal) = expected::keep(leaflet, &list);
         let mut journal = journal.expect("a list of whole calls is kept");
         let _ = std::fs::remove_file(folder.join("j"));
         held(&what, &run(&desk, &folder, &["keep", "l", "j"], &[]), &Some(told.clone()), "");
         assert!(std::fs::read(folder.join("j")).expect("a file") == journal, "{what}: the journal has other bytes");
         held(&what, &run(&desk, &folder, &["journal", "j"], &[]), &Some(told), "");
-        held(&what, &run(&desk, &folder, &["replay", "t", &mask, "j"], &[]), &Some(ran.clone()), "");
-        held(&what, &run(&desk, &folder, &["run", "t", &mask, "l"], &[]), &Some(ran), "");
+        let replay = ["replay", "t", &mask, "j"];
+        held(&what, &run(&desk, &folder, &replay, &[]), &Some(ran.clone()), blame(&replay));
+        let again = ["run", "t", &mask, "l"];
+        held(&what, &run(&desk, &folder, &again, &[]), &Some(ran), blame(&again));
         let lacks = expected::missing(leaflet, &image, faulty, &list);
         held(&what, &run(&desk, &folder, &["missing", "t", &mask, "l"], &[]), &Some(lacks), "");
         held(&what, &run(&desk, &folder, &["risk", "t"], &[]), &Some(expected::risk(leaflet, &image)), "");
@@ -306,13 +320,15 @@ pub fn try_all(root: &Path, leaflet: &Leaflet, samples: &[File]) {
             std::fs::write(folder.join("d"), &journal).expect("a file");
             held(&what, &run(&desk, &folder, &["journal", "d"], &[]), &Some(expected::journal(leaflet, &journal)), "");
             let replayed = expected::replay(leaflet, &image, faulty, &journal);
-            held(&what, &run(&desk, &folder, &["replay", "t", &mask, "d"], &[]), &Some(replayed), "");
+            let replay = ["replay", "t", &mask, "d"];
+            held(&what, &run(&desk, &folder, &replay, &[]), &Some(replayed), blame(&replay));
         }
     }
     std::fs::remove_dir_all(&folder).expect("the folder goes");
-    assert!(drills > 50, "some of the lists end in a drill");
+    assert!(drills > 50, "some of the lists end in a drill of an intact site");
+    assert!(doubts > 50, "some of the lists are doubted");
     println!(
-        "desk: {} verdicts, {} calls, {} odd ones, {kept_or_not} files kept or not, 500 random tables and lists (seed {seed}; {drills} with a drill)",
+        "desk: {} verdicts, {} calls, {} odd ones, {kept_or_not} files kept or not, 500 random tables and lists (seed {seed}; {drills} with a drill, {doubts} doubted)",
         files.len(),
         calls.len(),
         odd.len() + 7

@@ -4,7 +4,7 @@ ghost use Rattle.text.specs.Written.{Writes};
 ghost use Rattle.check_text.specs.Table.{checkText};
 use image::Reading;
 
-// Room for the longest text, that of 64 sites and 4,096 calls.
+// Room for the text of a check, a verdict or a journal.
 pub const ROOM: usize = 196608;
 
 // The check of an image: `sound N`, or the refusal and what it means. Answers the length of the text.

@@ -19,18 +19,20 @@ use Rattle.image.specs.declared.Reading as Reading
 use Rattle.lines.proofs.Lengths.{length-line}
 use Rattle.lines.specs.Lines.{line}
 use Rattle.mark.specs.Mark.{mark}
-use Rattle.masks.proofs.Laws.Subsets.{mem, ⊆-within, minus-⊆}
+use Rattle.masks.proofs.Laws.AllBelow.{in-all}
+use Rattle.masks.proofs.Laws.Subsets.{mem, ⊆-within, minus-⊆, ∈-minus}
 use Rattle.masks.specs.Mask.{has, allBelow, minus, _∈_, _⊆_}
 use Rattle.outcome.specs.Outcome.{endLines}
 use Rattle.pass.proofs.Lawful.{lawful}
 use Rattle.pass.specs.Calls.{calls}
 use Rattle.refusals.specs.declared.Check.the-variants.{Sound}
-use Rattle.register.specs.Register.{siteLine}
+use Rattle.register.specs.Register.{worthOf, siteLine}
 use Rattle.rules.proofs.WorkWays.{table-rests}
 use Rattle.rules.specs.State.{accepts, confirmed, get}
 use Rattle.rules.specs.Vote.{voteOf}
 use Rattle.run.specs.Run.{theRun}
 use Rattle.run_text.specs.Run.{runText, ranText}
+use Rattle.sets.specs.Paper.{Intact, Befouled}
 use Rattle.sets.specs.Quorum.{largest, rounds}
 use Rattle.sets.specs.Slices.{fbqsOf, slicesOf}
 use Rattle.site_block.proofs.Load.{load-count, load-slice}
@@ -47,7 +49,7 @@ use Rattle.verdicts.specs.Verdicts.{meets, intact}
 use Rattle.votes.proofs.AnyVote.{is-run}
 use Rattle.published.proofs.Sets.{largest-inside}
 use Rattle.published.proofs.Voting.{of-state}
-use Rattle.published.specs.Files.{VerdictOf, ReadAsFiled, VerdictAsPublished, RegisterAsPublished}
+use Rattle.published.specs.Files.{VerdictOf, ReadAsFiled, VerdictAsPublished, RegisterAsPublished, WorthAsPublished}
 use Rattle.published.specs.Voting.{Confirms}
 
 reads : (image : List ℕ) → imageCheck image ≡ Sound → read image 4032 ≡ Reading.Reading.Sites (sitesOn image)
@@ -97,23 +99,50 @@ is-drill drill live v h = (
         let z = one (has drill v && not (has live v)) e in
         (mem (and-l (has drill v) (not (has live v)) z), λ y. clash (y .holds) (not-t (has live v) (and-r (has drill v) (not (has live v)) z)))
 
-pub drill-line : (drill live v : ℕ) → (siteLine drill live v ≡ line (ascii "site ") (decimal v ++ ascii " drill")) ↔ (mark v drill live ≡ 1)
+pub drill-line : (n F whole drill live v : ℕ)
+    → (siteLine n F whole drill live v ≡ line (ascii "site ") (decimal v ++ (ascii " drill" ++ worthOf n F whole v))) ↔ (mark v drill live ≡ 1)
 unfolding siteLine
-drill-line drill live v = (
+drill-line n F whole drill live v = (
   λ e. ⊎-elim (λ h. eqb-true (mark v drill live) 1 h) (λ h. absurd (other (rw h at e))) (cases (eqb (mark v drill live) 1)),
   λ h. rw h refl,
 )
   where
-    other : line (ascii "site ") (decimal v ++ ascii " live") ≡ line (ascii "site ") (decimal v ++ ascii " drill") → ⊥
+    other : line (ascii "site ") (decimal v ++ (ascii " live" ++ worthOf n F whole v)) ≡ line (ascii "site ") (decimal v ++ (ascii " drill" ++ worthOf n F whole v)) → ⊥
     other e =
+        let w = worthOf n F whole v in
         omega (
           arith,
           ap length e,
-          length-line (ascii "site ") (decimal v ++ ascii " live"),
-          length-line (ascii "site ") (decimal v ++ ascii " drill"),
-          length-append (decimal v) (ascii " live"),
-          length-append (decimal v) (ascii " drill"),
+          length-line (ascii "site ") (decimal v ++ (ascii " live" ++ w)),
+          length-line (ascii "site ") (decimal v ++ (ascii " drill" ++ w)),
+          length-append (decimal v) (ascii " live" ++ w),
+          length-append (decimal v) (ascii " drill" ++ w),
+          length-append (ascii " live") w,
+          length-append (ascii " drill") w,
         )
+
+-- the two words of a correct site, of at most 12 sites
+module _ (n F whole v : ℕ) (f : has F v ≡ false) (l : n ≤ 12) where
+  worth-is : worthOf n F whole v ≡ cond (has whole v) (ascii " intact") (ascii " befouled")
+  unfolding worthOf
+  worth-is = rw (f, le-ltb 12 n l) refl
+
+  differ : ascii " befouled" ≡ ascii " intact" → ⊥
+  differ e = omega (arith, ap length e)
+
+  pub intact-word : (worthOf n F whole v ≡ ascii " intact") ↔ (v ∈ whole)
+  intact-word = (λ e. mem (word (has whole v) (sym worth-is ∙ e)), λ w. worth-is ∙ rw (w .holds) refl)
+    where
+      word : (b : Bool) → cond b (ascii " intact") (ascii " befouled") ≡ ascii " intact" → b ≡ true
+      word true e = refl
+      word false e = absurd (differ e)
+
+  pub befouled-word : (worthOf n F whole v ≡ ascii " befouled") ↔ (has whole v ≡ false)
+  befouled-word = (λ e. word (has whole v) (sym worth-is ∙ e), λ w. worth-is ∙ rw w refl)
+    where
+      word : (b : Bool) → cond b (ascii " intact") (ascii " befouled") ≡ ascii " befouled" → b ≡ false
+      word true e = absurd (differ (sym e))
+      word false e = refl
 
 -- of a table that was read, of as many sites as its length says
 module _ (t : List ℕ) (F : ℕ) (T : Table t (sites (length t))) where
@@ -122,7 +151,8 @@ module _ (t : List ℕ) (F : ℕ) (T : Table t (sites (length t))) where
 
   drills : (list : List ℕ) (v : ℕ) → v < n → (v ∈ F → ⊥) →
       let s = theRun t F list .state in
-      (siteLine (get s (confirmed n 0)) (get s (confirmed n 1)) v ≡ line (ascii "site ") (decimal v ++ ascii " drill"))
+      let whole = intact (slicesOf t) n F in
+      (siteLine n F whole (get s (confirmed n 0)) (get s (confirmed n 1)) v ≡ line (ascii "site ") (decimal v ++ (ascii " drill" ++ worthOf n F whole v)))
       ↔ (Confirms (fbqsOf t n) v (get s (accepts 0 v)) × (Confirms (fbqsOf t n) v (get s (accepts 1 v)) → ⊥))
   drills list v l f =
       let s = theRun t F list .state in
@@ -130,9 +160,24 @@ module _ (t : List ℕ) (F : ℕ) (T : Table t (sites (length t))) where
       let a = P v 0 l (omega arith) f .1 in
       let b = P v 1 l (omega arith) f .1 in
       let d = is-drill (get s (confirmed n 0)) (get s (confirmed n 1)) v (omega (arith, T .few-sites)) in
-      let k = drill-line (get s (confirmed n 0)) (get s (confirmed n 1)) v in (
+      let k = drill-line n F (intact (slicesOf t) n F) (get s (confirmed n 0)) (get s (confirmed n 1)) v in (
         λ x. let y = d .0 (k .0 x) in (a .0 (y .0), λ z. y .1 (b .1 z)),
         λ x. k .1 (d .1 (a .1 (x .0), λ z. x .1 (b .0 z))),
+      )
+
+  worths : n ≤ 12 → (v : ℕ) → v < n → (v ∈ F → ⊥) →
+      let whole = intact (slicesOf t) n F in
+      ((worthOf n F whole v ≡ ascii " intact") ↔ Intact (fbqsOf t n) F v) × ((worthOf n F whole v ≡ ascii " befouled") ↔ Befouled (fbqsOf t n) F v)
+  worths l v h f =
+      let D = table-verdicts t n T in
+      let whole = intact (slicesOf t) n F in
+      let g : has F v ≡ false = is-false (has F v) (λ z. f (mem z)) in
+      let a = intact-word n F whole v g l in
+      let b = befouled-word n F whole v g l in
+      let i = D .intact-set F v in
+      let o = D .befouled-set F v in (
+        (λ e. i .0 (a .0 e), λ x. a .1 (i .1 x)),
+        (λ e. o .0 (∈-minus (in-all {n = n} h) (λ z. clash (z .holds) (b .0 e))), λ x. b .1 (is-false (has whole v) (λ z. x .1 (i .0 (mem z))))),
       )
 
   judged : F ⊆ allBelow n → n ≤ 12 → VerdictOf (fbqsOf t n) n F (judgedText F t)
@@ -159,12 +204,23 @@ register-as-published F image list e c =
     let T = image-table image e in
     let same : sites (length t) ≡ sitesOn image = sites-of T in
     let r = theRun t F list in (
-      rw (e, c) (ap (λ (m : ℕ). endLines F m (r .passes) (r .state) (r .answers)) same),
+      rw (e, c) (ap (λ (m : ℕ). endLines F m (intact (slicesOf t) m F) (r .passes) (r .state) list (r .answers)) same),
       subst (λ (m : ℕ). (v : ℕ) → v < m → (v ∈ F → ⊥) →
-          (siteLine (get (r .state) (confirmed m 0)) (get (r .state) (confirmed m 1)) v ≡ line (ascii "site ") (decimal v ++ ascii " drill"))
+          (siteLine m F (intact (slicesOf t) m F) (get (r .state) (confirmed m 0)) (get (r .state) (confirmed m 1)) v
+          ≡ line (ascii "site ") (decimal v ++ (ascii " drill" ++ worthOf m F (intact (slicesOf t) m F) v)))
           ↔ (Confirms (fbqsOf t m) v (get (r .state) (accepts 0 v)) × (Confirms (fbqsOf t m) v (get (r .state) (accepts 1 v)) → ⊥))) same
           (drills t F (subst (Table t) (sym same) T) list),
     )
+
+pub worth-as-published : WorthAsPublished
+worth-as-published F image e sub l =
+    let t = tableOn image in
+    let T = image-table image e in
+    let same : sites (length t) ≡ sitesOn image = sites-of T in
+    subst (λ (m : ℕ). m ≤ 12 → (v : ℕ) → v < m → (v ∈ F → ⊥) →
+    ((worthOf m F (intact (slicesOf t) m F) v ≡ ascii " intact") ↔ Intact (fbqsOf t m) F v)
+    × ((worthOf m F (intact (slicesOf t) m F) v ≡ ascii " befouled") ↔ Befouled (fbqsOf t m) F v)) same
+    (worths t F (subst (Table t) (sym same) T)) l
 
 pub verdict-as-published : VerdictAsPublished
 unfolding verdictText

@@ -12,7 +12,7 @@ use Rattle.masks.proofs.Laws.Subsets.{member-of}
 use Rattle.masks.specs.Mask.{_∈_}
 use Rattle.pass.proofs.Lawful.{lawful}
 use Rattle.pass.specs.Calls.{calls}
-use Rattle.register.specs.Register.{siteLine}
+use Rattle.register.specs.Register.{worthOf, siteLine}
 use Rattle.rules.proofs.SoundLaws.{confirmed-correct}
 use Rattle.rules.proofs.WorkWays.{table-rests}
 use Rattle.rules.specs.State.{accepts, confirmed, get}
@@ -27,6 +27,7 @@ use Rattle.votes.specs.Vote.{runOf}
 use Rattle.published.proofs.Files.{image-table, is-drill, drill-line}
 use Rattle.published.proofs.Sets.{shared-as-published, intact-as-published}
 use Rattle.published.proofs.Voting.{of-state}
+use Rattle.published.specs.Files.{wholeOn}
 use Rattle.published.specs.Sets.{named}
 use Rattle.published.specs.Union.{UnionPromise, Relied, AgreedByVerdict, RegisterAgrees}
 use Rattle.published.specs.Voting.{Confirms}
@@ -47,20 +48,20 @@ agreed-by-verdict t F m R = (
   λ list state answers p T. run-agrees t F list state answers p T (premises R),
 )
 
--- of n sites and a state s: no line says drill while a correct site has confirmed live
-NoLine : List ℕ → ℕ → ℕ → List ℕ → Type 0
-NoLine t n F s =
+-- of n sites, those of `whole` intact, and a state s: no line says drill while a correct site has confirmed live
+NoLine : List ℕ → ℕ → ℕ → ℕ → List ℕ → Type 0
+NoLine t n F whole s =
     (v w : ℕ) → v < n → w < n → (w ∈ F → ⊥) →
-    siteLine (get s (confirmed n 0)) (get s (confirmed n 1)) v ≡ line (ascii "site ") (decimal v ++ ascii " drill") →
+    siteLine n F whole (get s (confirmed n 0)) (get s (confirmed n 1)) v ≡ line (ascii "site ") (decimal v ++ (ascii " drill" ++ worthOf n F whole v)) →
     Confirms (fbqsOf t n) w (get s (accepts 1 w)) → ⊥
 
-no-line : {t : List ℕ} {n : ℕ} → Table t n → (F : ℕ) → Premises (fbqsOf t n) F → (l : List Call) → NoLine t n F (runOf (voteOf t n F) l .state)
+no-line : {t : List ℕ} {n : ℕ} → Table t n → (F whole : ℕ) → Premises (fbqsOf t n) F → (l : List Call) → NoLine t n F whole (runOf (voteOf t n F) l .state)
 unfolding NoLine
-no-line {t} {n} T F P l v w hv hw g drill live =
+no-line {t} {n} T F whole P l v w hv hw g drill live =
     let s = runOf (voteOf t n F) l .state in
     let S = is-run (voteOf t n F) (lawful T F) l .1 in
     let d = is-drill (get s (confirmed n 0)) (get s (confirmed n 1)) v (omega (arith, T .few-sites)) .0
-    (drill-line (get s (confirmed n 0)) (get s (confirmed n 1)) v .0 drill) .0 in
+    (drill-line n F whole (get s (confirmed n 0)) (get s (confirmed n 1)) v .0 drill) .0 in
     table-agrees T F P l .no-two v w (confirmed-correct S (omega arith) d) g d (of-state (table-rests T) S w 1 hw (omega arith) g .1 .1 live)
 
 pub register-agrees : RegisterAgrees
@@ -68,4 +69,4 @@ unfolding NoLine
 register-agrees F image list e c P =
     let t = tableOn image in
     let T = image-table image e in
-    subst (λ (m : ℕ). NoLine t (sitesOn image) F (runOf (voteOf t m F) (calls list) .state)) (sym (sites-of T)) (no-line T F P (calls list))
+    subst (λ (m : ℕ). NoLine t (sitesOn image) F (wholeOn F image) (runOf (voteOf t m F) (calls list) .state)) (sym (sites-of T)) (no-line T F (wholeOn F image) P (calls list))

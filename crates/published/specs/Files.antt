@@ -14,17 +14,18 @@ use Rattle.masks.specs.Mask.{minus, allBelow, _∈_, _⊆_}
 use Rattle.outcome.specs.Outcome.{endLines}
 use Rattle.refusals.specs.declared.Check.the-variants.{Sound, Refused}
 use Rattle.refusals.specs.declared.Refusal.the-variants.{NoQuorum, Room}
-use Rattle.register.specs.Register.{siteLine}
+use Rattle.register.specs.Register.{worthOf, siteLine}
 use Rattle.rules.specs.State.{accepts, confirmed, width, get}
 use Rattle.run.specs.Run.{runCheck, theRun}
 use Rattle.run_text.specs.Run.{runText}
-use Rattle.sets.specs.Paper.{Fbqs, Intersection}
-use Rattle.sets.specs.Slices.{fbqsOf}
+use Rattle.sets.specs.Paper.{Fbqs, Intersection, Intact, Befouled}
+use Rattle.sets.specs.Slices.{fbqsOf, slicesOf}
 use Rattle.site_block.specs.Block.{countField, sliceField}
 use Rattle.table.specs.Table.{Table}
 use Rattle.text.specs.Text.{ascii, decimal}
 use Rattle.verdict_lines.specs.Verdict.{sevenLines}
 use Rattle.verdict_text.specs.Verdict.{verdictText}
+use Rattle.verdicts.specs.Verdicts as Verdicts
 use Rattle.published.specs.Sets.{LargestInside, IntactSites}
 use Rattle.published.specs.Voting.{Confirms}
 
@@ -63,17 +64,33 @@ VerdictAsPublished =
     (F : ℕ) (image : List ℕ) → imageCheck image ≡ Sound → F ⊆ allBelow (sitesOn image) → sitesOn image ≤ 12 →
     VerdictOf (fbqsRead image) (sitesOn image) F (verdictText F image)
 
+-- who is intact on the table that was read, when the sites of F are faulty
+abbrev pub wholeOn : ℕ → List ℕ → ℕ
+wholeOn F image = Verdicts.intact (slicesOf (tableOn image)) (sitesOn image) F
+
 -- the register: a correct site's line says drill exactly if the site has confirmed drill and not live, by the published rule, from the accepts that it
 -- heard in the run of the list
 abbrev pub RegisterAsPublished : Type 0
 RegisterAsPublished =
     (F : ℕ) (image list : List ℕ) → imageCheck image ≡ Sound → runCheck (tableOn image) F (length list) (width 64) 4096 ≡ Sound →
     let n = sitesOn image in
+    let whole = wholeOn F image in
     let r = theRun (tableOn image) F list in
-    (runText F image list ≡ endLines F n (r .passes) (r .state) (r .answers))
+    (runText F image list ≡ endLines F n whole (r .passes) (r .state) list (r .answers))
     × ((v : ℕ) → v < n → (v ∈ F → ⊥) →
-    (siteLine (get (r .state) (confirmed n 0)) (get (r .state) (confirmed n 1)) v ≡ line (ascii "site ") (decimal v ++ ascii " drill"))
+    (siteLine n F whole (get (r .state) (confirmed n 0)) (get (r .state) (confirmed n 1)) v
+    ≡ line (ascii "site ") (decimal v ++ (ascii " drill" ++ worthOf n F whole v)))
     ↔ (Confirms (fbqsRead image) v (get (r .state) (accepts 0 v)) × (Confirms (fbqsRead image) v (get (r .state) (accepts 1 v)) → ⊥)))
+
+-- what an entry is worth: of a correct site it says intact exactly if the site is intact, and befouled exactly if it is befouled, by the paper
+abbrev pub WorthAsPublished : Type 0
+WorthAsPublished =
+    (F : ℕ) (image : List ℕ) → imageCheck image ≡ Sound → F ⊆ allBelow (sitesOn image) → sitesOn image ≤ 12 →
+    let n = sitesOn image in
+    let whole = wholeOn F image in
+    (v : ℕ) → v < n → (v ∈ F → ⊥) →
+    ((worthOf n F whole v ≡ ascii " intact") ↔ Intact (fbqsRead image) F v)
+    × ((worthOf n F whole v ≡ ascii " befouled") ↔ Befouled (fbqsRead image) F v)
 
 -- 7 ("the table holds no quorum") is never the reader's answer
 abbrev pub SevenNever : Type 0

@@ -14,7 +14,7 @@ use Rattle.questions.specs.Answers.{sitesOf, shared, intact}
 use Rattle.questions.specs.declared.Sharing as Sharing
 use Rattle.questions.specs.declared.Standing as Standing
 use Rattle.refusals.specs.declared.Check.the-variants.{Sound}
-use Rattle.register.specs.Register.{siteLine}
+use Rattle.register.specs.Register.{worthOf, siteLine}
 use Rattle.rules.specs.State.{accepts, confirmed, width, get}
 use Rattle.run.specs.Run.{runCheck, theRun}
 use Rattle.run.specs.Theorems.{Taken, endState}
@@ -22,7 +22,7 @@ use Rattle.sets.specs.Paper.{Intact}
 use Rattle.text.specs.Text.{ascii, decimal}
 use Rattle.votes.specs.Call.{Call}
 use Rattle.votes.specs.Vote.{fresh}
-use Rattle.published.specs.Files.{fbqsRead}
+use Rattle.published.specs.Files.{fbqsRead, wholeOn}
 use Rattle.published.specs.Voting.{Confirms}
 
 -- The promise, of every sequence of steps and of every run: 004, theorem 5. And that a vote ends: theorem 6, and the mark of all intact sites.
@@ -51,9 +51,10 @@ RegisterAgrees =
     (F : ℕ) (image list : List ℕ) → imageCheck image ≡ Sound → runCheck (tableOn image) F (length list) (width 64) 4096 ≡ Sound →
     Premises (fbqsRead image) F →
     let n = sitesOn image in
+    let whole = wholeOn F image in
     let s = theRun (tableOn image) F list .state in
     (v w : ℕ) → v < n → w < n → (w ∈ F → ⊥) →
-    siteLine (get s (confirmed n 0)) (get s (confirmed n 1)) v ≡ line (ascii "site ") (decimal v ++ ascii " drill") →
+    siteLine n F whole (get s (confirmed n 0)) (get s (confirmed n 1)) v ≡ line (ascii "site ") (decimal v ++ (ascii " drill" ++ worthOf n F whole v)) →
     Confirms (fbqsRead image) w (get s (accepts 1 w)) → ⊥
 
 -- "the line `complete drill` says that all intact sites have one mark": where it is the first line that `desk missing` prints, so that the table meets too

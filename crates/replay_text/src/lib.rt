@@ -3,10 +3,10 @@ ghost use mathlib.Core.Path.{_≡_};
 ghost use Rattle.io.specs.Counts.{Counts};
 ghost use Rattle.text.specs.Written.{Writes};
 ghost use Rattle.replay_text.specs.Replay.{askedCheck, replayText};
-use check_text::ROOM;
 use image::Reading;
 use journal::Listed;
 use refusals::Check;
+use run_text::ROOM;
 
 // The table as in reading, then 10.
 fn asked(faulty: u64, image: &[u8]) -> Check

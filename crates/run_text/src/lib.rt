@@ -4,14 +4,30 @@ ghost use Prim.Native.Nat.{_*_, _≤_};
 ghost use lib.ListN.{length};
 ghost use Rattle.io.specs.Counts.{Counts};
 ghost use Rattle.text.specs.Written.{Writes};
+ghost use Rattle.questions.specs.Answers.{intact};
+ghost use Rattle.run_text.specs.Inner.{wholeOf};
 ghost use Rattle.run_text.specs.Run.{ranText, runText};
-use check_text::ROOM;
 use image::Reading;
+use questions::Standing;
 use run::Ran;
+
+// Room for the longest text, that of 64 sites and 4,096 calls.
+pub const ROOM: usize = 589824;
+
+// The sites that are intact, or nobody where that is not known.
+fn whole(table: &[u64], faulty: u64) -> u64
+    ensures { λ r. ⌜ r ≡ wholeOf (intact (now (table .entry)) faulty) ⌝ }
+{
+    let standing = verdict_questions::intact(table, faulty);
+    match standing {
+        Standing::Intact(set) => set,
+        Standing::Refused(_) => 0,
+    }
+}
 
 // The run of a list on a table that is read.
 fn run_read(table: &[u64], n: usize, faulty: u64, list: &[u8], room: &mut [u8]) -> usize
-    requires { ⌜ 196608 ≤ length (now room) ⌝ }
+    requires { ⌜ 589824 ≤ length (now room) ⌝ }
     requires { ⌜ length (now table) ≡ 63 * n ⌝ }
     requires { ⌜ n ≤ 64 ⌝ }
     ensures { λ r. ⌜ Writes (ranText faulty (now (table .entry)) (now (list .entry))) (now (room .entry)) 0 r (now (room .exit)) ⌝ }
@@ -22,13 +38,16 @@ fn run_read(table: &[u64], n: usize, faulty: u64, list: &[u8], room: &mut [u8]) 
     match ran {
         Ran::Refused(r) => refusal_lines::put_explained(room, 0, r),
         Ran::Passes(passes) => {
+            let whole = whole(table, faulty);
             let end = places::width(n);
             outcome::put_run(
                 room,
                 faulty,
                 n,
+                whole,
                 passes,
                 &state[..end],
+                list,
                 &answers[..list.len() / 4],
             )
         }

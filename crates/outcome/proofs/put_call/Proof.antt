@@ -1,10 +1,10 @@
--- `put_call` meets its contract: the number of the call, a space, its answer.
+-- `put_call` meets its contract: the number of the call, its answer, and the call as it is listed.
 use native.Mathlib.Omega.{arith}
 use borrow.Author.Needs.{needs}
-use Rattle.lines.proofs.Chain.{five}
-use Rattle.lines.specs.Lines.{line}
+use Rattle.lines.proofs.Chain.{three}
 use Rattle.outcome.specs.Outcome.{callLine}
 use Rattle.text.proofs.Width.{length-decimal}
+use Rattle.text.proofs.Written.{then}
 use Rattle.outcome.proofs.put_call.Statement.{statement}
 use Rattle.outcome.proofs.put_call.Tie as tie
 
@@ -19,15 +19,26 @@ put-requires-3 c κs =
     let a = c .before .before .before .before .before .before .before .before .before .before .before .before .before .before .before .before .before .before .before .before .before .args in
     omega (arith, length-decimal (a .i), length-decimal (a .answer))
 
+put-call-requires : tie.Need-put-call-requires
+put-call-requires c κs =
+    let a = c .before .before .before .before .before .before .before .before .before .before .before .before .before .before .before .before .before .before .before .before .before .before .before .before .before .args in
+    omega (arith, length-decimal (a .i), length-decimal (a .answer))
+
 returns : tie.Need-returns
-unfolding callLine line
+unfolding callLine
 returns c =
-    let c5 = c .before .before in
+    let c6 = c .before .before in
+    let c5 = c6 .before .before .before .before in
     let c4 = c5 .before .before .before .before .before in
     let c3 = c4 .before .before .before .before in
     let c2 = c3 .before .before .before .before .before in
     let c1 = c2 .before .before .before .before in
-    five (c1 .put .ensures) (c2 .put-decimal .ensures) (c3 .put2 .ensures) (c4 .put-decimal2 .ensures) (c5 .put3 .ensures) (omega arith)
+    let a = c1 .before .before .before .before .args in
+    three (c1 .put .ensures) (c2 .put-decimal .ensures)
+    (three (c3 .put2 .ensures) (c4 .put-decimal2 .ensures)
+    (then (c5 .put3 .ensures) (c6 .put-call .ensures) (omega (arith, length-decimal (a .i), length-decimal (a .answer))))
+    (omega (arith, length-decimal (a .i))))
+    (omega arith)
 
 pub put-call-spec : {M : Type 1} → statement M
 put-call-spec =
@@ -41,5 +52,6 @@ put-call-spec =
     put-decimal-requires-2
     (λ c. search needs)
     put-requires-3
+    put-call-requires
     (λ c. search needs)
     returns)

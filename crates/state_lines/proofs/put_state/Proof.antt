@@ -43,7 +43,7 @@ returns c =
     let v = c .before .before .before .before .before .before .before .before .before .before .before .before .before .before .before .before .before .before .before .before .before .before .before .before .before in
     let a = v .before .before .before .args in
     let b = v .voted .result in
-    as-text (state-lines (a .n) b (now (a .state)) (v .voted .ensures))
+    as-text (state-lines (a .n) (a .faulty) (a .whole) b (now (a .state)) (v .voted .ensures))
     (three (c .before .before .before .before .before .before .before .before .before .before .before .before .before .before .before .before .before .before .line-sides .ensures)
     (c .before .before .before .before .before .before .before .before .before .before .before .line-sides2 .ensures)
     (then (c .before .before .before .before .before .before .line-sides3 .ensures) (c .before .before .put-sites .ensures)
