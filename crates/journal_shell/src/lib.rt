@@ -33,7 +33,8 @@ pub fn replay_of(table: usize, sites: usize, kept: usize) {
         return;
     };
     let journal = &journal[..m];
-    let mut room = [0u8; 196608];
+    let mut room = [0u8; run_text::ROOM];
     let end = replay_text::replay(faulty, image, journal, &mut room);
     journal_printing::say_replay(faulty, image, journal, &room[..end]);
+    doubting::doubt_kept(b"desk replay TABLE FAULTY JOURNAL", image, journal, room[0]);
 }

@@ -20,7 +20,8 @@ pub fn run_of(table: usize, sites: usize, calls: usize) {
         return;
     };
     let list = &list[..m];
-    let mut room = [0u8; 196608];
+    let mut room = [0u8; run_text::ROOM];
     let end = run_text::run(faulty, image, list, &mut room);
     call_printing::say_run(faulty, image, list, &room[..end]);
+    doubting::doubt(b"desk run TABLE FAULTY CALLS", image, list, room[0]);
 }
