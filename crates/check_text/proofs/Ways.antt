@@ -24,6 +24,11 @@ stopped : (k : ℕ) (r : Refusal) (s : Check) → toReading k s ≡ Reading.Refu
 stopped k r Sound h = let z : _≡_ {A = ℕ} 0 1 = cc in absurd (omega arith)
 stopped k r (Refused x) h = cc
 
+-- a sound image is read, with as many sites as it has blocks
+pub reads : (image : List ℕ) → imageCheck image ≡ Sound → read image 4032 ≡ Reading.Sites (sitesOn image)
+unfolding read imageCheck
+reads image e = rw e refl
+
 module _ (image : List ℕ) where
   pub image-sound : (n : ℕ) → read image 4032 ≡ Reading.Sites n → (imageCheck image ≡ Sound) × (sitesOn image ≡ n)
   unfolding read imageCheck

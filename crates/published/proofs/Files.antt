@@ -8,14 +8,13 @@ use native.Mathlib.Omega.{arith}
 use borrow.Author.Tests.{eqb-true, le-ltb}
 use lib.Dec.{eqb}
 use lib.ListN.{length, length-append}
+use Rattle.check_text.proofs.Ways.{reads}
 use Rattle.check_text.specs.Table.{sitesOn, tableOn, imageCheck}
 use Rattle.ground.proofs.Logic.{cases, and-l, and-r, and-i, clash, is-false, not-t}
 use Rattle.ground.specs.Pieces.{part}
 use Rattle.image_blocks.proofs.Load.{loads-site}
 use Rattle.image.proofs.ReadLaws.{read-taken, blocks-shape, loads-table}
 use Rattle.image_blocks.specs.Image.{loads}
-use Rattle.image.specs.Read.{read}
-use Rattle.image.specs.declared.Reading as Reading
 use Rattle.lines.proofs.Lengths.{length-line}
 use Rattle.lines.specs.Lines.{line}
 use Rattle.mark.specs.Mark.{mark}
@@ -51,10 +50,6 @@ use Rattle.published.proofs.Sets.{largest-inside}
 use Rattle.published.proofs.Voting.{of-state}
 use Rattle.published.specs.Files.{VerdictOf, ReadAsFiled, VerdictAsPublished, RegisterAsPublished, WorthAsPublished}
 use Rattle.published.specs.Voting.{Confirms}
-
-reads : (image : List ℕ) → imageCheck image ≡ Sound → read image 4032 ≡ Reading.Reading.Sites (sitesOn image)
-unfolding read imageCheck
-reads image e = rw e refl
 
 pub image-table : (image : List ℕ) → imageCheck image ≡ Sound → Table (tableOn image) (sitesOn image)
 image-table image e =

@@ -11,10 +11,11 @@ use borrow.Author.Tests.{ltb-true, ltb-false}
 use Rattle.ground.proofs.Logic.{cases}
 use Rattle.ground.proofs.Numbers.{same?}
 use Rattle.check_text.proofs.Ways.{image-sound}
+use Rattle.check_text.proofs.Ways.{reads}
 use Rattle.check_text.specs.Table.{sitesOn, tableOn, imageCheck}
 use Rattle.image.proofs.ReadLaws.{blocks-shape, read-taken, loads-sound}
 use Rattle.image.proofs.RoundTrip.{read-then-write, write-then-read}
-use Rattle.image.specs.Read.{toReading, read, readInto}
+use Rattle.image.specs.Read.{read, readInto}
 use Rattle.image.specs.RoundTrip.{Words}
 use Rattle.image.specs.declared.Reading as Reading
 use Rattle.image_blocks.proofs.Load.{length-loads, loads-front}
@@ -63,10 +64,6 @@ made-then-checked text out n e o =
     let k = length-replicate {A = ℕ} 4032 0 in
     let r = write-then-read t out z n (words t n s) w (rw k (omega arith)) .0 in
     (w, image-sound _ n (sym (ap (read _) k) ∙ r) .0)
-
-reads : (image : List ℕ) → imageCheck image ≡ Sound → read image 4032 ≡ Reading.Reading.Sites (sitesOn image)
-unfolding read imageCheck
-reads image c = ap (toReading (sitesOn image)) c
 
 module _ (image : List ℕ) (c : imageCheck image ≡ Sound) where
   same : tableIn (show (tableOn image)) ≡ tableOn image
