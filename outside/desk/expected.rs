@@ -127,14 +127,14 @@ pub fn listed(calls: &[u8]) -> String {
     calls.chunks(4).map(|call| said(call) + "\n").collect()
 }
 
-/// What the register's entry of a site is worth: whether it is faulty; up to 12 sites, whether it is intact
-fn worth(memory: &[u64], faulty: u64, site: usize) -> &'static str {
+/// What the register's entry of a site is worth: whether it is faulty; up to 12 sites, whether it is one of the intact
+fn worth(intact: Option<u64>, faulty: u64, site: usize) -> &'static str {
     let has = |set: u64| set >> site & 1 == 1;
-    match memory.len() / model::ROW {
+    match intact {
         _ if has(faulty) => "faulty",
-        13.. => "unknown",
-        _ if has(model::intact(memory, faulty).values[0]) => "intact",
-        _ => "befouled",
+        None => "unknown",
+        Some(intact) if has(intact) => "intact",
+        Some(_) => "befouled",
     }
 }
 
@@ -156,10 +156,11 @@ pub fn run(leaflet: &Leaflet, image: &[u8], faulty: u64, calls: &[u8]) -> String
     text += &format!("voted {}\n", two(model::voted_at));
     text += &format!("accepted {}\n", two(model::accepted_at));
     text += &format!("confirmed {}\n", two(model::confirmed_at));
+    let intact = (n <= 12).then(|| model::intact(&memory, faulty).values[0]);
     for site in 0..n {
         let mark = model::mark(site as u64, state[model::confirmed_at(n, 0)], state[model::confirmed_at(n, 1)]);
         let entry = if mark.values[0] == 1 { "drill" } else { "live" };
-        text += &format!("site {site} {entry} {}\n", worth(&memory, faulty, site));
+        text += &format!("site {site} {entry} {}\n", worth(intact, faulty, site));
     }
     for (i, (answer, call)) in answers.iter().zip(calls.chunks(4)).enumerate() {
         text += &format!("call {i} {answer} {}\n", said(call));
