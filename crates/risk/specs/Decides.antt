@@ -3,7 +3,7 @@ use Prim.Native.Nat.{ℕ, _≤_}
 use mathlib.Core.List.{List}
 use mathlib.Core.Logic.{_↔_}
 use mathlib.Core.Path.{_≡_}
-use Rattle.masks.specs.Mask.{single, allBelow, size, _∈_, _⊆_}
+use Rattle.masks.specs.Mask.{single, size, _∈_, _⊆_}
 use Rattle.sets.specs.Paper.{Fbqs, Intact, Befouled}
 use Rattle.sets.specs.Slices.{Slices, fbqsOf, slicesOf}
 use Rattle.table.specs.Table.{Table}
