@@ -1,25 +1,19 @@
 -- `same` is exact, and with demand 3 the registers agree.
-use Prim.Native.Nat.{ℕ, zero, suc, _+_, _*_, _/_, _%_, _≤_, _<_}
-use mathlib.Core.Bool.{Bool, true, false, _&&_, _||_, not}
-use mathlib.Core.List.{List, [], _∷_, List·Memᴰ, List·Memᴰ·head, List·Memᴰ·tail, List·Memᴰ·not-nil, List·Memᴰ·cases-cons}
-use mathlib.Core.Logic.{⊎-elim}
-use mathlib.Core.Path.{_≡_, refl, sym, ap, _∙_, subst}
+use Prim.Native.Nat.{ℕ, _+_, _*_, _/_, _<_}
+use mathlib.Core.Bool.{Bool, true, false, _&&_, _||_}
+use mathlib.Core.List.{List, List·Memᴰ}
+use mathlib.Core.Path.{_≡_, ap, subst}
 use native.Mathlib.Omega.{arith}
-use lib.Dec.{eqb, ltb}
 use lib.ListN.{length, getD}
-use borrow.Author.Tests.{eqb-true, eq-eqb, not-false}
 use Rattle.ground.proofs.Every.{every-of, every-at}
 use Rattle.ground.proofs.Logic.{and-l, and-r, and-i, clash}
-use Rattle.ground.proofs.Some.{some-of, some-ex}
-use Rattle.pass.proofs.Calls.{calls-at, calls-length}
 use Rattle.pass.specs.Calls.{calls, callAt}
 use Rattle.run.proofs.Public.{fit, any-order}
-use Rattle.run.specs.Run.{listMisshapen}
-use Rattle.same_calls.specs.Same.{isCall, hasCall, hasThat, covers, sameLists, proposed}
+use Rattle.same_calls.proofs.Listed.{whole, at-mem, mem-at, has-mem, mem-has}
+use Rattle.same_calls.specs.Same.{hasCall, hasThat, covers, sameLists, proposed}
 use Rattle.same_register.specs.Theorems.{SameIsExact, NoBoth, SameRegisters}
-use Rattle.table.specs.Table.{sites}
 use Rattle.votes.specs.Call.{Call, call}
-use Rattle.votes.specs.Passes.{Within, SameCalls}
+use Rattle.votes.specs.Passes.{Within}
 
 module _ (a b : List ℕ) (fa : length a ≡ 4 * (length a / 4)) (fb : length b ≡ 4 * (length b / 4)) where
   covers-within : covers a b ≡ true → Within (calls a) (calls b)
