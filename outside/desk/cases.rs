@@ -90,11 +90,6 @@ pub fn verdict_files() -> Vec<File> {
     ]
 }
 
-/// What the verdict's cases are to print, each with the file's name before it.
-pub fn verdict_text(files: &[File]) -> String {
-    files.iter().map(|(name, bytes)| format!("verdict < {name}\n{}", model::verdict(bytes))).collect()
-}
-
 /// The files that the desk's cases name.
 pub fn desk_files() -> Vec<File> {
     let (a, b) = (image(&table_a()), image(&table_b()));
@@ -271,10 +266,3 @@ desk replay TABLE FAULTY JOURNAL    the vote, as desk run prints it, of the call
 TEXT, TABLE, CALLS and JOURNAL name files; FAULTY is site numbers behind an s, as in s3,12, s alone for nobody;
 or 1 to 16 hexadecimal digits, bit v for site v, 0 for nobody
 ";
-
-/// What the desk's cases are to print, one after the other, each with its call before it.
-pub fn desk_text(leaflet: &Leaflet, files: &[File], calls: &[Vec<&'static str>]) -> String {
-    let heading = |words: &[&str]| words.iter().fold("desk".to_string(), |line, word| line + " " + word) + "\n";
-    let mut files = files.to_vec();
-    calls.iter().map(|words| heading(words) + &desk_answer(leaflet, &mut files, words).unwrap_or_default()).collect()
-}

@@ -1,5 +1,5 @@
-//! The samples and the cases of the programs: `write ROOT` makes the files under ROOT, `try ROOT` runs the programs of
-//! ROOT/target/bin on them and compares.
+//! The samples, and what each program is run on when it is built: `write ROOT` makes the files under ROOT. `try ROOT` runs
+//! the programs of ROOT/target/bin on all cases and compares.
 
 mod cases;
 mod expected;
@@ -82,19 +82,10 @@ fn args(words: &[&str]) -> String {
 
 fn write(root: &Path, leaflet: &Leaflet) {
     put(&root.join("samples"), &samples());
-    let verdict = root.join("crates/verdict_cases");
-    let files = cases::verdict_files();
-    put(&verdict.join("data"), &files);
-    let names: Vec<&str> = files.iter().map(|(name, _)| *name).collect();
-    fs::write(verdict.join("args"), args(&names)).expect("args");
-    fs::write(verdict.join("stdout"), cases::verdict_text(&files)).expect("stdout");
-    let (program, (_, input)) = (root.join("crates/verdict"), &files[10]);
+    let verdicts = cases::verdict_files();
+    let (program, (_, input)) = (root.join("crates/verdict"), &verdicts[10]);
     put(&program, &[("stdin", input.clone()), ("stdout", model::verdict(input).into_bytes())]);
-    let desk = root.join("crates/desk_cases");
-    let (files, calls) = (cases::desk_files(), cases::desk_calls());
-    put_data(&desk.join("data"), &files);
-    fs::write(desk.join("args"), args(&calls.join(&"--"))).expect("args");
-    fs::write(desk.join("stdout"), cases::desk_text(leaflet, &files, &calls)).expect("stdout");
+    let files = cases::desk_files();
     let (program, call) = (root.join("crates/desk"), ["run", "b.table", "8", "two-faced.calls"]);
     let named: Vec<File> = files.iter().filter(|(name, _)| call.contains(name)).cloned().collect();
     let text = cases::desk_answer(leaflet, &mut files.clone(), &call).expect("an answer");
