@@ -1,5 +1,5 @@
 /* The firmware's archive, tried from C against model.h: the published vector, every length, every single damaged bit, random blocks, every site;
- * and the stack that each call uses, measured on a painted stack. Blocks are lent read-only and end at a page that may not be touched. */
+ * and the stack that each call and the example use, measured on a painted stack. Blocks are lent read-only and end at a page that may not be touched. */
 #define _GNU_SOURCE
 #include <stdio.h>
 #include <stdlib.h>
@@ -13,7 +13,9 @@
 #define MOST 1100
 #define PAINT 0xa5
 #define STACK 65536
-#define STACK_ALLOWED 1024
+/* The board has 1,024 bytes for everything. A call may take a quarter of it: a copy of the block, as 126 words, would take half. */
+#define BOARD 1024
+#define STACK_ALLOWED 256
 
 static unsigned long tried;
 
@@ -102,7 +104,6 @@ static uint64_t call_painted(void *function, uint64_t a, uint64_t b, uint64_t c,
     return answer & 0xff;
 }
 
-#if !defined(__x86_64__)
 /* A function that writes a copy of a block to its stack. Where a call puts no return address there, the measure of one that needs no stack is 0, as a
  * measure that sees nothing would be: this one it must see. */
 static uint64_t __attribute__((noinline)) copies(const uint8_t *block, size_t length)
@@ -115,7 +116,11 @@ static uint64_t __attribute__((noinline)) copies(const uint8_t *block, size_t le
         sum += copy[i];
     return sum;
 }
-#endif
+
+/* ---- the example, of example.c: what a controller does, and the same with what is printed of it */
+
+void controller(void);
+int example(void);
 
 /* ---- numbers that are the same in each run */
 
@@ -206,12 +211,10 @@ int main(void)
     printf("marks of sites 0 to 70 and of the largest number: 1 for drill without live, 11 above 63, else 0\n");
 
     /* the stack */
-    size_t used, most_check = 0, most_mark = 0;
+    size_t used, most_check = 0, most_mark = 0, of_controller, of_example;
     model_one_site(block);
-#if !defined(__x86_64__)
     call_painted((void *)copies, (uint64_t)block, 512, 0, &used);
     same("a copy of a block is seen on the painted stack", used, used >= 512, 1);
-#endif
     for (size_t length = 0; length <= MOST; length++) {
         uint64_t answer = call_painted((void *)siren_block_check, (uint64_t)block, length, 0, &used);
         same("length on the painted stack", length, (unsigned)answer, length == 512 ? 0 : 1);
@@ -224,9 +227,14 @@ int main(void)
         if (used > most_mark)
             most_mark = used;
     }
-    printf("stack: block check %zu bytes, site mark %zu bytes, of %d allowed\n", most_check, most_mark, STACK_ALLOWED);
-    if (most_check > STACK_ALLOWED || most_mark > STACK_ALLOWED)
+    call_painted((void *)controller, 0, 0, 0, &of_controller);
+    call_painted((void *)example, 0, 0, 0, &of_example);
+    printf("stack: block check %zu bytes, site mark %zu bytes, of %d allowed; the example's controller, both calls in it, %zu of %d; the whole example, which prints, %zu\n",
+           most_check, most_mark, STACK_ALLOWED, of_controller, BOARD, of_example);
+    if (most_check > STACK_ALLOWED || most_mark > STACK_ALLOWED || of_controller > BOARD) {
+        printf("firmware: more stack than is allowed\n");
         return 1;
+    }
 
     printf("firmware: %lu answers right\n", tried);
     return 0;
