@@ -1,8 +1,15 @@
 /* What the controllers' firmware calls: the check of one lent block of a table of groups, and the mark of one site.
  *
  * Both functions are proved to give the answers written here, for every argument. Link target/staticlib/libfirmware.a (x86-64), which
- * `rt staticlib firmware` writes. They keep no memory between calls, write none, use no heap, call nothing outside the archive and always
- * return. Stack for everything below the call: 8 bytes each (the return address), measured by outside/firmware/test.c, which refuses more than 1,024.
+ * `rt staticlib firmware` writes. They keep no memory between calls, write none, use no heap and always return.
+ *
+ * Stack, on x86-64, for everything below the call:
+ *
+ *   siren_block_check   8 bytes, the return address; the function itself takes none, and keeps no copy of the block
+ *   siren_site_mark     8 bytes, the same
+ *
+ * Neither calls anything else, in the archive or outside it. outside/firmware/run measures this, on painted memory and by the compiler's frames, and refuses
+ * more than 256 bytes for either. A controller that makes both calls (outside/firmware/example.c) is measured there too.
  */
 #ifndef SIREN_FIRMWARE_H
 #define SIREN_FIRMWARE_H
