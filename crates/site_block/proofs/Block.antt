@@ -58,7 +58,7 @@ module _ (b : List ℕ) (l : countField b ≤ 62) where
       (λ h. places-filled (λ k g s. sym (load-slice b k s) ∙ zero-above (load b) h k g s))
 
 -- what a block holds is refused as its 63 numbers are
-row-site : (n i : ℕ) (b : List ℕ) → rowCheck n i (countField b) (sliceField b) (blockUnfilled b) ≡ siteCheck n i (load b)
+pub row-site : (n i : ℕ) (b : List ℕ) → rowCheck n i (countField b) (sliceField b) (blockUnfilled b) ≡ siteCheck n i (load b)
 unfolding siteCheck load
 row-site n i b =
     row-alike n i (countField b) (sliceField b) (slice (load b)) (blockUnfilled b) (rowUnfilled (load b))
