@@ -1,13 +1,13 @@
 -- Laws of little-endian numbers: what was written is read, what was read is written, and two fields side by side are one.
-use Prim.Native.Nat.{ℕ, zero, suc, _+_, _*_, _/_, _%_, _^_, _≤_, _<_}
+use Prim.Native.Nat.{ℕ, zero, suc, _+_, _-_, _*_, _/_, _%_, _^_, _≤_, _<_}
 use mathlib.Core.List.{List, [], _∷_, _++_}
 use mathlib.Core.Path.{_≡_, refl, sym, ap, _∙_}
-use native.Mathlib.Nat.{div-one, one-le-pow, mul-comm, div-div-eq-div-mul, mod-lt, pow-suc, pow-zero, zero-add, add-zero, suc-add, div-lt-iff-lt-mul}
+use native.Mathlib.Nat.{le-refl, add-sub-cancel-left, div-one, one-le-pow, mul-comm, div-div-eq-div-mul, mod-lt, pow-suc, pow-zero, zero-add, add-zero, suc-add, div-lt-iff-lt-mul}
 use native.Mathlib.Numerals.{add-one}
 use native.Mathlib.Omega.{arith}
 use lib.Arith.{mod-mul, digits-mod, digits-div}
 use lib.ListN.{length, getD, take, drop, length-drop, set}
-use lib.Seq.{take-nil, drop-nil, sets, drop-at, take-at, length-take-le, getD-drop, drop-append-le, take-append-le}
+use lib.Seq.{take-nil, drop-nil, sets, drop-at, take-at, length-take-le, getD-drop, drop-append-le, take-append-le, take-take}
 use Rattle.le.specs.Le.{Bytes, number, digits, field}
 
 -- one byte more: holds also past the end, where every byte is 0
@@ -32,6 +32,9 @@ field-first w b at = rw (add-one at) (field-suc w b at)
 
 pub field2 : (b : List ℕ) (at : ℕ) → field 2 b at ≡ getD b at 0 + 256 * getD b (at + 1) 0
 field2 b at = omega (arith, field-first 1 b at, field-step 0 b at 1, field-zero b (at + 2))
+
+pub field4 : (b : List ℕ) (at : ℕ) → field 4 b at ≡ getD b at 0 + 256 * getD b (at + 1) 0 + 65536 * getD b (at + 2) 0 + 16777216 * getD b (at + 3) 0
+field4 b at = omega (arith, field-first 3 b at, field-step 2 b at 1, field-step 1 b at 2, field-step 0 b at 3, field-zero b (at + 4))
 
 -- two fields side by side are one
 pub field-plus : (v w : ℕ) (b : List ℕ) (at : ℕ) → field (v + w) b at ≡ field v b at + 256 ^ v * field w b (at + v)
@@ -111,6 +114,11 @@ field-front w b q at h =
     let h₁ : at ≤ length b = omega arith in
     let h₂ : w ≤ length (drop at b) = rw length-drop (omega arith) in
     rw (drop-append-le at b q h₁, take-append-le w (drop at b) q h₂) refl
+
+-- a field of the part that it is
+pub field-cut : (w : ℕ) (b : List ℕ) (at : ℕ) → field w (take (at + w - at) (drop at b)) 0 ≡ field w b at
+unfolding field
+field-cut w b at = rw (add-sub-cancel-left at w) (ap number (take-take w w (drop at b) (le-refl w)))
 
 -- a field that is a piece of the list
 pub field-at : (w : ℕ) (p x q : List ℕ) (at : ℕ) → length p ≡ at → length x ≡ w → field w (p ++ (x ++ q)) at ≡ number x

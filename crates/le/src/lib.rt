@@ -20,20 +20,24 @@ pub fn get16(b: &[u8], at: usize) -> u16
     (wide(b[at]) + 256 * wide(b[at + 1])) as u16
 }
 
-// The 32-bit number in the four bytes from at.
+// The 32-bit number in the four bytes from at, added from the lowest: so it is compiled as one read.
 pub fn get32(b: &[u8], at: usize) -> u32
     requires { ⌜ at + 4 ≤ length (now b) ⌝ }
     ensures { λ r. ⌜ r ≡ field 4 (now (b .entry)) at ⌝ }
 {
-    (get16(b, at) as u32) + 65536 * (get16(b, at + 2) as u32)
+    (wide(b[at])
+        + 256 * wide(b[at + 1])
+        + 65536 * wide(b[at + 2])
+        + 16777216 * wide(b[at + 3])) as u32
 }
 
-// The 64-bit number in the eight bytes from at.
+// The 64-bit number in the eight bytes from at, two halves of one part: so it is compiled as one read.
 pub fn get64(b: &[u8], at: usize) -> u64
     requires { ⌜ at + 8 ≤ length (now b) ⌝ }
     ensures { λ r. ⌜ r ≡ field 8 (now (b .entry)) at ⌝ }
 {
-    (get32(b, at) as u64) + 4294967296 * (get32(b, at + 4) as u64)
+    let part = &b[at..at + 8];
+    (get32(part, 0) as u64) + 4294967296 * (get32(part, 4) as u64)
 }
 
 // Writes a 16-bit number into bytes at and at + 1.

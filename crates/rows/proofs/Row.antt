@@ -2,7 +2,7 @@
 use Prim.Native.Nat.{ℕ, zero, suc, _+_, _-_, _≤_, _<_}
 use mathlib.Core.Bool.{Bool, true, false, _&&_, _||_, not, or-true}
 use mathlib.Core.Logic.{_⊎_, ⊎-elim}
-use mathlib.Core.Path.{_≡_, refl, sym, ap, subst, _∙_}
+use mathlib.Core.Path.{_≡_, refl, sym, ap, ap₂, subst, _∙_}
 use native.Mathlib.Nat.{not-suc-le-zero, suc-ne-zero, eq-or-lt-of-le}
 use native.Mathlib.Omega.{arith}
 use lib.Bits.{bitAnd, bitOr}
@@ -13,36 +13,52 @@ use Rattle.masks.proofs.Laws.Subsets.{mem, ⊆-refl, ⊆-trans, within-⊆, ⊆
 use Rattle.masks.specs.Mask.{has, within, allBelow, _∈_, _⊆_}
 use Rattle.refusals.proofs.First.{orElse-sound, first-all, first-sound, first-alike, kept, missed}
 use Rattle.refusals.specs.First.{orElse, refuse, first}
+use Rattle.refusals.specs.declared.Check.{Check}
 use Rattle.refusals.specs.declared.Check.the-variants.{Sound, Refused}
 use Rattle.refusals.specs.declared.Refusal.{Refusal}
 use Rattle.refusals.specs.declared.Refusal.the-variants.{Count, Slice, Order, Filler}
+use Rattle.rows.specs.Inner.{behindCheck}
 use Rattle.rows.specs.Row.{strange, unordered, sliceCheck, rowCheck}
 
 pred-suc : (i : ℕ) → suc i - 1 ≡ i
 pred-suc i = omega arith
 
--- slice k of site v in a table of n sites
-module _ (n v : ℕ) (slice : ℕ → ℕ) (k : ℕ) where
-  pub lacks-owner : has (slice k) v ≡ false → sliceCheck n v slice k ≡ Refused (Slice v)
-  unfolding sliceCheck strange
+-- a slice q of site v at place k, in a table of n sites, and the slice before it
+module _ (n v k before q : ℕ) where
+  pub lacks-owner : has q v ≡ false → behindCheck n v k before q ≡ Refused (Slice v)
+  unfolding behindCheck strange
   lacks-owner e = rw e refl
 
-  pub names-above : within (slice k) (allBelow n) ≡ false → sliceCheck n v slice k ≡ Refused (Slice v)
-  unfolding sliceCheck strange
+  pub names-above : within q (allBelow n) ≡ false → behindCheck n v k before q ≡ Refused (Slice v)
+  unfolding behindCheck strange
   names-above e = rw (e, or-true) refl
 
-  module _ (p : has (slice k) v ≡ true) (q : within (slice k) (allBelow n) ≡ true) where
-    pub is-first : k ≡ 0 → sliceCheck n v slice k ≡ Sound
-    unfolding sliceCheck strange unordered
-    is-first e = rw (p, q, eq-eqb k 0 e) refl
+  module _ (p : has q v ≡ true) (w : within q (allBelow n) ≡ true) where
+    pub is-first : k ≡ 0 → behindCheck n v k before q ≡ Sound
+    unfolding behindCheck strange
+    is-first e = rw (p, w, eq-eqb k 0 e) refl
 
-    pub is-above : (k ≡ 0 → ⊥) → slice (k - 1) < slice k → sliceCheck n v slice k ≡ Sound
-    unfolding sliceCheck strange unordered
-    is-above ne l = rw (p, q, ne-eqb k 0 ne, lt-ltb (slice (k - 1)) (slice k) l) refl
+    pub is-above : (k ≡ 0 → ⊥) → before < q → behindCheck n v k before q ≡ Sound
+    unfolding behindCheck strange
+    is-above ne l = rw (p, w, ne-eqb k 0 ne, lt-ltb before q l) refl
 
-    pub not-above : (k ≡ 0 → ⊥) → slice k ≤ slice (k - 1) → sliceCheck n v slice k ≡ Refused (Order v)
-    unfolding sliceCheck strange unordered
-    not-above ne l = rw (p, q, ne-eqb k 0 ne, le-ltb (slice (k - 1)) (slice k) l) refl
+    pub not-above : (k ≡ 0 → ⊥) → q ≤ before → behindCheck n v k before q ≡ Refused (Order v)
+    unfolding behindCheck strange
+    not-above ne l = rw (p, w, ne-eqb k 0 ne, le-ltb before q l) refl
+
+-- the slice at place k is the one before the next
+pub before-next : (slice : ℕ → ℕ) (k : ℕ) → slice k ≡ slice (k + 1 - 1)
+before-next slice k = ap slice (omega arith)
+
+-- slice k of a row
+module _ (n v : ℕ) (slice : ℕ → ℕ) (k : ℕ) where
+  pub slice-behind : sliceCheck n v slice k ≡ behindCheck n v k (slice (k - 1)) (slice k)
+  unfolding sliceCheck unordered behindCheck
+  slice-behind = refl
+
+  -- as it is walked: the slice and the one before it were read
+  pub slice-walked : {before q : ℕ} {r : Check} → before ≡ slice (k - 1) → q ≡ slice k → r ≡ behindCheck n v k before q → sliceCheck n v slice k ≡ r
+  slice-walked eb eq e = slice-behind ∙ sym (e ∙ ap₂ (behindCheck n v k) eb eq)
 
   -- what a sound slice has
   neither : sliceCheck n v slice k ≡ Sound → (strange n v (slice k) ≡ false) × (unordered slice k ≡ false)
@@ -73,13 +89,14 @@ slices-sound : (n v count : ℕ) (slice : ℕ → ℕ) → ((i : ℕ) → i < co
 slices-sound n v count slice owner below ascend = first-sound (sliceCheck n v slice) count each
   where
     each : (i : ℕ) → i < count → sliceCheck n v slice i ≡ Sound
-    each zero l = is-first n v slice 0 (owner 0 l .holds) (⊆-within (below 0 l)) refl
+    each zero l = slice-behind n v slice 0 ∙ is-first n v 0 (slice 0) (slice 0) (owner 0 l .holds) (⊆-within (below 0 l)) refl
     each (suc i) l =
-        is-above n v slice (suc i) (owner (suc i) l .holds) (⊆-within (below (suc i) l)) (suc-ne-zero i)
+        slice-behind n v slice (suc i)
+        ∙ is-above n v (suc i) (slice (suc i - 1)) (slice (suc i)) (owner (suc i) l .holds) (⊆-within (below (suc i) l)) (suc-ne-zero i)
         (subst (λ (k : ℕ). slice k < slice (suc i)) (sym (pred-suc i)) (ascend i l))
 
 -- What is gathered of the first k slices: what all have in common, what they name together, and whether each is above the one before.
-pub record Gathered (slice : ℕ → ℕ) (k every some : ℕ) (ascend : Bool) : Type 0 where
+pub record Gathers (slice : ℕ → ℕ) (k every some : ℕ) (ascend : Bool) : Type 0 where
   pub common : (i : ℕ) → i < k → every ⊆ slice i
   pub together : (i : ℕ) → i < k → slice i ⊆ some
   pub above : ascend ≡ true → (i : ℕ) → suc i < k → slice i < slice (suc i)
@@ -88,17 +105,20 @@ only-zero : (i : ℕ) → i < 1 → i ≡ 0
 only-zero i l = omega arith
 
 module _ (slice : ℕ → ℕ) where
-  pub gathered-first : (ascend : Bool) → Gathered slice 1 (slice 0) (slice 0) ascend
-  gathered-first ascend =
+  alone : (ascend : Bool) → Gathers slice 1 (slice 0) (slice 0) ascend
+  alone ascend =
       record {
         common = λ i l. subst (λ (j : ℕ). slice 0 ⊆ slice j) (sym (only-zero i l)) (⊆-refl (slice 0));
         together = λ i l. subst (λ (j : ℕ). slice j ⊆ slice 0) (sym (only-zero i l)) (⊆-refl (slice 0));
         above = λ e i l. absurd (omega arith);
       }
 
-  pub gathered-more : (k every some : ℕ) (ascend up : Bool) → up ≡ ascend && ltb (slice (k - 1)) (slice k) → Gathered slice k every some ascend
-      → Gathered slice (k + 1) (bitAnd every (slice k)) (bitOr some (slice k)) up
-  gathered-more k every some ascend up e g =
+  pub gathers-first : (every some : ℕ) (ascend : Bool) → every ≡ slice 0 → some ≡ slice 0 → Gathers slice 1 every some ascend
+  gathers-first every some ascend e f = rw (e, f) (alone ascend)
+
+  with-slice : (k every some : ℕ) (ascend up : Bool) → up ≡ ascend && ltb (slice (k - 1)) (slice k) → Gathers slice k every some ascend
+      → Gathers slice (k + 1) (bitAnd every (slice k)) (bitOr some (slice k)) up
+  with-slice k every some ascend up e g =
       record {
         common = λ i l. ⊎-elim (λ x. subst (λ (j : ℕ). bitAnd every (slice k) ⊆ slice j) (sym x) (and-⊆-r every (slice k)))
             (λ b. ⊆-trans (and-⊆-l every (slice k)) (g .common i b)) (last-or i l);
@@ -114,11 +134,19 @@ module _ (slice : ℕ → ℕ) where
       step : (i : ℕ) → suc i ≡ k → slice (k - 1) < slice k → slice i < slice (suc i)
       step i e l = subst (λ (j : ℕ). slice i < slice j) (sym e) (subst (λ (j : ℕ). slice j < slice k) (omega arith) l)
 
-  pub gathered-sound : (n v count k every some : ℕ) (ascend : Bool) → Gathered slice k every some ascend → count ≤ k
-      → ascend ≡ true → has every v ≡ true → within some (allBelow n) ≡ true → first (sliceCheck n v slice) count ≡ Sound
-  gathered-sound n v count k every some ascend g l up own below =
-      slices-sound n v count slice (λ i b. g .common i (omega arith) .each v (mem own))
-      (λ i b. ⊆-trans (g .together i (omega arith)) (within-⊆ some (allBelow n) below)) (λ i b. g .above up i (omega arith))
+  pub gathers-more : (k before q every some every₁ some₁ : ℕ) (ascend up : Bool) → before ≡ slice (k - 1) → q ≡ slice k
+      → (every₁ ≡ bitAnd every q) × (some₁ ≡ bitOr some q) × (up ≡ ascend && ltb before q) → Gathers slice k every some ascend → Gathers slice (k + 1) every₁ some₁ up
+  gathers-more k before q every some every₁ some₁ ascend up eb eq h g =
+      rw (h .0, h .1, eq) (with-slice k every some ascend up (h .2 ∙ ap₂ (λ (x y : ℕ). ascend && ltb x y) eb eq) g)
+
+  pub gathers-sound : (n v count k every some : ℕ) (ascend r : Bool) → Gathers slice k every some ascend → count ≤ k
+      → r ≡ (ascend && has every v) && within some (allBelow n) → r ≡ true → first (sliceCheck n v slice) count ≡ Sound
+  gathers-sound n v count k every some ascend r g l e t =
+      let all = sym e ∙ t in
+      let both = and-l (ascend && has every v) (within some (allBelow n)) all in
+      slices-sound n v count slice (λ i b. g .common i (omega arith) .each v (mem (and-r ascend (has every v) both)))
+      (λ i b. ⊆-trans (g .together i (omega arith)) (within-⊆ some (allBelow n) (and-r (ascend && has every v) (within some (allBelow n)) all)))
+      (λ i b. g .above (and-l ascend (has every v) both) i (omega arith))
 
 -- What a sound site has.
 pub record Row (n v count : ℕ) (slice : ℕ → ℕ) (unfilled : Bool) : Type 0 where

@@ -10,6 +10,7 @@ use borrow.Author.Tests.{eqb-true, eq-eqb, ne-eqb, not-false}
 use Rattle.block.specs.Block.{sealed}
 use Rattle.ground.proofs.Logic.{fail-alike, or-none}
 use Rattle.ground.proofs.Some.{none-each, each-none}
+use Rattle.ground.specs.Search.{some}
 use Rattle.site_block.specs.Block.{siteField, sitesField, countField, zeroField, sliceField, misheaded, blockUnfilled, blockCheck, load}
 use Rattle.site_block.proofs.Load.{load-slice}
 use Rattle.le.proofs.Laws.{field-zeros, zeros-field}
@@ -17,7 +18,7 @@ use Rattle.refusals.proofs.First.{missed, passed}
 use Rattle.refusals.specs.declared.Check.the-variants.{Sound, Refused}
 use Rattle.refusals.specs.declared.Refusal.the-variants.{Sums, Header}
 use Rattle.rows.proofs.Row.{row-alike}
-use Rattle.rows.proofs.Site.{zero-above, clean-above}
+use Rattle.rows.proofs.Site.{unused-zero, zero-unused, zero-above, clean-above}
 use Rattle.rows.specs.Row.{rowCheck}
 use Rattle.rows.specs.Site.{slice, rowUnfilled, siteCheck}
 
@@ -43,6 +44,12 @@ module _ (b : List ℕ) (l : countField b ≤ 62) where
       let e : 8 + 8 * k + j % 8 ≡ from + j = omega arith in
       ap not (eq-eqb _ 0 (rw e at (zeros-field 8 b (8 + 8 * k) (f k (omega arith) (omega arith)) (j % 8) (omega arith)))))
 
+  pub block-filler : blockUnfilled b ≡ some (62 - countField b) (λ j. not (eqb (sliceField b (countField b + j)) 0))
+  block-filler =
+      fail-alike (blockUnfilled b) (some (62 - countField b) (λ j. not (eqb (sliceField b (countField b + j)) 0)))
+      (λ h. zero-unused (sliceField b) (countField b) (filled-places h))
+      (λ h. places-filled (unused-zero (sliceField b) (countField b) h))
+
   same-filler : blockUnfilled b ≡ rowUnfilled (load b)
   unfolding load
   same-filler =
@@ -51,7 +58,7 @@ module _ (b : List ℕ) (l : countField b ≤ 62) where
       (λ h. places-filled (λ k g s. sym (load-slice b k s) ∙ zero-above (load b) h k g s))
 
 -- what a block holds is refused as its 63 numbers are
-row-site : (n i : ℕ) (b : List ℕ) → rowCheck n i (countField b) (sliceField b) (blockUnfilled b) ≡ siteCheck n i (load b)
+pub row-site : (n i : ℕ) (b : List ℕ) → rowCheck n i (countField b) (sliceField b) (blockUnfilled b) ≡ siteCheck n i (load b)
 unfolding siteCheck load
 row-site n i b =
     row-alike n i (countField b) (sliceField b) (slice (load b)) (blockUnfilled b) (rowUnfilled (load b))
@@ -76,9 +83,9 @@ module _ (n i : ℕ) (b : List ℕ) where
     unfolding blockCheck misheaded
     wrong-zero ne = rw (s, ne-eqb (zeroField b) 0 ne, or-true, or-true) refl
 
-    pub right-head : siteField b ≡ i → sitesField b ≡ n → zeroField b ≡ 0 → blockCheck n i b ≡ siteCheck n i (load b)
+    pub right-head : siteField b ≡ i → sitesField b ≡ n → zeroField b ≡ 0 → blockCheck n i b ≡ rowCheck n i (countField b) (sliceField b) (blockUnfilled b)
     unfolding blockCheck misheaded
-    right-head p q z = rw (s, eq-eqb (siteField b) i p, eq-eqb (sitesField b) n q, eq-eqb (zeroField b) 0 z) (row-site n i b)
+    right-head p q z = rw (s, eq-eqb (siteField b) i p, eq-eqb (sitesField b) n q, eq-eqb (zeroField b) 0 z) refl
 
   -- what a block that passes has
   pub block-sound : blockCheck n i b ≡ Sound → (sealed b ≡ true) × (siteField b ≡ i) × (sitesField b ≡ n) × (zeroField b ≡ 0) × (siteCheck n i (load b) ≡ Sound)

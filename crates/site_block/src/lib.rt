@@ -1,8 +1,11 @@
 // One block of the table on file, a site's numbers as 512 bytes: checked and read.
+ghost use mathlib.Core.Bool.{true};
 ghost use mathlib.Core.Path.{_≡_};
 ghost use Prim.Native.Nat.{_≤_, _<_};
 ghost use lib.ListN.{length};
-ghost use Rattle.site_block.specs.Block.{load, blockCheck};
+ghost use Rattle.site_block.specs.Block.{countField, sliceField, blockUnfilled, load, blockCheck};
+ghost use Rattle.refusals.specs.First.{first};
+ghost use Rattle.rows.specs.Row.{sliceCheck, rowCheck};
 use refusals::Check;
 use refusals::Refusal;
 
@@ -18,6 +21,89 @@ pub fn load_block(b: &[u8], m: &mut [u64])
         m[1 + k] = le::get64(b, 8 + 8 * k);
         k += 1;
     }
+}
+
+// True only if the first many slices of the block of site v are sound. No branch in the loop.
+fn are_sound(b: &[u8], n: u64, v: u64, many: usize) -> bool
+    requires { ⌜ length (now b) ≡ 512 ⌝ }
+    requires { ⌜ many ≤ 62 ⌝ }
+    requires { ⌜ v < 64 ⌝ }
+    requires { ⌜ n ≤ 64 ⌝ }
+    ensures { λ r. ⌜ (r ≡ true → first (sliceCheck n v (sliceField (now (b .entry)))) many ≡ Check.Sound) ⌝ }
+{
+    let mut g = rows::gather_first(le::get64(b, 8));
+    let mut k: usize = 1;
+    while k < many {
+        g = rows::gather(g, le::get64(b, 8 * k), le::get64(b, 8 + 8 * k));
+        k += 1;
+    }
+    rows::is_sound(g, n, v)
+}
+
+// The first many slices of the block of site v, in order: walked only where one is not sound.
+fn check_slices(b: &[u8], n: u64, v: u64, many: usize) -> Check
+    requires { ⌜ length (now b) ≡ 512 ⌝ }
+    requires { ⌜ many ≤ 62 ⌝ }
+    requires { ⌜ v < 64 ⌝ }
+    requires { ⌜ n ≤ 64 ⌝ }
+    ensures { λ r. ⌜ r ≡ first (sliceCheck n v (sliceField (now (b .entry)))) many ⌝ }
+{
+    if are_sound(b, n, v, many) {
+        return Check::Sound;
+    }
+    let mut before = le::get64(b, 8);
+    let mut k: usize = 0;
+    while k < many {
+        let q = le::get64(b, 8 + 8 * k);
+        let fault = rows::check_slice(n, v, k, before, q);
+        let Check::Sound = fault else {
+            return fault;
+        };
+        before = q;
+        k += 1;
+    }
+    Check::Sound
+}
+
+// Filler is not zero: the bytes behind the last of the slices, read as the unused places.
+fn is_unfilled(b: &[u8], many: usize) -> bool
+    requires { ⌜ length (now b) ≡ 512 ⌝ }
+    requires { ⌜ many ≡ countField (now b) ⌝ }
+    requires { ⌜ many ≤ 62 ⌝ }
+    ensures { λ r. ⌜ r ≡ blockUnfilled (now (b .entry)) ⌝ }
+{
+    let left = 62 - many;
+    let mut any: u64 = 0;
+    let mut j: usize = 0;
+    while j < left {
+        any |= le::get64(b, 8 + 8 * (many + j));
+        j += 1;
+    }
+    any != 0
+}
+
+// The slices that the block of site v holds, and its filler: 4, each slice 5 then 6, then 8.
+fn check_row(b: &[u8], n: u64, v: u64) -> Check
+    requires { ⌜ length (now b) ≡ 512 ⌝ }
+    requires { ⌜ v < 64 ⌝ }
+    requires { ⌜ n ≤ 64 ⌝ }
+    ensures { λ r. ⌜ r ≡ rowCheck n v (countField (now (b .entry))) (sliceField (now (b .entry))) (blockUnfilled (now (b .entry))) ⌝ }
+{
+    let many = le::get16(b, 4) as usize;
+    if many == 0 {
+        return Check::Refused(Refusal::Count(v));
+    }
+    if 62 < many {
+        return Check::Refused(Refusal::Count(v));
+    }
+    let q = check_slices(b, n, v, many);
+    let Check::Sound = q else {
+        return q;
+    };
+    if is_unfilled(b, many) {
+        return Check::Refused(Refusal::Filler(v));
+    }
+    Check::Sound
 }
 
 // The block at place i of an image of n blocks: 2, 3, then the site that it holds.
@@ -39,7 +125,5 @@ pub fn check_block(b: &[u8], n: u64, i: u64) -> Check
     if le::get16(b, 6) != 0 {
         return Check::Refused(Refusal::Header(i));
     }
-    let mut m = [0u64; 63];
-    load_block(b, &mut m);
-    rows::check_site(&m, n, i)
+    check_row(b, n, i)
 }

@@ -11,7 +11,7 @@ use Rattle.block.specs.Block.{seal, sealed}
 use Rattle.ground.proofs.Pieces.{length-cat, cat-ext, cat-split, cat-parts, cat-elements}
 use Rattle.ground.specs.Pieces.{cat, part}
 use Rattle.site_block.specs.Block.{siteField, sitesField, countField, zeroField, sliceField, blockCheck, load, head, places, body, store}
-use Rattle.site_block.proofs.Block.{right-head}
+use Rattle.site_block.proofs.Block.{row-site, right-head}
 use Rattle.site_block.proofs.Load.{load-count, load-slice}
 use Rattle.site_write.proofs.Store.{length-body}
 use Rattle.le.proofs.Laws.{number-digits, digits-field, field-front, field-at}
@@ -86,7 +86,7 @@ module _ (n i : ℕ) (m : List ℕ) (l : length m ≡ 63) (w : (k : ℕ) → get
   pub store-check : i < 65536 → n < 65536 → blockCheck n i (store n i m) ≡ siteCheck n i m
   store-check hi hn =
       right-head n i (store n i m) (store-sealed n i m) (store-site n i m hi) (store-sites n i m hn) (store-zero n i m)
-      ∙ ap (siteCheck n i) load-store
+      ∙ row-site n i (store n i m) ∙ ap (siteCheck n i) load-store
 
 -- what was read is written
 

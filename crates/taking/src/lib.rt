@@ -39,7 +39,8 @@ pub struct Worked {
     pub changed: bool,
 }
 
-// One call on a sound state.
+// One call on a sound state. `hearing::take` is called here and in `change`, so that it is a function of its own, and `change`, which asks first whether the
+// call is heard already, is small enough to stand in a loop over calls.
 pub fn work(
     table: &[u64],
     n: usize,
@@ -61,6 +62,16 @@ pub fn work(
             changed: false,
         };
     };
-    let changed = change(table, n, faulty, state, kind, from, to, side);
-    Worked { answer: a, changed }
+    let heard = answers::is_heard(n, state, kind, from, to, side);
+    if heard {
+        return Worked {
+            answer: a,
+            changed: false,
+        };
+    }
+    hearing::take(table, n, state, kind, from, to, side);
+    Worked {
+        answer: a,
+        changed: true,
+    }
 }

@@ -2,8 +2,9 @@
 use native.Mathlib.Omega.{arith}
 use borrow.Author.Needs.{needs}
 use denote.Ref.{now}
-use Rattle.rules.proofs.Ways.{is-heard-proposal, is-heard-vote, is-heard-accept}
+use Rattle.rules.proofs.Ways.{is-heard-proposal}
 use Rattle.votes.specs.Call.{call}
+use Rattle.answers.proofs.Sent.{is-heard-sent}
 use Rattle.answers.proofs.is_heard.Statement.{statement}
 use Rattle.answers.proofs.is_heard.Tie as tie
 
@@ -14,13 +15,10 @@ returns c =
 
 returns-2 : tie.Need-returns-2
 returns-2 c =
-    let a = c .before .before .before .before .before .before .args in
-    is-heard-vote (a .n) (call (a .kind) (a .from) (a .to) (a .side)) (now (a .state)) (c .before .before .before .if2 .taken) (c .has2 .ensures) (omega arith)
-
-returns-3 : tie.Need-returns-3
-returns-3 c =
-    let a = c .before .before .before .before .before .before .args in
-    is-heard-accept (a .n) (call (a .kind) (a .from) (a .to) (a .side)) (now (a .state)) (c .before .before .before .before .if1 .left) (c .before .before .before .if2 .left) (c .has3 .ensures) (omega arith)
+    let b = c .before .before .before .before .before in
+    let a = b .args in
+    is-heard-sent (a .n) (call (a .kind) (a .from) (a .to) (a .side)) (now (a .state)) (c .before .before .before .if1 .left) (b .pre .1 .1 .kind-in)
+    (c .has2 .ensures) (omega arith)
 
 pub is-heard-spec : {M : Type 1} → statement M
 is-heard-spec =
@@ -34,10 +32,8 @@ is-heard-spec =
     (λ c κs. search needs)
     (λ c. search needs)
     (λ c. search needs)
-    (λ c κs. search needs)
-    returns-2
-    (λ c κs. search needs)
+    (λ c. search needs)
     (λ c. search needs)
     (λ c. search needs)
     (λ c κs. search needs)
-    returns-3)
+    returns-2)

@@ -1,15 +1,15 @@
 -- `is_unfilled` meets its contract: one of the unused places before j is not zero just if all of them together are not.
 use Prim.Native.Nat.{ℕ, _+_, _-_, _≤_}
-use mathlib.Core.Bool.{Bool, _||_, not}
+use mathlib.Core.Bool.{not}
 use mathlib.Core.Path.{_≡_, sym, ap, _∙_}
 use native.Mathlib.Omega.{arith}
 use lib.Dec.{eqb}
 use borrow.Author.Needs.{needs}
 use denote.Ref.{now}
-use Rattle.ground.proofs.Some.{some-none, some-suc}
+use Rattle.ground.proofs.Some.{some-none}
 use Rattle.ground.specs.Search.{some}
 use Rattle.rows.specs.Site.{count, slice, rowUnfilled}
-use Rattle.rows.proofs.Site.{some-bit}
+use Rattle.rows.proofs.Site.{unfilled-more}
 use Rattle.rows.proofs.is_unfilled.Statement.{statement}
 use Rattle.rows.proofs.is_unfilled.Tie as tie
 
@@ -26,8 +26,7 @@ loop-again : tie.Need-loop-again Inv-loop μ-loop
 loop-again c =
     let m = now (c .before .before .before .before .args .m) in
     let l = c .before .before .loop in
-    let used : ℕ → Bool = λ i. not (eqb (slice m (count m + i)) 0) in
-    (search needs, some-bit (l .any) _ ∙ ap (λ (x : Bool). x || used (l .j)) (l .inv .1) ∙ sym (some-suc (l .j) used))
+    (search needs, unfilled-more (slice m) (count m) (l .j) (l .any) (l .inv .1))
 
 returns : tie.Need-returns Inv-loop μ-loop
 unfolding rowUnfilled

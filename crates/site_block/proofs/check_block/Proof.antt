@@ -1,13 +1,10 @@
--- `check_block` meets its contract: one law for each way out, and the block's row is refused as the 63 numbers loaded from it.
-use Prim.Native.Nat.{ℕ}
-use mathlib.Core.Path.{sym, ap, _∙_}
-use Rattle.rows.specs.Site.{siteCheck}
+-- `check_block` meets its contract: one law for each way out, and the last is what the block's row is refused for.
+use mathlib.Core.Path.{sym, _∙_}
 use borrow.Author.Needs.{needs}
 use denote.Ref.{now}
 use Rattle.block.proofs.Laws.{says-sealed, says-unsealed}
 use Rattle.site_block.proofs.Block.{wrong-sums, wrong-site, wrong-n, wrong-zero, right-head}
 use Rattle.site_block.proofs.check_block.Statement.{statement}
-use mathlib.Core.List.{List}
 use Rattle.site_block.proofs.check_block.Tie as tie
 
 returns : tie.Need-returns
@@ -35,11 +32,10 @@ returns-4 c =
 
 returns-5 : tie.Need-returns-5
 returns-5 c =
-    let z = c .before .before .before .before .before in
+    let z = c .before in
     let p = z .before .before .before .before .before .before in
     let a = p .before .before .before .args in
-    c .check-site .ensures
-    ∙ ap (λ (m : List ℕ). siteCheck (a .n) (a .i) m) (c .before .before .before .load-block .ensures)
+    c .check-row .ensures
     ∙ sym (right-head (a .n) (a .i) (now (a .b)) (says-sealed _ (sym (p .before .check .ensures) ∙ p .if1 .left))
     (sym (z .before .before .before .before .before .get16 .ensures) ∙ z .before .before .before .before .if2 .left)
     (sym (z .before .before .before .get162 .ensures) ∙ z .before .before .if3 .left) (sym (z .before .get163 .ensures) ∙ z .if4 .left))
@@ -58,8 +54,5 @@ check-block-spec =
     returns-3
     (λ c κs. search needs)
     returns-4
-    (λ c. search needs)
-    (λ c κs. search needs)
-    (λ c. search needs)
     (λ c κs. search needs)
     returns-5)
