@@ -1,4 +1,4 @@
-// The largest quorum inside a set of sites of a checked table, round by round.
+// The largest quorum inside a set of sites of a checked table, round by round; and where its rounds are not asked for, sweep by sweep.
 ghost use mathlib.Core.Path.{_≡_};
 ghost use Prim.Native.Nat.{_<_};
 ghost use Rattle.masks.specs.Mask.{has};
@@ -30,7 +30,23 @@ pub fn largest(table: &[u64], n: usize, w: u64) -> SetLeft
     }
 }
 
-// Site v belongs to the largest quorum inside w. Its own slices are asked first, and the rounds end with the one that drops it.
+// The largest quorum inside w, its rounds not counted: sweeps until one drops nobody.
+pub fn largest_set(table: &[u64], n: usize, w: u64) -> u64
+    requires { ⌜ Table (now table) n ⌝ }
+    ensures { λ r. ⌜ r ≡ largest (slicesOf (now (table .entry)) .inside) n w ⌝ }
+{
+    let mut places = [0u8; 64];
+    let mut set = w;
+    loop {
+        let left = one_round::sweep_through(table, n, set, &mut places);
+        if left == set {
+            return set;
+        }
+        set = left;
+    }
+}
+
+// Site v belongs to the largest quorum inside w. Its own slices are asked first, and the sweeps end with the one that drops it.
 pub fn in_largest(table: &[u64], n: usize, v: usize, w: u64) -> bool
     requires { ⌜ Table (now table) n ⌝ }
     requires { ⌜ v < n ⌝ }
@@ -45,13 +61,13 @@ pub fn in_largest(table: &[u64], n: usize, v: usize, w: u64) -> bool
     let mut places = [0u8; 64];
     let mut set = w;
     loop {
-        let stay = one_round::round_from(table, n, set, &mut places);
-        if stay == set {
+        let left = one_round::sweep_through(table, n, set, &mut places);
+        if left == set {
             return true;
         }
-        if !masks::has(stay, v as u64) {
+        if !masks::has(left, v as u64) {
             return false;
         }
-        set = stay;
+        set = left;
     }
 }

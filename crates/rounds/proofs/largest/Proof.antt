@@ -6,17 +6,17 @@ use native.Mathlib.Omega.{arith}
 use lib.Count.{ones-le}
 use denote.Ref.{now}
 use Rattle.masks.specs.Mask.{_⊆_}
-use Rattle.one_round.specs.Inner.Places.{PlacesPassed}
+use Rattle.one_round.specs.Inner.Places.{Places}
 use Rattle.sets.specs.Quorum.{round, largest, rounds}
 use Rattle.sets.specs.Slices.{slicesOf}
-use Rattle.one_round.proofs.Places.{passed-none, passed-less}
+use Rattle.one_round.proofs.Places.{places-first, places-less}
 use Rattle.sets.proofs.Quorum.{round-⊆, smaller, largest-stop, largest-step, rounds-stop, rounds-step, rounds-few}
 use Rattle.rounds.proofs.largest.Statement.{statement}
 use Rattle.rounds.proofs.largest.Tie as tie
 
 abbrev Inv-loop : tie.InvT-loop
 Inv-loop table n w places₀ set₀ count₀ places set count =
-    PlacesPassed table n set places × (largest (slicesOf table .inside) n set ≡ largest (slicesOf table .inside) n w)
+    Places table n set places × (largest (slicesOf table .inside) n set ≡ largest (slicesOf table .inside) n w)
     × (count + rounds (slicesOf table .inside) n set ≡ rounds (slicesOf table .inside) n w)
 
 abbrev μ-loop : tie.MeasureT-loop
@@ -25,7 +25,7 @@ abbrev μ-loop : tie.MeasureT-loop
 loop-holds : tie.Need-loop-holds Inv-loop μ-loop
 loop-holds c =
     let a = c .before .args in
-    (passed-none (now (a .table)) (a .n) (a .w) (c .before .pre .few-sites), refl, zero-add _)
+    (places-first (now (a .table)) (a .n) (c .before .pre) (a .w), refl, zero-add _)
 
 round-from-requires : tie.Need-round-from-requires Inv-loop μ-loop
 round-from-requires c κs = (c .before .before .before .pre, c .before .loop .inv .0)
@@ -61,7 +61,7 @@ loop-again c =
     let r = c .before .round-from in
     let e = r .ensures .0 in
     let ne : round s (a .n) (l .set) ≡ l .set → ⊥ = λ q. c .if1 .left (e ∙ q) in (
-      passed-less (now (a .table)) (a .n) (r .last .1 .1 .1 .0) (subst (λ (k : ℕ). k ⊆ l .set) (sym e) (round-⊆ s (a .n) (l .set))) (r .ensures .1),
+      places-less (now (a .table)) (a .n) (subst (λ (k : ℕ). k ⊆ l .set) (sym e) (round-⊆ s (a .n) (l .set))) (r .ensures .1),
       ap (largest s (a .n)) e ∙ sym (largest-step s (a .n) (l .set) ne) ∙ l .inv .1,
       (let f = ap (rounds s (a .n)) e in
           let g = rounds-step s (a .n) (l .set) ne in
