@@ -8,7 +8,7 @@ use lib.Bits.{bitAnd}
 use lib.Pow.{ones-lt}
 use Rattle.masks.proofs.Laws.AllBelow.{in-all}
 use Rattle.masks.proofs.Laws.Single.{in?, ∈-eq, ∈-single, single-∈, minus-grows}
-use Rattle.masks.proofs.Laws.Subsets.{⊆-refl, ⊆-trans, ⊆-le, ∈-below, ∈-and, and-⊆-l, and-⊆-r, ∈-minus, minus-⊆, minus-not-in, not-in-zero}
+use Rattle.masks.proofs.Laws.Subsets.{⊆-refl, ⊆-trans, ⊆-antisym, ⊆-le, ∈-below, ∈-and, and-⊆-l, and-⊆-r, ∈-minus, minus-⊆, minus-not-in, not-in-zero}
 use Rattle.masks.specs.Mask.{single, minus, allBelow, _∈_, _⊆_}
 use Rattle.sets.proofs.Quorum.{round-⊆, ∈-round, round-lt}
 use Rattle.sets.specs.Quorum.{round}
@@ -31,6 +31,10 @@ fewer {v} {rest} h =
     let l = ⊆-le (minus-⊆ rest (single v)) in
     let ne : minus rest (single v) ≡ rest → ⊥ = λ e. minus-not-in rest (subst (λ (x : ℕ). v ∈ x) (sym e) h) (∈-single v) in
     omega arith
+
+-- without nobody
+pub minus-none : (m : ℕ) → minus m 0 ≡ m
+minus-none m = ⊆-antisym (minus-⊆ m 0) (record { each = λ v h. ∈-minus h not-in-zero })
 
 -- of the set `all`
 pub record SomeAsked (all sure most rest left : ℕ) : Type 0 where

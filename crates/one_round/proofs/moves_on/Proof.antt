@@ -23,9 +23,11 @@ returns c =
     let a = p .args in
     let t = now (a .table) in
     let k = c .before .before .next-inside in
-    let l : k .result < countOf t (a .v) = subst (λ (x : ℕ). k .result < x) (sym (count-at t (a .v))) (c .if1 .taken) in (
+    let l : k .result < countOf t (a .v) = subst (λ (x : ℕ). k .result < x) (sym (count-at t (a .v))) (c .if1 .taken) in
+    let few : a .v < 64 = omega (arith, p .pre .0 .few-sites, p .pre .1 .0) in
+    let before = p .pre .1 .1 .1 .at (a .v) (p .pre .1 .0) (p .pre .1 .1 .0) in (
       sym (inside-found t (a .v) (a .w) (k .result) l (k .ensures .1 .0 l)),
-      places-more t (a .n) (a .w) (now (a .places)) (a .v) (k .result) (p .pre .1 .1) (k .ensures .1 .1 .0) l,
+      places-more t (a .n) (k .result) few (p .pre .1 .1 .1) (record { slice = l; passed = passed-to t before (k .ensures .1 .1 .0) }),
     )
 
 returns-2 : tie.Need-returns-2
@@ -34,11 +36,9 @@ returns-2 c =
     let a = p .args in
     let t = now (a .table) in
     let k = c .before .before .next-inside in
-    let l : countOf t (a .v) ≤ k .result = subst (λ (x : ℕ). x ≤ k .result) (sym (count-at t (a .v))) (c .if1 .left) in (
-      sym (inside-missed t (a .v) (a .w)
-      (λ i m. passed-to t (a .n) (a .w) (now (a .places)) (a .v) (k .result) (p .pre .1 .1) (k .ensures .1 .1 .0) i (p .pre .1 .0) (lt-of-lt-of-le m l))),
-      p .pre .1 .1,
-    )
+    let l : countOf t (a .v) ≤ k .result = subst (λ (x : ℕ). x ≤ k .result) (sym (count-at t (a .v))) (c .if1 .left) in
+    let before = p .pre .1 .1 .1 .at (a .v) (p .pre .1 .0) (p .pre .1 .1 .0) in
+    (sym (inside-missed t (a .v) (a .w) (λ i m. passed-to t before (k .ensures .1 .1 .0) i (lt-of-lt-of-le m l))), p .pre .1 .1 .1)
 
 pub moves-on-spec : {M : Type 1} → statement M
 moves-on-spec =

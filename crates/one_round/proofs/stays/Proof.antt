@@ -10,14 +10,14 @@ use Rattle.one_round.proofs.stays.Tie as tie
 is-inside-requires : tie.Need-is-inside-requires
 is-inside-requires c κs =
     let p = c .before .before in
-    (p .pre .0, (p .pre .1 .0, p .pre .1 .1 .slice (p .args .v) (p .pre .1 .0)))
+    (p .pre .0, (p .pre .1 .0, p .pre .1 .1 .1 .at (p .args .v) (p .pre .1 .0) (p .pre .1 .1 .0) .slice))
 
 returns : tie.Need-returns
 returns c =
     let p = c .before .before .before .before in
     let a = p .args in
-    let i = getD (now (a .places)) (a .v) 0 in
-    (sym (inside-found (now (a .table)) (a .v) (a .w) i (p .pre .1 .1 .slice (a .v) (p .pre .1 .0)) (sym (c .before .is-inside .ensures) ∙ c .if1 .taken)), p .pre .1 .1)
+    let l = p .pre .1 .1 .1 .at (a .v) (p .pre .1 .0) (p .pre .1 .1 .0) .slice in
+    (sym (inside-found (now (a .table)) (a .v) (a .w) (getD (now (a .places)) (a .v) 0) l (sym (c .before .is-inside .ensures) ∙ c .if1 .taken)), p .pre .1 .1 .1)
 
 pub stays-spec : {M : Type 1} → statement M
 stays-spec =

@@ -43,7 +43,8 @@ stays-requires : tie.Need-stays-requires Inv-loop μ-loop
 stays-requires c κs =
     let p = c .before .before .before .before .before .before in
     let l = c .before .before .before .loop in
-    (p .pre .0, (is-site (p .args .n) (p .args .w) (asked-member (c .before .first-member .ensures .1) (l .inv .0)), l .inv .1))
+    let v = c .before .first-member in
+    (p .pre .0, (is-site (p .args .n) (p .args .w) (asked-member (v .ensures .1) (l .inv .0)), (l .inv .0 .to-ask .each (v .result) (v .ensures .1), l .inv .1)))
 
 single-requires : tie.Need-single-requires Inv-loop μ-loop
 single-requires c κs =
