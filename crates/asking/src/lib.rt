@@ -49,8 +49,8 @@ pub fn belongs(table: &[u64], n: usize, receiver: usize, w: u64, asked: &mut [u6
     if !sets::has_slice(table, n, receiver, w) {
         return false;
     }
-    let l = rounds::largest(table, n, w);
+    let l = rounds::largest_set(table, n, w);
     asked[0] = w;
-    asked[1] = l.set;
-    masks::has(l.set, receiver as u64)
+    asked[1] = l;
+    masks::has(l, receiver as u64)
 }

@@ -1,48 +1,102 @@
--- Laws of the places: the slices that the rounds have passed.
-use Prim.Native.Nat.{ℕ, zero-le, _≤_, _<_}
-use mathlib.Core.Bool.{false}
+-- Laws of the places: each is a slice, and those before it are passed; and of the slices held beside them.
+use Prim.Native.Nat.{ℕ, _≤_, _<_}
+use mathlib.Core.Bool.{true, false}
 use mathlib.Core.List.{List}
 use mathlib.Core.Logic.{⊎-elim}
-use mathlib.Core.Path.{_≡_, sym, ap, _∙_, subst}
-use native.Mathlib.Nat.{not-suc-le-zero, lt-of-lt-of-le, le-of-eq}
+use mathlib.Core.Path.{_≡_, refl, sym, ap, _∙_, subst}
+use native.Mathlib.Nat.{lt-of-lt-of-le}
+use native.Mathlib.Omega.{arith}
 use lib.Dec.{eqb, ltb}
-use lib.ListN.{length, getD, set, replicate, getD-replicate, List·getD-eq-default}
-use lib.Seq.{getD-set-same, getD-set-other, set-out}
+use lib.ListN.{length, getD, set, replicate, getD-replicate, length-replicate, length-set}
+use lib.Seq.{getD-set-same, getD-set-other}
 use borrow.Author.Tests.{eqb-true, eqb-false, ltb-true, ltb-false}
 use Rattle.ground.proofs.Logic.{is-false, clash, cases}
-use Rattle.masks.proofs.Laws.Subsets.{within-⊆, ⊆-within, ⊆-trans}
-use Rattle.masks.specs.Mask.{within, _⊆_}
-use Rattle.one_round.specs.Inner.Places.{PlacesPassed}
-use Rattle.table.specs.Table.{sliceOf}
+use Rattle.masks.proofs.Laws.Single.{single-∈}
+use Rattle.masks.proofs.Laws.Subsets.{⊆-refl, ⊆-trans, within-⊆, ⊆-within, ∈-minus}
+use Rattle.masks.specs.Mask.{within, single, minus, allBelow, _∈_, _⊆_}
+use Rattle.one_round.specs.Inner.Places.{Place, Places, Placed, Held}
+use Rattle.sets.specs.Slices.{slicesOf}
+use Rattle.table.specs.Table.{countOf, sliceOf, Table}
 
-place-le : (places : List ℕ) (v k : ℕ) → getD (set places v k) v 0 ≤ k
-place-le places v k =
-    ⊎-elim (λ e. le-of-eq (getD-set-same places v k 0 (ltb-true v (length places) e)))
-    (λ e. let l = ltb-false v (length places) e in
-    subst (λ (x : ℕ). x ≤ k) (sym (ap (λ (m : List ℕ). getD m v 0) (set-out places v k l) ∙ List·getD-eq-default places 0 l)) zero-le) (cases (ltb v (length places)))
+-- site v, or another one
+one-or-other : (P : ℕ → Type 0) (v u : ℕ) → P v → ((u ≡ v → ⊥) → P u) → P u
+one-or-other P v u same other = ⊎-elim (λ e. subst P (sym (eqb-true u v e)) same) (λ e. other (eqb-false u v e)) (cases (eqb u v))
 
-module _ (t : List ℕ) (n : ℕ) where
-  -- before the first round no slice is passed
-  pub passed-none : (w : ℕ) → n ≤ 64 → PlacesPassed t n w (replicate 64 0)
-  passed-none w h v i l p =
-      absurd (not-suc-le-zero (subst (λ (x : ℕ). i < x) (getD-replicate 64 v 0 0 (lt-of-lt-of-le l h)) p))
+-- number k is written for site v
+module _ (P : ℕ → ℕ → Type 0) (l : List ℕ) (v k : ℕ) where
+  written : length l ≡ 64 → v < 64 → P v k → (u : ℕ) → ((u ≡ v → ⊥) → P u (getD l u 0)) → P u (getD (set l v k) u 0)
+  written many h new u old =
+      one-or-other (λ (u : ℕ). P u (getD (set l v k) u 0)) v u
+      (subst (P v) (sym (getD-set-same l v k 0 (subst (λ (x : ℕ). v < x) (sym many) h))) new)
+      (λ ne. subst (P u) (sym (getD-set-other l v u k 0 ne)) (old ne))
 
+module _ (t : List ℕ) where
   -- what is passed stays so while the set shrinks
-  pub passed-less : {u w : ℕ} (places : List ℕ) → u ⊆ w → PlacesPassed t n w places → PlacesPassed t n u places
-  passed-less {u} {w} places s p v i l h =
-      is-false (within (sliceOf t v i) u) (λ e. clash (⊆-within (⊆-trans (within-⊆ (sliceOf t v i) u e) s)) (p v i l h))
+  pub place-less : {u w v k : ℕ} → u ⊆ w → Place t w v k → Place t u v k
+  place-less {u} {w} {v} s p =
+      record {
+        slice = p .slice;
+        passed = λ i h. is-false (within (sliceOf t v i) u) (λ e. clash (⊆-within (⊆-trans (within-⊆ (sliceOf t v i) u e) s)) (p .passed i h));
+      }
 
   -- site v looks from its place on, and finds no slice before slice k
-  module _ (w : ℕ) (places : List ℕ) (v k : ℕ) (p : PlacesPassed t n w places)
-      (f : (i : ℕ) → getD places v 0 ≤ i → i < k → within (sliceOf t v i) w ≡ false) where
-    pub passed-to : (i : ℕ) → v < n → i < k → within (sliceOf t v i) w ≡ false
-    passed-to i m h = ⊎-elim (λ q. p v i m (ltb-true i (getD places v 0) q)) (λ q. f i (ltb-false i (getD places v 0) q) h) (cases (ltb i (getD places v 0)))
+  pub passed-to : {w v from k : ℕ} → Place t w v from → ((i : ℕ) → from ≤ i → i < k → within (sliceOf t v i) w ≡ false) →
+      (i : ℕ) → i < k → within (sliceOf t v i) w ≡ false
+  passed-to {w} {v} {from} p f i h = ⊎-elim (λ q. p .passed i (ltb-true i from q)) (λ q. f i (ltb-false i from q) h) (cases (ltb i from))
 
-    -- its place is k then
-    pub passed-more : PlacesPassed t n w (set places v k)
-    passed-more x i m h =
-        ⊎-elim
-        (λ e. let q = eqb-true x v e in
-        subst (λ (y : ℕ). within (sliceOf t y i) w ≡ false) (sym q)
-        (passed-to i (subst (λ (y : ℕ). y < n) q m) (lt-of-lt-of-le (subst (λ (y : ℕ). i < getD (set places v k) y 0) q h) (place-le places v k))))
-        (λ e. p x i m (subst (λ (y : ℕ). i < y) (getD-set-other places v x k 0 (eqb-false x v e)) h)) (cases (eqb x v))
+  -- in the first round
+  pub placed : {w v k : ℕ} {places : List ℕ} → length places ≡ 64 → v < 64 → (slicesOf t .inside v w ≡ true → Place t w v k) → Placed t w v places (set places v k)
+  placed {w} {v} {k} {places} many l q =
+      record {
+        many = length-set places v k ∙ many;
+        at = λ e. subst (Place t w v) (sym (getD-set-same places v k 0 (subst (λ (x : ℕ). v < x) (sym many) l))) (q e);
+        others = λ u ne. getD-set-other places v u k 0 ne;
+      }
+
+  -- each that was asked and is left has its place: one more is asked
+  pub asked-placed : {w n v rest rest' stay stay' : ℕ} {before after : List ℕ} →
+      ((u : ℕ) → u < n → u ∈ stay → (u ∈ rest → ⊥) → Place t w u (getD before u 0)) → Placed t w v before after →
+      rest' ≡ minus rest (single v) → stay' ⊆ stay → (v ∈ stay' → slicesOf t .inside v w ≡ true) →
+      (u : ℕ) → u < n → u ∈ stay' → (u ∈ rest' → ⊥) → Place t w u (getD after u 0)
+  asked-placed {w} {v = v} {rest = rest} {stay' = stay'} {after = after} old new e sub f u l h out =
+      one-or-other (λ (u : ℕ). u ∈ stay' → Place t w u (getD after u 0)) v u (λ h. new .at (f h))
+      (λ ne h. subst (Place t w u) (sym (new .others u ne)) (old u l (sub .each u h) (λ i. out (subst (λ (x : ℕ). u ∈ x) (sym e) (∈-minus i (λ z. ne (single-∈ v z))))))) h
+
+  module _ (n : ℕ) where
+    pub places-less : {u w : ℕ} {places : List ℕ} → u ⊆ w → Places t n w places → Places t n u places
+    places-less s p = record { many = p .many; at = λ v l h. place-less s (p .at v l (s .each v h)) }
+
+    pub held-less : {u w : ℕ} {places held : List ℕ} → u ⊆ w → Held t n w places held → Held t n u places held
+    held-less s p = record { many = p .many; at = λ v l h. p .at v l (s .each v h) }
+
+    -- slice k is the place of site v now
+    module _ {w v : ℕ} (k : ℕ) {places : List ℕ} (l : v < 64) (p : Places t n w places) where
+      pub places-more : Place t w v k → Places t n w (set places v k)
+      places-more q =
+          record {
+            many = length-set places v k ∙ p .many;
+            at = λ u m h. written (λ (u k : ℕ). Place t w u k) places v k (p .many) l q u (λ ne. p .at u m h);
+          }
+
+      -- and held beside it
+      pub held-more : {held : List ℕ} → Held t n w places held → Held t n w (set places v k) (set held v (sliceOf t v k))
+      held-more {held} h =
+          record {
+            many = length-set held v (sliceOf t v k) ∙ h .many;
+            at = λ u m i.
+                written (λ (u x : ℕ). sliceOf t u (getD (set places v k) u 0) ⊆ x) held v (sliceOf t v k) (h .many) l here u
+                (λ ne. subst (λ (x : ℕ). sliceOf t u x ⊆ getD held u 0) (sym (getD-set-other places v u k 0 ne)) (h .at u m i));
+          }
+        where
+          here : sliceOf t v (getD (set places v k) v 0) ⊆ sliceOf t v k
+          here = subst (λ (x : ℕ). sliceOf t v x ⊆ sliceOf t v k) (sym (getD-set-same places v k 0 (subst (λ (x : ℕ). v < x) (sym (p .many)) l))) (⊆-refl (sliceOf t v k))
+
+    -- before a slice is held: all sites, which every slice is inside
+    pub held-all : {m w : ℕ} {places : List ℕ} → Table t n → m ≡ allBelow n → Places t n w places → Held t n w places (replicate 64 m)
+    held-all {m} {w} {places} table e p =
+        record {
+          many = length-replicate 64 m;
+          at = λ v l h.
+              subst (λ (x : ℕ). sliceOf t v (getD places v 0) ⊆ x) (sym (getD-replicate 64 v m 0 (lt-of-lt-of-le l (table .few-sites)) ∙ e))
+              (table .below v (getD places v 0) l (p .at v l h .slice));
+        }

@@ -1,37 +1,29 @@
--- A round member by member: who of those asked stays, with `rest` still to be asked.
-use Prim.Native.Nat.{ℕ, zero, suc, _/_, _%_, _^_, _<_}
-use mathlib.Core.Bool.{Bool, true, _&&_, cond}
+-- The members of a set asked one by one: who is left, with `rest` still to be asked. Nobody of `sure` goes, and of those asked nobody stays who is not in `most`.
+use Prim.Native.Nat.{ℕ, _<_}
+use mathlib.Core.Bool.{Bool, true}
 use mathlib.Core.Logic.{⊎-elim}
-use mathlib.Core.Path.{_≡_, refl, sym, ap, ap₂, _∙_, subst}
-use native.Mathlib.Nat.{zero-lt-suc, div-lt-iff-lt-mul, pow-suc, pow-succ', div-div-eq-div-mul, div-one}
+use mathlib.Core.Path.{_≡_, sym, subst}
 use native.Mathlib.Omega.{arith}
-use lib.Bits.{bitAnd, bitOr}
-use lib.Count.{trailingZeros, under}
-use borrow.Author.Tests.{eq-eqb}
-use Rattle.ground.proofs.Logic.{and-l, and-r, and-i, cases}
+use lib.Bits.{bitAnd}
+use lib.Pow.{ones-lt}
 use Rattle.masks.proofs.Laws.AllBelow.{in-all}
-use Rattle.masks.proofs.Laws.Single.{in?, ∈-single, single-∈, single-⊆}
-use Rattle.masks.proofs.Laws.Subsets.{mem, ⊆-antisym, ⊆-le, ⊆-zero, ∈-below, ∈-and, ∈-minus, or-⊆, or-⊆-l, or-⊆-r, minus-⊆, minus-not-in, not-in-zero, empty}
-use Rattle.masks.specs.Mask.{has, single, minus, allBelow, _∈_, _⊆_}
+use Rattle.masks.proofs.Laws.Single.{in?, ∈-eq, ∈-single, single-∈, minus-grows}
+use Rattle.masks.proofs.Laws.Subsets.{⊆-refl, ⊆-trans, ⊆-antisym, ⊆-le, ∈-below, ∈-and, and-⊆-l, and-⊆-r, ∈-minus, minus-⊆, minus-not-in, not-in-zero}
+use Rattle.masks.specs.Mask.{single, minus, allBelow, _∈_, _⊆_}
+use Rattle.sets.proofs.Quorum.{round-⊆, ∈-round, round-lt}
 use Rattle.sets.specs.Quorum.{round}
-use Rattle.sets.proofs.Quorum.{round-⊆, round-slice, ∈-round, round-lt}
 
--- the zeros below the lowest member say which it is
-first-odd : (k m : ℕ) → (m ≡ 0 → ⊥) → m < 2 ^ k → m / 2 ^ trailingZeros k m % 2 ≡ 1
-unfolding trailingZeros
-first-odd zero m f h = absurd (f (omega arith))
-first-odd (suc k) m f h =
-    go (m % 2) refl (λ (e : m % 2 ≡ 0). first-odd k (m / 2) (λ z. f (omega arith)) (div-lt-iff-lt-mul (zero-lt-suc 1) .1 (subst (λ (x : ℕ). m < x) (pow-suc 2 k) h)))
-  where
-    go : (r : ℕ) → m % 2 ≡ r → (m % 2 ≡ 0 → m / 2 / 2 ^ trailingZeros k (m / 2) % 2 ≡ 1) → m / 2 ^ under r (trailingZeros k (m / 2)) % 2 ≡ 1
-    go zero e ih =
-        let t = trailingZeros k (m / 2) in
-        ap (λ (x : ℕ). x % 2) (ap (λ (x : ℕ). m / x) (pow-succ' 2 t) ∙ sym (div-div-eq-div-mul m 2 (2 ^ t))) ∙ ih e
-    go (suc r) e ih = ap (λ (x : ℕ). x % 2) (div-one m) ∙ (omega arith)
+-- whom a round from w asks
+module _ (n w : ℕ) where
+  pub is-site : {v : ℕ} → v ∈ bitAnd w (allBelow n) → v < n
+  is-site {v} h = ∈-below (ones-lt n) (and-⊆-r w (allBelow n) .each v h)
 
-pub first-member : (k m : ℕ) → (m ≡ 0 → ⊥) → m < 2 ^ k → trailingZeros k m ∈ m
-unfolding has
-first-member k m f h = mem (eq-eqb (m / 2 ^ trailingZeros k m % 2) 1 (first-odd k m f h))
+  module _ (s : ℕ → ℕ → Bool) where
+    pub round-part : round s n w ⊆ bitAnd w (allBelow n)
+    round-part = record { each = λ v h. ∈-and (round-⊆ s n w .each v h) (in-all (∈-below (round-lt s n w) h)) }
+
+    pub in-round : {v : ℕ} → v ∈ bitAnd w (allBelow n) → s v w ≡ true → v ∈ round s n w
+    in-round {v} h e = ∈-round s n (is-site h) (and-⊆-l w (allBelow n) .each v h) e
 
 -- a set without one of its members is smaller
 pub fewer : {v rest : ℕ} → v ∈ rest → minus rest (single v) < rest
@@ -40,52 +32,58 @@ fewer {v} {rest} h =
     let ne : minus rest (single v) ≡ rest → ⊥ = λ e. minus-not-in rest (subst (λ (x : ℕ). v ∈ x) (sym e) h) (∈-single v) in
     omega arith
 
-module _ (s : ℕ → ℕ → Bool) (n w : ℕ) where
+-- without nobody
+pub minus-none : (m : ℕ) → minus m 0 ≡ m
+minus-none m = ⊆-antisym (minus-⊆ m 0) (record { each = λ v h. ∈-minus h not-in-zero })
+
+-- of the set `all`
+pub record SomeAsked (all sure most rest left : ℕ) : Type 0 where
+  pub part : left ⊆ all
+  pub keeps : sure ⊆ left
+  pub to-ask : rest ⊆ left
+  pub asked : (u : ℕ) → u ∈ left → (u ∈ rest → ⊥) → u ∈ most
+
+module _ {all sure most : ℕ} where
   -- nobody is asked yet
-  pub asked-none : 0 ≡ minus (round s n w) (bitAnd w (allBelow n))
-  asked-none =
-      sym (empty (minus (round s n w) (bitAnd w (allBelow n)))
-      (λ v h. let r = minus-⊆ (round s n w) (bitAnd w (allBelow n)) .each v h in
-      minus-not-in (round s n w) h (∈-and (round-⊆ s n w .each v r) (in-all (∈-below (round-lt s n w) r)))))
+  pub asked-none : sure ⊆ all → SomeAsked all sure most all all
+  asked-none s = record { part = ⊆-refl all; keeps = s; to-ask = ⊆-refl all; asked = λ u h f. absurd (f h) }
 
   -- everybody is asked
-  pub asked-all : minus (round s n w) 0 ≡ round s n w
-  asked-all = ⊆-antisym (minus-⊆ (round s n w) 0) (record { each = λ v h. ∈-minus h not-in-zero })
+  pub asked-all : {rest left : ℕ} → rest ≡ 0 → SomeAsked all sure most rest left → left ⊆ most
+  asked-all e a = record { each = λ u h. a .asked u h (λ k. not-in-zero (∈-eq e k)) }
 
-  -- one member more is asked
-  pub asked-more : {rest v stay m : ℕ} → v < n → v ∈ rest → stay ≡ minus (round s n w) rest → m ≡ cond (has w v && s v w) (single v) 0 →
-      bitOr stay m ≡ minus (round s n w) (minus rest (single v))
-  asked-more {rest} {v} l h p q = ap₂ bitOr p q ∙ ⊆-antisym (or-⊆ old new) back
-    where
-      R : ℕ
-      R = round s n w
+  module _ {rest left v : ℕ} (h : v ∈ rest) (a : SomeAsked all sure most rest left) where
+    pub asked-member : v ∈ all
+    asked-member = a .part .each v (a .to-ask .each v h)
 
-      test : Bool
-      test = has w v && s v w
+    others-asked : (u : ℕ) → u ∈ left → (u ∈ minus rest (single v) → ⊥) → (u ≡ v → u ∈ most) → u ∈ most
+    others-asked u i f same =
+        ⊎-elim (λ k. ⊎-elim (λ z. same (single-∈ v z)) (λ z. absurd (f (∈-minus k z))) (in? u (single v))) (a .asked u i) (in? u rest)
 
-      old : minus R rest ⊆ minus R (minus rest (single v))
-      old = record { each = λ u i. ∈-minus (minus-⊆ R rest .each u i) (λ j. minus-not-in R i (minus-⊆ rest (single v) .each u j)) }
+    -- v is asked, and stays
+    stayed : v ∈ most → SomeAsked all sure most (minus rest (single v)) left
+    stayed m =
+        record {
+          part = a .part;
+          keeps = a .keeps;
+          to-ask = ⊆-trans (minus-⊆ rest (single v)) (a .to-ask);
+          asked = λ u i f. others-asked u i f (λ e. subst (λ (x : ℕ). x ∈ most) (sym e) m);
+        }
 
-      new : cond test (single v) 0 ⊆ minus R (minus rest (single v))
-      new =
-          ⊎-elim
-          (λ e. subst (λ (x : Bool). cond x (single v) 0 ⊆ minus R (minus rest (single v))) (sym e)
-          (single-⊆ (∈-minus (∈-round s n l (mem (and-l (has w v) (s v w) e)) (and-r (has w v) (s v w) e)) (λ j. minus-not-in rest j (∈-single v)))))
-          (λ e. subst (λ (x : Bool). cond x (single v) 0 ⊆ minus R (minus rest (single v))) (sym e) (⊆-zero _))
-          (cases test)
+    -- v is asked, and goes
+    gone : (v ∈ sure → ⊥) → SomeAsked all sure most (minus rest (single v)) (minus left (single v))
+    gone out =
+        record {
+          part = ⊆-trans (minus-⊆ left (single v)) (a .part);
+          keeps = record { each = λ u i. ∈-minus (a .keeps .each u i) (λ z. out (subst (λ (x : ℕ). x ∈ sure) (single-∈ v z) i)) };
+          to-ask = minus-grows (single v) (a .to-ask);
+          asked = λ u i f.
+              others-asked u (minus-⊆ left (single v) .each u i) f (λ e. absurd (minus-not-in left i (subst (λ (x : ℕ). x ∈ single v) (sym e) (∈-single v))));
+        }
 
-      back : minus R (minus rest (single v)) ⊆ bitOr (minus R rest) (cond test (single v) 0)
-      back =
-          record {
-            each = λ u i.
-                let r = minus-⊆ R (minus rest (single v)) .each u i in
-                ⊎-elim
-                (λ k. ⊎-elim
-                (λ z. let rv = subst (λ (x : ℕ). x ∈ R) (single-∈ v z) r in
-                let e : test ≡ true = and-i (round-⊆ s n w .each v rv .holds) (round-slice s n rv) in
-                or-⊆-r (minus R rest) (cond test (single v) 0) .each u (subst (λ (x : Bool). u ∈ cond x (single v) 0) (sym e) z))
-                (λ f. absurd (minus-not-in R i (∈-minus k f)))
-                (in? u (single v)))
-                (λ f. or-⊆-l (minus R rest) (cond test (single v) 0) .each u (∈-minus r f))
-                (in? u rest);
-          }
+    module _ {rest' left' : ℕ} (e : rest' ≡ minus rest (single v)) where
+      pub asked-stays : left' ≡ left → v ∈ most → SomeAsked all sure most rest' left'
+      asked-stays q m = rw (e, q) (stayed m)
+
+      pub asked-goes : left' ≡ minus left (single v) → (v ∈ sure → ⊥) → SomeAsked all sure most rest' left'
+      asked-goes q out = rw (e, q) (gone out)

@@ -1,2 +1,4 @@
 -- What the loops of the rounds carry.
+pub mod First
 pub mod Places
+pub mod Swept

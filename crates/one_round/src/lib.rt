@@ -1,52 +1,198 @@
-// One round of the search for the largest quorum: the members of a set that have a slice inside it.
+// One round of the search for the largest quorum: the members of a set that have a slice inside it. And one sweep, which drops at once who has none.
 ghost use mathlib.Core.Path.{_≡_};
-ghost use mathlib.Core.Bool.{_&&_, cond};
+ghost use mathlib.Core.Bool.{cond};
 ghost use Prim.Native.Nat.{_<_};
-ghost use Rattle.masks.specs.Mask.{has, single, _∈_};
-ghost use Rattle.table.specs.Table.{Table};
+ghost use lib.ListN.{length};
+ghost use Rattle.masks.specs.Mask.{single, minus, within, _∈_};
+ghost use Rattle.table.specs.Table.{countOf, sliceOf, Table};
 ghost use Rattle.sets.specs.Slices.{slicesOf};
 ghost use Rattle.sets.specs.Quorum.{round};
-ghost use Rattle.one_round.specs.Inner.Places.{PlacesPassed};
+ghost use Rattle.one_round.specs.Inner.First.{first};
+ghost use Rattle.one_round.specs.Inner.Places.{Places, Placed, Held};
+ghost use Rattle.one_round.specs.Inner.Swept.{Swept};
 
-// The set of site v if it stays in the round that starts at w, else the empty set. Its place moves on to its first slice that still holds.
-fn stays(table: &[u64], n: usize, v: usize, w: u64, places: &mut [u8; 64]) -> u64
+// Slice i of site v is inside w.
+fn is_inside(table: &[u64], n: usize, v: usize, i: u8, w: u64) -> bool
     requires { ⌜ Table (now table) n ⌝ }
     requires { ⌜ v < n ⌝ }
-    requires { ⌜ PlacesPassed (now table) n w (now places) ⌝ }
-    ensures { λ r. ⌜ r ≡ cond (has w v && slicesOf (now (table .entry)) .inside v w) (single v) 0 ⌝ }
-    ensures { λ r. ⌜ PlacesPassed (now (table .entry)) n w (now (places .exit)) ⌝ }
+    requires { ⌜ i < countOf (now table) v ⌝ }
+    ensures { λ r. ⌜ r ≡ within (sliceOf (now (table .entry)) v i) w ⌝ }
 {
-    if !masks::has(w, v as u64) {
-        return 0;
-    }
+    masks::within(table[63 * v + 1 + i as usize], w)
+}
+
+// Site v of w has a slice inside w, at its place or behind it. Its place moves on to the first such slice.
+fn moves_on(table: &[u64], n: usize, v: usize, w: u64, places: &mut [u8; 64]) -> bool
+    requires { ⌜ Table (now table) n ⌝ }
+    requires { ⌜ v < n ⌝ }
+    requires { ⌜ v ∈ w ⌝ }
+    requires { ⌜ Places (now table) n w (now places) ⌝ }
+    ensures { λ r. ⌜ r ≡ slicesOf (now (table .entry)) .inside v w ⌝ }
+    ensures { λ r. ⌜ Places (now (table .entry)) n w (now (places .exit)) ⌝ }
+{
     let i = sets::next_inside(table, n, v, w, places[v]);
+    if i < table[63 * v] as usize {
+        places[v] = i as u8;
+        return true;
+    }
+    false
+}
+
+// Site v of w has a slice inside w. The slice at its place, which held it so far, is asked first.
+fn stays(table: &[u64], n: usize, v: usize, w: u64, places: &mut [u8; 64]) -> bool
+    requires { ⌜ Table (now table) n ⌝ }
+    requires { ⌜ v < n ⌝ }
+    requires { ⌜ v ∈ w ⌝ }
+    requires { ⌜ Places (now table) n w (now places) ⌝ }
+    ensures { λ r. ⌜ r ≡ slicesOf (now (table .entry)) .inside v w ⌝ }
+    ensures { λ r. ⌜ Places (now (table .entry)) n w (now (places .exit)) ⌝ }
+{
+    if is_inside(table, n, v, places[v], w) {
+        return true;
+    }
+    moves_on(table, n, v, w, places)
+}
+
+// The same, with the slice found held beside the place.
+fn moves_held(
+    table: &[u64],
+    n: usize,
+    v: usize,
+    w: u64,
+    places: &mut [u8; 64],
+    held: &mut [u64; 64],
+) -> bool
+    requires { ⌜ Table (now table) n ⌝ }
+    requires { ⌜ v < n ⌝ }
+    requires { ⌜ v ∈ w ⌝ }
+    requires { ⌜ Places (now table) n w (now places) ⌝ }
+    requires { ⌜ Held (now table) n w (now places) (now held) ⌝ }
+    ensures { λ r. ⌜ r ≡ slicesOf (now (table .entry)) .inside v w ⌝ }
+    ensures { λ r. ⌜ Places (now (table .entry)) n w (now (places .exit)) ⌝ }
+    ensures { λ r. ⌜ Held (now (table .entry)) n w (now (places .exit)) (now (held .exit)) ⌝ }
+{
+    let i = sets::next_inside(table, n, v, w, places[v]);
+    if i < table[63 * v] as usize {
+        places[v] = i as u8;
+        held[v] = table[63 * v + 1 + i];
+        return true;
+    }
+    false
+}
+
+// Site v of w has a slice inside w. If what is held beside its place is inside w, so is the slice, and neither table nor place is read.
+fn stays_held(
+    table: &[u64],
+    n: usize,
+    v: usize,
+    w: u64,
+    places: &mut [u8; 64],
+    held: &mut [u64; 64],
+) -> bool
+    requires { ⌜ Table (now table) n ⌝ }
+    requires { ⌜ v < n ⌝ }
+    requires { ⌜ v ∈ w ⌝ }
+    requires { ⌜ Places (now table) n w (now places) ⌝ }
+    requires { ⌜ Held (now table) n w (now places) (now held) ⌝ }
+    ensures { λ r. ⌜ r ≡ slicesOf (now (table .entry)) .inside v w ⌝ }
+    ensures { λ r. ⌜ Places (now (table .entry)) n w (now (places .exit)) ⌝ }
+    ensures { λ r. ⌜ Held (now (table .entry)) n w (now (places .exit)) (now (held .exit)) ⌝ }
+{
+    if masks::within(held[v], w) {
+        return true;
+    }
+    moves_held(table, n, v, w, places, held)
+}
+
+// Site v in the first round from w: the empty set if it has a slice inside w, else the set of v alone. Its place is the first such slice.
+fn goes(table: &[u64], n: usize, v: usize, w: u64, places: &mut [u8; 64]) -> u64
+    requires { ⌜ Table (now table) n ⌝ }
+    requires { ⌜ v < n ⌝ }
+    requires { ⌜ length (now places) ≡ 64 ⌝ }
+    ensures { λ r. ⌜ r ≡ cond (slicesOf (now (table .entry)) .inside v w) 0 (single v) ⌝ }
+    ensures { λ r. ⌜ Placed (now (table .entry)) w v (now (places .entry)) (now (places .exit)) ⌝ }
+{
+    let i = sets::next_inside(table, n, v, w, 0);
     places[v] = i as u8;
     if i < table[63 * v] as usize {
-        return masks::single(v as u64);
+        return 0;
     }
-    0
+    masks::single(v as u64)
 }
 
 // The first member of a set that is not empty.
 fn first_member(m: u64) -> usize
     requires { ⌜ (m ≡ 0 → ⊥) ⌝ }
-    ensures { λ r. ⌜ r ∈ m ⌝ }
+    ensures { λ r. ⌜ (r ≡ first m) × (r ∈ m) ⌝ }
 {
     u64::trailing_zeros(m) as usize
 }
 
-// One round from w: the sites that stay, asked member by member. Each member's place moves on to its first slice that still holds.
-pub fn round_from(table: &[u64], n: usize, w: u64, places: &mut [u8; 64]) -> u64
-    requires { ⌜ Table (now table) n ⌝ }
-    requires { ⌜ PlacesPassed (now table) n w (now places) ⌝ }
-    ensures { λ r. ⌜ (r ≡ round (slicesOf (now (table .entry)) .inside) n w) × PlacesPassed (now (table .entry)) n w (now (places .exit)) ⌝ }
+// A set that is not empty, without its first member.
+fn but_first(m: u64) -> u64
+    requires { ⌜ (m ≡ 0 → ⊥) ⌝ }
+    ensures { λ r. ⌜ r ≡ minus m (single (first m)) ⌝ }
 {
-    let mut stay = 0u64;
-    let mut rest = w & masks::all_below(n as u64);
+    m & (m - 1)
+}
+
+// The first round from w: the sites that stay, asked member by member. Who stays gets its place.
+pub fn first_round(table: &[u64], n: usize, w: u64, places: &mut [u8; 64]) -> u64
+    requires { ⌜ Table (now table) n ⌝ }
+    requires { ⌜ length (now places) ≡ 64 ⌝ }
+    ensures { λ r. ⌜ (r ≡ round (slicesOf (now (table .entry)) .inside) n w) × Places (now (table .entry)) n r (now (places .exit)) ⌝ }
+{
+    let mut stay = w & masks::all_below(n as u64);
+    let mut rest = stay;
     while rest != 0 {
         let v = first_member(rest);
-        stay = stay | stays(table, n, v, w, places);
-        rest = masks::minus(rest, masks::single(v as u64));
+        stay = masks::minus(stay, goes(table, n, v, w, places));
+        rest = but_first(rest);
     }
     stay
+}
+
+// A later round from w: the sites that stay. A member whose held slice is still inside w is not asked.
+pub fn round_from(
+    table: &[u64],
+    n: usize,
+    w: u64,
+    places: &mut [u8; 64],
+    held: &mut [u64; 64],
+) -> u64
+    requires { ⌜ Table (now table) n ⌝ }
+    requires { ⌜ Places (now table) n w (now places) ⌝ }
+    requires { ⌜ Held (now table) n w (now places) (now held) ⌝ }
+    ensures { λ r. ⌜ r ≡ round (slicesOf (now (table .entry)) .inside) n w ⌝ }
+    ensures { λ r. ⌜ Places (now (table .entry)) n r (now (places .exit)) ⌝ }
+    ensures { λ r. ⌜ Held (now (table .entry)) n r (now (places .exit)) (now (held .exit)) ⌝ }
+{
+    let mut stay = w & masks::all_below(n as u64);
+    let mut rest = stay;
+    while rest != 0 {
+        let v = first_member(rest);
+        if !stays_held(table, n, v, w, places, held) {
+            stay = masks::minus(stay, masks::single(v as u64));
+        }
+        rest = but_first(rest);
+    }
+    stay
+}
+
+// One sweep through w: each member is asked whether it has a slice inside what is left of w, and goes at once if it has none. The rounds are not told apart.
+pub fn sweep_through(table: &[u64], n: usize, w: u64, places: &mut [u8; 64]) -> u64
+    requires { ⌜ Table (now table) n ⌝ }
+    requires { ⌜ Places (now table) n w (now places) ⌝ }
+    ensures { λ r. ⌜ Swept (slicesOf (now (table .entry)) .inside) n w r × Places (now (table .entry)) n r (now (places .exit)) ⌝ }
+{
+    let mut left = w & masks::all_below(n as u64);
+    let mut rest = left;
+    while rest != 0 {
+        let v = first_member(rest);
+        if !stays(table, n, v, left, places) {
+            left = masks::minus(left, masks::single(v as u64));
+        }
+        rest = but_first(rest);
+    }
+    left
 }

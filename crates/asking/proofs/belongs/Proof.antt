@@ -40,7 +40,7 @@ returns-4 : tie.Need-returns-4
 returns-4 c =
     let b = c .before .before .before .before .before .before .before .before .before in
     let a = b .args in
-    let e = c .before .largest .ensures .0 in (
+    let e = c .before .largest-set .ensures in (
       c .has3 .ensures ∙ ap (λ (x : ℕ). has x (a .receiver)) e ∙ quorum-asked (b .pre .0) (a .receiver) (a .w),
       asked-now (a .w) _ (b .pre .1 .1) (λ v h. ap (λ (x : ℕ). has x v) e ∙ quorum-asked (b .pre .0) v (a .w)),
     )

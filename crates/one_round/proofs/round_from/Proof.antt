@@ -1,76 +1,88 @@
--- `round_from` meets its contract: of the members that are not in `rest` those that stay are gathered.
+-- `round_from` meets its contract: who is asked stays if it has a slice inside w, and goes if not.
 use Prim.Native.Nat.{ℕ, _<_}
+use mathlib.Core.Logic.{⊎-elim}
 use mathlib.Core.Path.{_≡_, sym, ap, _∙_, subst}
 use native.Mathlib.Omega.{arith}
 use lib.Bits.{bitAnd}
-use lib.Pow.{ones-lt}
 use borrow.Author.Needs.{needs}
+use borrow.Author.Tests.{not-true, not-false}
 use denote.Ref.{now}
-use Rattle.masks.proofs.Laws.Subsets.{⊆-trans, ∈-below, and-⊆-r, minus-⊆}
-use Rattle.masks.specs.Mask.{single, minus, allBelow, _∈_, _⊆_}
-use Rattle.one_round.specs.Inner.Places.{PlacesPassed}
+use Rattle.ground.proofs.Logic.{clash}
+use Rattle.masks.proofs.Laws.Subsets.{⊆-antisym, ⊆-trans, and-⊆-l}
+use Rattle.masks.specs.Mask.{single, minus, allBelow}
+use Rattle.one_round.specs.Inner.Places.{Places, Held}
+use Rattle.one_round.proofs.First.{out-next}
+use Rattle.one_round.proofs.Places.{places-less, held-less}
+use Rattle.one_round.proofs.Rounds.{is-site, round-part, in-round, fewer, SomeAsked, asked-none, asked-all, asked-member, asked-stays, asked-goes}
+use Rattle.one_round.proofs.round_from.Statement.{statement}
+use Rattle.sets.proofs.Quorum.{round-slice}
 use Rattle.sets.specs.Quorum.{round}
 use Rattle.sets.specs.Slices.{slicesOf}
-use Rattle.one_round.proofs.Rounds.{fewer, asked-none, asked-more, asked-all}
-use Rattle.one_round.proofs.round_from.Statement.{statement}
 use Rattle.one_round.proofs.round_from.Tie as tie
 
 abbrev Inv-loop : tie.InvT-loop
-Inv-loop table n w places₀ stay₀ rest₀ places stay rest =
-    (rest ⊆ allBelow n) × (stay ≡ minus (round (slicesOf table .inside) n w) rest) × PlacesPassed table n w places
+Inv-loop table n w places₀ held₀ stay₀ rest₀ places held stay rest =
+    SomeAsked (bitAnd w (allBelow n)) (round (slicesOf table .inside) n w) (round (slicesOf table .inside) n w) rest stay × Places table n w places × Held table n w places held
 
 abbrev μ-loop : tie.MeasureT-loop
-μ-loop table n w places₀ stay₀ rest₀ places stay rest = rest
+μ-loop table n w places₀ held₀ stay₀ rest₀ places held stay rest = rest
 
 loop-holds : tie.Need-loop-holds Inv-loop μ-loop
 loop-holds c =
-    let a = c .before .before .args in
-    let e = sym (c .all-below .ensures) in (
-      subst (λ (x : ℕ). bitAnd (a .w) x ⊆ allBelow (a .n)) e (and-⊆-r (a .w) (allBelow (a .n))),
-      asked-none (slicesOf (now (a .table)) .inside) (a .n) (a .w) ∙ ap (λ (x : ℕ). minus (round (slicesOf (now (a .table)) .inside) (a .n) (a .w)) (bitAnd (a .w) x)) e,
-      c .before .before .pre .1,
-    )
+    let p = c .before .before in
+    let a = p .args in
+    let s = slicesOf (now (a .table)) .inside in
+    let W = bitAnd (a .w) (allBelow (a .n)) in
+    let R = round s (a .n) (a .w) in
+    let start : SomeAsked W R R W W = asked-none (round-part (a .n) (a .w) s) in
+    (subst (λ (x : ℕ). SomeAsked W R R (bitAnd (a .w) x) (bitAnd (a .w) x)) (sym (c .all-below .ensures)) start, p .pre .1 .0, p .pre .1 .1)
 
--- a member that is still to be asked is a site
-is-site : {n v rest : ℕ} → rest ⊆ allBelow n → v ∈ rest → v < n
-is-site {n} {v} s h = ∈-below (ones-lt n) (s .each v h)
-
-stays-requires : tie.Need-stays-requires Inv-loop μ-loop
-stays-requires c κs =
-    let l = c .before .before .before .loop in
-    (c .before .before .before .before .before .before .pre .0, (is-site (l .inv .0) (c .before .first-member .ensures), l .inv .2))
+stays-held-requires : tie.Need-stays-held-requires Inv-loop μ-loop
+stays-held-requires c κs =
+    let p = c .before .before .before .before .before .before .before in
+    let a = p .args in
+    let l = c .before .before .before .before .loop in
+    let v = c .before .before .first-member in
+    let m = asked-member (v .ensures .1) (l .inv .0) in
+    (p .pre .0, (is-site (a .n) (a .w) m, (and-⊆-l (a .w) (allBelow (a .n)) .each (v .result) m, (l .inv .1, l .inv .2))))
 
 single-requires : tie.Need-single-requires Inv-loop μ-loop
 single-requires c κs =
-    let few = c .before .before .before .before .before .before .before .pre .0 .few-sites in
-    let l = is-site (c .before .before .before .before .loop .inv .0) (c .before .before .first-member .ensures) in
+    let p = c .before .before .before .before .before .before .before .before .before in
+    let few = p .pre .0 .few-sites in
+    let l = is-site (p .args .n) (p .args .w) (asked-member (c .before .before .before .before .first-member .ensures .1) (c .before .before .before .before .before .before .loop .inv .0)) in
     omega arith
 
 loop-less : tie.Need-loop-less Inv-loop μ-loop
 loop-less c =
-    let e = c .minus .ensures ∙ ap (minus (c .before .before .before .before .before .before .loop .rest)) (c .before .single .ensures) in
-    subst (λ (x : ℕ). x < c .before .before .before .before .before .before .loop .rest) (sym e) (fewer (c .before .before .before .before .first-member .ensures))
+    let v = c .before .before .before .before .before .first-member in
+    let rest = c .before .before .before .before .before .before .before .loop .rest in
+    subst (λ (x : ℕ). x < rest) (sym (out-next rest (c .but-first .ensures) (v .ensures .0))) (fewer (v .ensures .1))
 
 loop-again : tie.Need-loop-again Inv-loop μ-loop
 loop-again c =
-    let a = c .before .before .before .before .before .before .before .before .before .args in
-    let l = c .before .before .before .before .before .before .loop in
-    let v = c .before .before .before .before .first-member in
+    let a = c .before .before .before .before .before .before .before .before .before .before .args in
     let s = slicesOf (now (a .table)) .inside in
-    let e = c .minus .ensures ∙ ap (minus (l .rest)) (c .before .single .ensures) in (
-      subst (λ (x : ℕ). x ⊆ allBelow (a .n)) (sym e) (⊆-trans (minus-⊆ (l .rest) (single (v .result))) (l .inv .0)),
-      asked-more s (a .n) (a .w) (is-site (l .inv .0) (v .ensures)) (v .ensures) (l .inv .1) (c .before .before .stays .ensures .0)
-          ∙ ap (minus (round s (a .n) (a .w))) (sym e),
-      c .before .before .stays .ensures .1,
+    let l = c .before .before .before .before .before .before .before .loop in
+    let v = c .before .before .before .before .before .first-member in
+    let x = c .before .before .stays-held .ensures in
+    let e = out-next (l .rest) (c .but-first .ensures) (v .ensures .0) in (
+      ⊎-elim
+          (λ k. asked-goes (v .ensures .1) (l .inv .0) e (k .3 ∙ k .2 .ensures ∙ ap (minus (l .stay)) (k .1 .ensures))
+          (λ h. clash (round-slice s (a .n) h) (sym (x .0) ∙ not-true _ (k .0 .taken))))
+          (λ k. asked-stays (v .ensures .1) (l .inv .0) e (k .1) (in-round (a .n) (a .w) s (asked-member (v .ensures .1) (l .inv .0)) (sym (x .0) ∙ not-false _ (k .0 .left))))
+          (c .before .if1 .came),
+      x .1 .0,
+      x .1 .1,
     )
 
 returns : tie.Need-returns Inv-loop μ-loop
 returns c =
     let a = c .before .before .before .before .args in
+    let t = now (a .table) in
     let l = c .before .loop in
-    let s = slicesOf (now (a .table)) .inside in
-    let e : l .rest ≡ 0 = c .loop-test .left in
-    (l .inv .1 ∙ ap (minus (round s (a .n) (a .w))) e ∙ asked-all s (a .n) (a .w), l .inv .2)
+    let part = ⊆-trans (l .inv .0 .part) (and-⊆-l (a .w) (allBelow (a .n))) in
+    (⊆-antisym (asked-all (c .loop-test .left) (l .inv .0)) (l .inv .0 .keeps), (places-less t (a .n) part (l .inv .1), held-less t (a .n) part (l .inv .2)))
 
 pub round-from-spec : {M : Type 1} → statement M
 round-from-spec =
@@ -81,8 +93,9 @@ round-from-spec =
     (λ c κs. search needs)
     loop-holds
     (λ c κs. search needs)
-    stays-requires
+    stays-held-requires
     single-requires
+    (λ c κs. search needs)
     (λ c κs. search needs)
     loop-less
     loop-again
