@@ -8,6 +8,7 @@
 //! arguments, only the rows whose names contain one of them; with `agree` alone, nothing is timed.
 
 mod fast;
+#[allow(dead_code)]
 mod inputs;
 #[allow(dead_code)]
 #[path = "../compare/library.rs"]

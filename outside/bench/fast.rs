@@ -405,9 +405,15 @@ fn belongs(rows: &[[u64; ROW]], w: u64, site: usize) -> bool {
     w >> site & 1 == 1 && find(&rows[site], 0, w).is_some() && narrow(rows, w, 0, 1 << site).0 >> site & 1 == 1
 }
 
+/// Do the others meet every slice? Many slices are asked eight at a time, without a branch.
 #[inline]
 fn is_blocked(row: &[u64; ROW], others: u64) -> bool {
-    slices(row).iter().all(|slice| slice & others != 0)
+    if row[0] < 16 {
+        return slices(row).iter().all(|slice| slice & others != 0);
+    }
+    let (eights, rest) = slices(row).as_chunks::<8>();
+    let missed = |some: u64, slice: &u64| some | u64::from(slice & others == 0);
+    eights.iter().all(|eight| eight.iter().fold(0, missed) == 0) && rest.iter().fold(0, missed) == 0
 }
 
 #[inline(always)]
@@ -684,7 +690,7 @@ fn with_more_words(sets: &mut Sets) {
 /// The sets in which the site, if it is a member, has a slice. The slices ascend, so that those of one word follow each
 /// other.
 #[inline(always)]
-pub fn content(row: &[u64; ROW], site: usize) -> Sets {
+fn content(row: &[u64; ROW], site: usize) -> Sets {
     let mut sets = [0; 64];
     let (mut word, mut at) = (0, 0);
     for slice in slices(row) {
@@ -705,36 +711,36 @@ pub fn content(row: &[u64; ROW], site: usize) -> Sets {
 }
 
 /// The first of two quorums of the table without `gone` that have no common site, with the smallest mask. `fitting` are
-/// the sets in which each member outside `gone` has a slice. A quorum is looked for together with `gone`.
+/// the sets in which each member outside `gone` has a slice; in them each quorum is looked for together with `gone`.
 #[inline(always)]
-pub fn first_apart(fitting: &Sets, sites: u32, gone: u32) -> Option<u32> {
+fn first_apart(fitting: &Sets, sites: u32, gone: u32) -> Option<u32> {
     let (gone_words, gone_bits) = ((gone >> 6) as usize, (gone & 63) as usize);
-    let inside = |word: usize| word & gone_words == gone_words && word as u32 & !(sites >> 6) == 0;
     let few = if sites < 63 { (1u64 << (sites + 1)) - 1 } else { u64::MAX };
     let mut quorums = [0; 64];
-    for word in 0..64 {
-        quorums[word] = if inside(word) { fitting[word] & ABOVE[gone_bits] & few } else { 0 };
+    for (at, word) in quorums.iter_mut().enumerate() {
+        if at & gone_words == gone_words && at as u32 & !(sites >> 6) == 0 {
+            *word = fitting[at] & ABOVE[gone_bits] & few;
+        }
     }
     quorums[gone_words] &= !(1 << gone_bits);
+    // The sets that hold a quorum.
     let mut holding = quorums;
     for word in &mut holding {
-        for site in 0..6 {
-            *word |= (*word & !CONTAIN[site]) << (1 << site);
+        for (site, contain) in CONTAIN.iter().enumerate() {
+            *word |= (*word & !contain) << (1 << site);
         }
     }
     with_more_words(&mut holding);
-    for word in 0..64 {
-        if quorums[word] != 0 {
-            let mut other = holding[(63 - word) | gone_words];
-            for site in 0..6 {
-                if gone_bits >> site & 1 == 1 {
-                    other |= (other & CONTAIN[site]) >> (1 << site);
-                }
-            }
-            let apart = quorums[word] & other.reverse_bits();
-            if apart != 0 {
-                return Some(((word as u32) << 6 | apart.trailing_zeros()) & !gone);
-            }
+    // Of the complements of the sets of a word, each with `gone`, those that hold one.
+    let others = |at: usize| {
+        let mut word = holding[(63 - at) | gone_words];
+        each(gone_bits as u64, |site| word |= (word & CONTAIN[site % 6]) >> (1 << site));
+        word.reverse_bits()
+    };
+    for (at, word) in quorums.iter().enumerate().filter(|(_, word)| **word != 0) {
+        let apart = word & others(at);
+        if apart != 0 {
+            return Some(((at as u32) << 6 | apart.trailing_zeros()) & !gone);
         }
     }
     None
@@ -756,50 +762,66 @@ pub fn shared_by_words(table: &[u64]) -> Answer {
     }))
 }
 
-/// The intact sites of a table of at most 12. All candidates for the sites outside a dispensable set are quorums, and so
-/// inside the largest quorum outside the faulty set.
+/// Those of the sets that are not empty and inside a set.
+fn inside(sets: &Sets, whole: u32) -> Sets {
+    let mut inside = [0; 64];
+    for (at, word) in inside.iter_mut().enumerate() {
+        if at as u32 & !(whole >> 6) == 0 {
+            *word = sets[at] & ABOVE[!whole as usize & 63].reverse_bits();
+        }
+    }
+    inside[0] &= !1;
+    inside
+}
+
+/// The last of the sets below a set.
+#[inline(always)]
+fn last_below(sets: &Sets, end: u32) -> Option<u32> {
+    let mut at = end as usize / 64 % 64;
+    let mut word = sets[at] & ((1 << (end % 64)) - 1);
+    while word == 0 {
+        at = at.checked_sub(1)?;
+        word = sets[at];
+    }
+    Some((at as u32) << 6 | word.ilog2())
+}
+
+/// How many pairs of quorums are kept.
+const PAIRS: usize = 16;
+
+/// The intact sites of a table of at most 12. What a dispensable set leaves is a quorum, and so inside the largest quorum
+/// outside the faulty set. Two quorums that have no common site without B have none without any larger set either, as
+/// long as something of both is left: the pairs that were found are tried first.
 fn intact_from_words(rows: &[[u64; ROW]], faulty: u64) -> u64 {
     let sites = all_sites(rows.len()) as u32;
-    let left = narrow(rows, u64::from(sites) & !faulty, 0, 0).0 as u32;
-    if left == 0 {
+    let most = narrow(rows, u64::from(sites) & !faulty, 0, 0).0 as u32;
+    if most == 0 {
         return 0;
     }
     let mut contents = [[u64::MAX; 64]; 12];
-    each(left.into(), |site| contents[site] = content(&rows[site], site));
+    each(most.into(), |site| contents[site] = content(&rows[site], site));
     let fitting = |set: u32| {
         let mut fitting = [u64::MAX; 64];
         each(set.into(), |site| fitting.iter_mut().zip(&contents[site % 12]).for_each(|(sets, more)| *sets &= more));
         fitting
     };
-    let all = fitting(left);
-    let mut pairs = [(0, 0, 0); 16];
-    let mut count = 0;
-    let mut intact = 0;
-    let inside = CONTAIN
-        .iter()
-        .enumerate()
-        .fold(u64::MAX, |sets, (site, contain)| if left >> site & 1 == 1 { sets } else { sets & !contain });
-    for word in (0..64usize).rev().filter(|word| *word as u32 & !(left >> 6) == 0) {
-        let mut sets = all[word] & inside;
-        while sets != 0 {
-            let rest = (word as u32) << 6 | sets.ilog2();
-            sets &= !(1 << sets.ilog2());
-            let gone = sites & !rest;
-            let known = pairs.iter().any(|(without, p, q)| without & !gone == 0 && p & rest != 0 && q & rest != 0);
-            if rest & !intact == 0 || known {
-                continue;
-            }
-            match first_apart(&if rest == left { all } else { fitting(rest) }, sites, gone) {
+    let all = fitting(most);
+    let quorums = inside(&all, most);
+    let (mut intact, mut pairs, mut found) = (0, [(0, 0, 0); PAIRS], 0);
+    let mut next = Some(most);
+    while let Some(rest) = next {
+        let gone = sites & !rest;
+        let known = || pairs.iter().any(|(without, p, q)| without & !gone == 0 && p & rest != 0 && q & rest != 0);
+        if rest & !intact != 0 && !known() {
+            match first_apart(&if rest == most { all } else { fitting(rest) }, sites, gone) {
                 None => intact |= rest,
                 Some(p) => {
-                    pairs[count % 16] = (gone, p, narrow(rows, (rest & !p).into(), gone.into(), 0).0 as u32);
-                    count += 1;
+                    pairs[found % PAIRS] = (gone, p, narrow(rows, (rest & !p).into(), gone.into(), 0).0 as u32);
+                    found += 1;
                 }
             }
-            if intact == left {
-                return intact.into();
-            }
         }
+        next = if intact == most { None } else { last_below(&quorums, rest) };
     }
     intact.into()
 }
@@ -833,7 +855,7 @@ fn is_sound(rows: &[[u64; ROW]], faulty: u64, state: &[u64]) -> bool {
             return false;
         }
         if w != last.0 {
-            if find(&rows[v], 0, w).is_none() {
+            if near(&rows[v], w).is_none() {
                 return false;
             }
             let most = if last.0 == 0 {
