@@ -363,14 +363,20 @@ type Told = fn(&[u64], u64, &[[u8; 4]], &mut [u64], &mut [u8]) -> Answer;
 
 /// The rows of a kind of run: all lists, or those over which the model does not take too long. `list` puts the calls as
 /// the library takes them.
-fn runs_of<T>(bench: &Bench, (kind, all): (&str, bool), run: Run<T>, list: fn(&[[u8; 4]]) -> (*const T, usize)) {
+fn runs_of<T>(
+    bench: &Bench,
+    (kind, all): (&str, bool),
+    run: Run<T>,
+    list: fn(&[[u8; 4]]) -> (*const T, usize),
+    (again, by_rules): (Told, Told),
+) {
     for (name, table, faulty, calls, by_model) in inputs::lists() {
         let row = format!("{kind}, {name}");
         if !(all || by_model) || !bench.wants(&row) {
             continue;
         }
         let memory = memory(&table);
-        let mut told: Vec<(&str, Told)> = vec![("again", fast::run_records), ("waking", fast::run_records_by_waking)];
+        let mut told: Vec<(&str, Told)> = vec![("again", again), ("waking", fast::run_records_by_waking)];
         if table.len() <= 12 {
             told.push(("list", fast::run_records_by_list));
         }
@@ -389,7 +395,7 @@ fn runs_of<T>(bench: &Bench, (kind, all): (&str, bool), run: Run<T>, list: fn(&[
             way(name, move || told(black_box(memory), faulty, black_box(calls), state, answers))
         });
         let mut model = rooms();
-        let expected = by_model.then(|| model::run_records(memory, faulty, calls, &mut model.0, &mut model.1));
+        let expected = by_model.then(|| by_rules(memory, faulty, calls, &mut model.0, &mut model.1));
         bench.row(&row, expected, Box::new(library), ways.collect());
         others.extend(by_model.then_some(model));
         assert!(others.iter().all(|rooms| *rooms == (state.clone(), answers.clone())), "{row}: the rooms differ");
@@ -397,11 +403,20 @@ fn runs_of<T>(bench: &Bench, (kind, all): (&str, bool), run: Run<T>, list: fn(&[
 }
 
 /// The run over a list of bytes, and the same run over a list of records. Four bytes of a list stand in memory as the
-/// record does, so that Rust has one function for both.
+/// record does.
 fn runs(bench: &Bench) {
-    runs_of(bench, ("run", true), siren_run, |calls| (calls.as_flattened().as_ptr(), calls.as_flattened().len()));
+    runs_of(
+        bench,
+        ("run", true),
+        siren_run,
+        |calls| (calls.as_flattened().as_ptr(), calls.as_flattened().len()),
+        (
+            |table, faulty, calls, state, answers| fast::run(table, faulty, calls.as_flattened(), state, answers),
+            |table, faulty, calls, state, answers| model::run(table, faulty, calls.as_flattened(), state, answers),
+        ),
+    );
     let list = |calls: &[[u8; 4]]| (calls.as_ptr().cast::<Call>(), calls.len());
-    runs_of(bench, ("run of records", false), siren_run_records, list);
+    runs_of(bench, ("run of records", false), siren_run_records, list, (fast::run_records, model::run_records));
 }
 
 /// What was told of the calls so far, and one call more: another order tells something else.

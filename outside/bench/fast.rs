@@ -1,5 +1,8 @@
 //! The library's answers as fast as plain Rust gives them: what the benchmark measures the library against. No memory
 //! is allocated, no crate is used, and no instruction is asked for that every x86-64 machine does not have.
+//!
+//! Verdicts and runs can be had in several ways, and which is the fastest depends on the table and the list: there the
+//! benchmark times all. `shared`, `intact`, `run` and `run_records` go one of them, the others have it in their names.
 
 #![allow(dead_code)]
 
@@ -1209,6 +1212,12 @@ impl Waiting {
         Waiting { first: [END; 256], next: [END; 4096], now: none(), later: none() }
     }
 
+    #[inline(always)]
+    fn wait(&mut self, chain: usize, place: usize) {
+        self.next[place % 4096] = self.first[chain];
+        self.first[chain] = place as u16;
+    }
+
     /// What waited for this is tried in this pass, if its place is yet to come.
     #[inline(always)]
     fn wake(&mut self, chain: usize, place: usize) {
@@ -1295,18 +1304,30 @@ fn passes_by(
     if !changed {
         return 2;
     }
+    2 + woken_passes(calls, (heard, masks), answers, &refused[..left], work_out)
+}
+
+/// The passes from the third on, over the calls that the second refused. Votes are sent by proposals alone, and no
+/// proposal waits: only accepts are waited for.
+#[inline(always)]
+fn woken_passes(
+    calls: &[[u8; 4]],
+    (heard, masks): State,
+    answers: &mut [u8],
+    refused: &[u16],
+    mut work_out: impl FnMut(&mut [u64; 4], &mut [u64; 6], [usize; 4]),
+) -> u64 {
     let mut waiting = Waiting::new();
-    for place in refused[..left].iter().map(|place| usize::from(*place)) {
+    for place in refused.iter().map(|place| usize::from(*place)) {
         let [kind, from, _, side] = calls[place].map(usize::from);
         if masks[(2 * (kind - 1) + side) % 6] >> from & 1 == 1 {
             waiting.later.insert(place);
         } else {
-            let chain = chain(kind, from, side);
-            waiting.next[place % 4096] = waiting.first[chain];
-            waiting.first[chain] = place as u16;
+            waiting.wait(chain(kind, from, side), place);
         }
     }
-    let mut passes = 2;
+    let mut passes = 0;
+    let mut changed = true;
     while changed {
         passes += 1;
         changed = false;
@@ -1316,7 +1337,6 @@ fn passes_by(
             let before = masks[ACCEPTED + side % 2];
             answers[place] = 0;
             changed |= try_again(heard, masks, calls[place], &mut work_out) == Some(true);
-            // Votes are sent by proposals alone, and no proposal waits.
             if masks[ACCEPTED + side % 2] != before {
                 waiting.wake(chain(2, to, side), place);
             }
