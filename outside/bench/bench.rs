@@ -171,7 +171,7 @@ impl Bench {
     fn end(&self) {
         match self.above.borrow().as_slice() {
             [] => println!("\nNo row is above {LIMIT}."),
-            rows => println!("\nAbove {LIMIT}: {}.", rows.join("; ")),
+            rows => println!("\nAbove {LIMIT}, {} rows: {}.", rows.len(), rows.join("; ")),
         }
         if !self.apart.borrow().is_empty() {
             println!("\n{APART}\n");

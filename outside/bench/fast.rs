@@ -288,7 +288,7 @@ fn near(row: &[u64; ROW], set: u64) -> Option<usize> {
 /// `gone`.
 #[inline(always)]
 fn narrow(rows: &[[u64; ROW]], w: u64, gone: u64, wanted: u64) -> (u64, u64) {
-    if w.count_ones() > 12 {
+    if rows.len() > 12 && w.count_ones() > 12 {
         return narrow_many(rows, w, gone, wanted);
     }
     let mut place = [0u8; MOST_SITES];
