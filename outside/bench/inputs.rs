@@ -89,12 +89,12 @@ pub fn block_chain(n: usize) -> Rows {
 }
 
 /// Sites 0 and 1 hold each other, each further site the one before it.
-fn longest(n: usize) -> Rows {
+pub fn longest(n: usize) -> Rows {
     (0..n).map(|v| vec![if v < 2 { 3 } else { 1 << v | 1 << (v - 1) }]).collect()
 }
 
 /// Every slice holds site `hub`; 62 slices a site, the smallest.
-fn hub(n: usize, hub: usize) -> Rows {
+pub fn hub(n: usize, hub: usize) -> Rows {
     (0..n).map(|v| filled(Vec::new(), 1 << hub | 1 << v, 0, 1 << n)).collect()
 }
 
@@ -121,16 +121,28 @@ fn backward_chain(n: u8) -> Vec<Call> {
     calls
 }
 
-/// n + 3 passes, the most that there can be; with repeats of a vote that waits for its sender, up to 4,096 calls.
-fn longest_list(n: u8, padded: bool) -> Vec<Call> {
+/// n + 3 passes, the most that there can be; with repeats of a vote that waits for its sender, as many calls as wanted,
+/// at least n + 3.
+pub fn longest_list(n: u8, count: usize) -> Vec<Call> {
     let mut calls = vec![[2, n - 1, 0, 0]];
     calls.extend((2..n).rev().map(|v| [2, v - 1, v, 0]));
     calls.push([2, 0, 1, 0]);
-    if padded {
-        calls.resize(4096 - 3, [1, 1, 0, 0]);
-    }
+    calls.resize(count - 3, [1, 1, 0, 0]);
     calls.extend([[1, 1, 0, 0], [0, 0, 0, 0], [0, 1, 1, 0]]);
     calls
+}
+
+/// Drawn calls for drill: one in eight a proposal, the others votes and accepts between two sites.
+pub fn drawn_list(n: usize, count: usize) -> Vec<Call> {
+    let mut rng = Rng(4711);
+    let mut call = || {
+        let (from, to) = (rng.below(n), rng.below(n));
+        match rng.below(8) {
+            0 => [0, to as u8, to as u8, 0],
+            drawn => [1 + drawn as u8 % 2, from as u8, to as u8, 0],
+        }
+    };
+    (0..count).map(|_| call()).collect()
 }
 
 /// The faulty sites 1 to f send votes, then accepts, for both sides to each correct site: every call is new, and over
@@ -211,8 +223,8 @@ pub fn lists() -> Vec<(&'static str, Rows, u64, Vec<Call>, bool)> {
     vec![
         ("block chain, 4,033 calls, 64 sites", block_chain(64), 0, backward_chain(64), false),
         ("flood by 32 faulty sites, 64 sites", costly_chain(64), faulty, flood, false),
-        ("67 passes, 67 calls", longest(64), 0, longest_list(64, false), true),
-        ("67 passes, 4,096 calls", longest(64), 0, longest_list(64, true), true),
+        ("67 passes, 67 calls", longest(64), 0, longest_list(64, 67), true),
+        ("67 passes, 4,096 calls", longest(64), 0, longest_list(64, 4096), true),
         ("plain day, 276 calls, 12 sites", random(&mut Rng(99), 12, 20, 1), 0, plain_day(12), true),
         ("plain day, 276 calls, 12 sites, symmetric", symmetric(12, 10), 0, plain_day(12), true),
     ]
