@@ -2,7 +2,7 @@
 use Prim.Native.Nat.{ℕ, zero, suc, _+_, _*_, _%_, _^_, _≤_, _<_}
 use mathlib.Core.Bool.{Bool, true, false}
 use mathlib.Core.List.{List, _++_}
-use mathlib.Core.Path.{_≡_, refl, _∙_}
+use mathlib.Core.Path.{_≡_, refl, _∙_, subst}
 use native.Mathlib.Nat.{mod-add-mod, add-mod-mod, mod-lt}
 use native.Mathlib.Numerals.{add-one}
 use native.Mathlib.Omega.{arith}
@@ -24,6 +24,13 @@ unfolding sumT
 turn-t b k s t et es =
     rw (et, es, add-one k)
     (mod-add-mod (sumT b k) (2 ^ 32) (sumS b (suc k) % 2 ^ 32) ∙ add-mod-mod (sumT b k) (sumS b (suc k)) (2 ^ 32))
+
+-- the sums after i words are those after j, if these are as many
+pub as-many-s : (b : List ℕ) (x : ℕ) {i j : ℕ} → i ≡ j → x ≡ sumS b i % 2 ^ 32 → x ≡ sumS b j % 2 ^ 32
+as-many-s b x e h = subst (λ (y : ℕ). x ≡ sumS b y % 2 ^ 32) e h
+
+pub as-many-t : (b : List ℕ) (x : ℕ) {i j : ℕ} → i ≡ j → x ≡ sumT b i % 2 ^ 32 → x ≡ sumT b j % 2 ^ 32
+as-many-t b x e h = subst (λ (y : ℕ). x ≡ sumT b y % 2 ^ 32) e h
 
 -- the answer, by the tests in order
 pub says-size : (b : List ℕ) → (length b ≡ 512 → ⊥) → check b ≡ 1
