@@ -1,6 +1,5 @@
 -- Laws of the first member of a set: that it is one, and the set without it.
 use Prim.Native.Nat.{ℕ, zero, suc, _+_, _-_, _*_, _/_, _%_, _^_, _<_, min}
-use mathlib.Core.Logic.{⊎-elim}
 use mathlib.Core.Path.{_≡_, refl, sym, ap, _∙_, subst}
 use native.Mathlib.Nat.{zero-lt-suc, div-lt-iff-lt-mul, pow-suc, pow-succ', div-div-eq-div-mul, div-one}
 use native.Mathlib.Omega.{arith}

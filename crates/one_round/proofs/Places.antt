@@ -3,9 +3,8 @@ use Prim.Native.Nat.{ℕ, _≤_, _<_}
 use mathlib.Core.Bool.{true, false}
 use mathlib.Core.List.{List}
 use mathlib.Core.Logic.{⊎-elim}
-use mathlib.Core.Path.{_≡_, refl, sym, ap, _∙_, subst}
+use mathlib.Core.Path.{_≡_, sym, _∙_, subst}
 use native.Mathlib.Nat.{lt-of-lt-of-le}
-use native.Mathlib.Omega.{arith}
 use lib.Dec.{eqb, ltb}
 use lib.ListN.{length, getD, set, replicate, getD-replicate, length-replicate, length-set}
 use lib.Seq.{getD-set-same, getD-set-other}
@@ -16,7 +15,7 @@ use Rattle.masks.proofs.Laws.Subsets.{⊆-refl, ⊆-trans, within-⊆, ⊆-with
 use Rattle.masks.specs.Mask.{within, single, minus, allBelow, _∈_, _⊆_}
 use Rattle.one_round.specs.Inner.Places.{Place, Places, Placed, Held}
 use Rattle.sets.specs.Slices.{slicesOf}
-use Rattle.table.specs.Table.{countOf, sliceOf, Table}
+use Rattle.table.specs.Table.{sliceOf, Table}
 
 -- site v, or another one
 one-or-other : (P : ℕ → Type 0) (v u : ℕ) → P v → ((u ≡ v → ⊥) → P u) → P u

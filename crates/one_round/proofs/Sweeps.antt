@@ -1,13 +1,13 @@
 -- Laws of sweeps, over any rule s that grows with the set: what one leaves has the same largest quorum, and one that drops nobody ends the search.
 use Prim.Native.Nat.{ℕ, _<_}
-use mathlib.Core.Bool.{Bool, true, false}
+use mathlib.Core.Bool.{Bool, false}
 use mathlib.Core.Path.{_≡_, sym, subst}
 use native.Mathlib.Omega.{arith}
 use Rattle.ground.proofs.Logic.{clash}
 use Rattle.masks.proofs.Laws.Subsets.{⊆-trans, ⊆-antisym, ⊆-le}
 use Rattle.masks.specs.Mask.{_∈_, _⊆_}
 use Rattle.one_round.specs.Inner.Swept.{Swept}
-use Rattle.sets.proofs.Quorum.{Rule, round-⊆, round-slice, largest-⊆, largest-still, largest-contains, largest-grows}
+use Rattle.sets.proofs.Quorum.{Rule, round-⊆, round-slice, largest-still, largest-contains, largest-grows}
 use Rattle.sets.specs.Quorum.{round, largest}
 
 module _ {s : ℕ → ℕ → Bool} (n : ℕ) where

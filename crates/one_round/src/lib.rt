@@ -53,7 +53,7 @@ fn stays(table: &[u64], n: usize, v: usize, w: u64, places: &mut [u8; 64]) -> bo
     moves_on(table, n, v, w, places)
 }
 
-// The same, with the slice found held beside the place.
+// Site v of w has a slice inside w, at its place or behind it. Its place moves on to the first such slice, which is held beside it.
 fn moves_held(
     table: &[u64],
     n: usize,
@@ -112,9 +112,9 @@ fn goes(table: &[u64], n: usize, v: usize, w: u64, places: &mut [u8; 64]) -> u64
     ensures { λ r. ⌜ r ≡ cond (slicesOf (now (table .entry)) .inside v w) 0 (single v) ⌝ }
     ensures { λ r. ⌜ Placed (now (table .entry)) w v (now (places .entry)) (now (places .exit)) ⌝ }
 {
-    let i = sets::next_inside(table, n, v, w, 0);
-    places[v] = i as u8;
-    if i < table[63 * v] as usize {
+    let first = sets::next_inside(table, n, v, w, 0);
+    places[v] = first as u8;
+    if first < table[63 * v] as usize {
         return 0;
     }
     masks::single(v as u64)

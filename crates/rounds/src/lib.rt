@@ -71,13 +71,13 @@ pub fn in_largest(table: &[u64], n: usize, v: usize, w: u64) -> bool
         return true;
     }
     loop {
-        let left = one_round::sweep_through(table, n, set, &mut places);
-        if left == set {
+        let stay = one_round::sweep_through(table, n, set, &mut places);
+        if stay == set {
             return true;
         }
-        if !masks::has(left, v as u64) {
+        if !masks::has(stay, v as u64) {
             return false;
         }
-        set = left;
+        set = stay;
     }
 }

@@ -1,6 +1,6 @@
 -- `goes` meets its contract: the first slice inside w is found, or none is.
 use Prim.Native.Nat.{ℕ, zero-le, _≤_, _<_}
-use mathlib.Core.Path.{refl, sym, _∙_, subst}
+use mathlib.Core.Path.{refl, sym, subst}
 use native.Mathlib.Nat.{lt-of-lt-of-le}
 use native.Mathlib.Omega.{arith}
 use borrow.Author.Needs.{needs}

@@ -1,6 +1,5 @@
 -- `moves_held` meets its contract: as `moves_on` does, and the slice at the new place is held.
 use Prim.Native.Nat.{ℕ, _≤_, _<_}
-use mathlib.Core.List.{List}
 use mathlib.Core.Path.{sym, subst}
 use native.Mathlib.Nat.{lt-of-lt-of-le}
 use native.Mathlib.Omega.{arith}

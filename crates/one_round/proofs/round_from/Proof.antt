@@ -1,7 +1,7 @@
 -- `round_from` meets its contract: who is asked stays if it has a slice inside w, and goes if not.
 use Prim.Native.Nat.{ℕ, _<_}
 use mathlib.Core.Logic.{⊎-elim}
-use mathlib.Core.Path.{_≡_, sym, ap, _∙_, subst}
+use mathlib.Core.Path.{sym, ap, _∙_, subst}
 use native.Mathlib.Omega.{arith}
 use lib.Bits.{bitAnd}
 use borrow.Author.Needs.{needs}
@@ -9,7 +9,7 @@ use borrow.Author.Tests.{not-true, not-false}
 use denote.Ref.{now}
 use Rattle.ground.proofs.Logic.{clash}
 use Rattle.masks.proofs.Laws.Subsets.{⊆-antisym, ⊆-trans, and-⊆-l}
-use Rattle.masks.specs.Mask.{single, minus, allBelow}
+use Rattle.masks.specs.Mask.{minus, allBelow}
 use Rattle.one_round.specs.Inner.Places.{Places, Held}
 use Rattle.one_round.proofs.First.{out-next}
 use Rattle.one_round.proofs.Places.{places-less, held-less}
