@@ -16,7 +16,7 @@ pub fn intact(table: &[u64], n: usize, f: u64) -> u64
     if !masks::within(f, masks::all_below(n as u64)) {
         return 0;
     }
-    let mut list = [0u16; 4096];
+    let mut list = [0u64; 1024];
     holders::fill(table, n, &mut list);
     search::intact(table, n, &list, f)
 }

@@ -22,7 +22,7 @@ pub fn first_apart(table: &[u64], n: usize) -> u64
     requires { ⌜ n ≤ 12 ⌝ }
     ensures { λ r. ⌜ r ≡ firstApart (slicesOf (now (table .entry)) .inside) n ⌝ }
 {
-    let mut list = [0u16; 4096];
+    let mut list = [0u64; 1024];
     holders::fill(table, n, &mut list);
     search::first_apart(table, n, &list, 0)
 }

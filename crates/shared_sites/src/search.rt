@@ -8,7 +8,7 @@ ghost use Rattle.verdicts.specs.Verdicts.{apart, firstApart};
 ghost use Rattle.holders.specs.Inner.{Holds};
 
 // The largest quorum inside w.
-fn largest(table: &[u64], n: usize, list: &[u16; 4096], b: u64, w: u64) -> u64
+fn largest(table: &[u64], n: usize, list: &[u64; 1024], b: u64, w: u64) -> u64
     requires { ⌜ Holds (now table) n (now list) ⌝ }
     requires { ⌜ b < 2 ^ n ⌝ }
     requires { ⌜ w < 2 ^ n ⌝ }
@@ -25,7 +25,7 @@ fn largest(table: &[u64], n: usize, list: &[u16; 4096], b: u64, w: u64) -> u64
 }
 
 // p is a quorum that has a quorum in its complement.
-fn is_apart(table: &[u64], n: usize, list: &[u16; 4096], b: u64, p: u64) -> bool
+fn is_apart(table: &[u64], n: usize, list: &[u64; 1024], b: u64, p: u64) -> bool
     requires { ⌜ Holds (now table) n (now list) ⌝ }
     requires { ⌜ b < 2 ^ n ⌝ }
     requires { ⌜ p < 2 ^ n ⌝ }
@@ -49,7 +49,7 @@ fn is_apart(table: &[u64], n: usize, list: &[u16; 4096], b: u64, p: u64) -> bool
 
 // The quorum of the smallest mask that has a quorum in its complement; 2^n if there is none. Of two quorums without a common site the smaller is no more
 // than half of all sites.
-pub fn first_apart(table: &[u64], n: usize, list: &[u16; 4096], b: u64) -> u64
+pub fn first_apart(table: &[u64], n: usize, list: &[u64; 1024], b: u64) -> u64
     requires { ⌜ Table (now table) n ⌝ }
     requires { ⌜ Holds (now table) n (now list) ⌝ }
     requires { ⌜ b < 2 ^ n ⌝ }
