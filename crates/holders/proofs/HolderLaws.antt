@@ -15,6 +15,7 @@ use lib.Dec.{ltb}
 use borrow.Author.Tests.{ltb-true, ltb-false}
 use Rattle.ground.proofs.Logic.{and-r, and-i, cases, iff, is-false, or-e, or-i}
 use Rattle.ground.proofs.Numbers.{same?}
+use Rattle.masks.proofs.Laws.Apart.{apart-not-in}
 use Rattle.masks.proofs.Laws.Single.{∈-or, ∈-eq, ∈-single, single-∈}
 use Rattle.masks.proofs.Laws.Subsets.{mem, not-in-zero, ⊆-refl, ⊆-trans, ⊆-antisym, ∈-below, ∈-and, and-⊆-l, and-⊆-r, or-⊆-l, or-⊆-r, minus-⊆, ∈-minus, minus-not-in}
 use Rattle.masks.specs.Mask.{has, single, minus, _∈_, _⊆_}
@@ -587,3 +588,14 @@ held-round {t} {words} {n} holds b u hb hu =
 
     at : (v : ℕ) → v < n → has g v ≡ slicesOf t .inside v all
     at v l = has-shr (getD words (all / 4) 0) (16 * (all % 4)) v ∙ holds .each all v (or-lt n u b hu hb) l
+
+-- where u has no member of b, nobody of b has to be dropped
+pub held-still : {t words : List ℕ} {n : ℕ} → Holds t n words → (b u : ℕ) → b < 2 ^ n → u < 2 ^ n → bitAnd u b ≡ 0
+    → bitAnd u (getD words (bitOr u b / 4) 0 / 2 ^ (16 * (bitOr u b % 4))) ≡ round (slicesOf t .deleted b) n u
+held-still {t} {words} {n} holds b u hb hu apart = sym (minus-none apart) ∙ held-round holds b u hb hu
+  where
+    g : ℕ
+    g = getD words (bitOr u b / 4) 0 / 2 ^ (16 * (bitOr u b % 4))
+
+    minus-none : bitAnd u b ≡ 0 → minus (bitAnd u g) b ≡ bitAnd u g
+    minus-none e = ⊆-antisym (minus-⊆ (bitAnd u g) b) (record { each = λ v h. ∈-minus h (λ k. apart-not-in e (and-⊆-l u g .each v h) k) })
