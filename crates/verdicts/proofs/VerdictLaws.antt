@@ -68,6 +68,11 @@ module _ (s : ℕ → ℕ → Bool) (n : ℕ) where
   unfolding firstApart
   first-apart-found p l f e = least-found (2 ^ n) p (apart s n) l f e
 
+  -- the smallest quorum, if there is one beside it
+  pub first-apart-smallest-quorum : (p : ℕ) → quorum s n p ≡ true → ((q : ℕ) → q < p → quorum s n q ≡ false) → (beside s n p ≡ 0 → ⊥) → firstApart s n ≡ p
+  first-apart-smallest-quorum p k f ne =
+      first-apart-found p (quorum-lt s n k) (λ q l. apart-no-quorum q (f q l)) (apart-quorum p k ∙ ap not (ne-eqb (beside s n p) 0 ne))
+
   pub first-apart-none : ((q : ℕ) → q < 2 ^ n → apart s n q ≡ false) → firstApart s n ≡ 2 ^ n
   unfolding firstApart
   first-apart-none f = least-fails (2 ^ n) (apart s n) f
