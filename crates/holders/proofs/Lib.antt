@@ -1,2 +1,4 @@
+pub mod Reaching
+pub mod Shifts
 pub mod HolderLaws
 pub mod Coincide

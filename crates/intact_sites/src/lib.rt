@@ -7,7 +7,8 @@ ghost use Rattle.verdicts.specs.Verdicts.{intact};
 
 mod search;
 
-// The sites that are intact when those of f are faulty.
+// The sites that are intact when those of f are faulty. What f leaves has a largest quorum; if that is empty, nobody is intact, else all other sites count as
+// faulty.
 pub fn intact(table: &[u64], n: usize, f: u64) -> u64
     requires { ⌜ Table (now table) n ⌝ }
     requires { ⌜ n ≤ 12 ⌝ }
@@ -16,7 +17,16 @@ pub fn intact(table: &[u64], n: usize, f: u64) -> u64
     if !masks::within(f, masks::all_below(n as u64)) {
         return 0;
     }
-    let mut list = [0u16; 4096];
+    let left = shared_sites::beside(table, n, f);
+    if left == 0 {
+        return 0;
+    }
+    let mut list = [0u64; 1024];
     holders::fill(table, n, &mut list);
-    search::intact(table, n, &list, f)
+    search::intact(
+        table,
+        n,
+        &list,
+        masks::minus(masks::all_below(n as u64), left),
+    )
 }

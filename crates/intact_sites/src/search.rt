@@ -10,7 +10,7 @@ ghost use Rattle.verdicts.specs.Verdicts.{dispensable, intact};
 ghost use Rattle.holders.specs.Inner.{Holds};
 
 // b is dispensable.
-fn is_dispensable(table: &[u64], n: usize, list: &[u16; 4096], b: u64) -> bool
+fn is_dispensable(table: &[u64], n: usize, list: &[u64; 1024], b: u64) -> bool
     requires { ⌜ Table (now table) n ⌝ }
     requires { ⌜ Holds (now table) n (now list) ⌝ }
     requires { ⌜ b < 2 ^ n ⌝ }
@@ -24,7 +24,7 @@ fn is_dispensable(table: &[u64], n: usize, list: &[u16; 4096], b: u64) -> bool
 }
 
 // The sites outside b if b is dispensable, else none. Where those sites are known already, b is not asked.
-fn spared(table: &[u64], n: usize, list: &[u16; 4096], b: u64, known: u64) -> u64
+fn spared(table: &[u64], n: usize, list: &[u64; 1024], b: u64, known: u64) -> u64
     requires { ⌜ Table (now table) n ⌝ }
     requires { ⌜ Holds (now table) n (now list) ⌝ }
     requires { ⌜ b < 2 ^ n ⌝ }
@@ -41,7 +41,7 @@ fn spared(table: &[u64], n: usize, list: &[u16; 4096], b: u64, known: u64) -> u6
 }
 
 // The sites that are intact when those of f are faulty: b runs through the sets that contain f, until every site outside f is found.
-pub fn intact(table: &[u64], n: usize, list: &[u16; 4096], f: u64) -> u64
+pub fn intact(table: &[u64], n: usize, list: &[u64; 1024], f: u64) -> u64
     requires { ⌜ Table (now table) n ⌝ }
     requires { ⌜ Holds (now table) n (now list) ⌝ }
     requires { ⌜ f < 2 ^ n ⌝ }

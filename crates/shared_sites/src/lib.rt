@@ -1,11 +1,20 @@
 // Two quorums without a common site, of a checked table of at most 12 sites.
 ghost use mathlib.Core.Path.{_≡_};
+ghost use mathlib.Core.Bool.{cond};
 ghost use Prim.Native.Nat.{_≤_};
+ghost use lib.Dec.{eqb};
 ghost use Rattle.table.specs.Table.{Table};
 ghost use Rattle.sets.specs.Slices.{slicesOf};
 ghost use Rattle.verdicts.specs.Verdicts.{beside, firstApart};
+ghost use Rattle.shared_sites.specs.Inner.{besideFirst};
 
 pub mod search;
+
+// Two quorums without a common site.
+pub struct Pair {
+    pub first: u64,
+    pub second: u64,
+}
 
 // The largest quorum in the complement of p.
 pub fn beside(table: &[u64], n: usize, p: u64) -> u64
@@ -22,7 +31,43 @@ pub fn first_apart(table: &[u64], n: usize) -> u64
     requires { ⌜ n ≤ 12 ⌝ }
     ensures { λ r. ⌜ r ≡ firstApart (slicesOf (now (table .entry)) .inside) n ⌝ }
 {
-    let mut list = [0u16; 4096];
+    let mut list = [0u64; 1024];
     holders::fill(table, n, &mut list);
     search::first_apart(table, n, &list, 0)
+}
+
+// The largest quorum in the complement of a set of the first six sites; none for 64, which stands for no set.
+fn beside_early(table: &[u64], n: usize, p: u64) -> u64
+    requires { ⌜ Table (now table) n ⌝ }
+    ensures { λ r. ⌜ r ≡ cond (eqb p 64) 0 (beside (slicesOf (now (table .entry)) .inside) n p) ⌝ }
+{
+    if p == 64 {
+        return 0;
+    }
+    beside(table, n, p)
+}
+
+// That quorum, and the largest in its complement, none if it is 2^n. The smallest quorum of the first six sites is asked before all sets are looked at.
+pub fn two_apart(table: &[u64], n: usize) -> Pair
+    requires { ⌜ Table (now table) n ⌝ }
+    requires { ⌜ n ≤ 12 ⌝ }
+    ensures first { λ r. ⌜ r .first ≡ firstApart (slicesOf (now (table .entry)) .inside) n ⌝ }
+    ensures second { λ r. ⌜ r .second ≡ besideFirst (slicesOf (now (table .entry)) .inside) n ⌝ }
+{
+    let early = early_quorums::first(table, n);
+    let second = beside_early(table, n, early);
+    if second != 0 {
+        return Pair {
+            first: early,
+            second,
+        };
+    }
+    let first = first_apart(table, n);
+    if first == masks::single(n as u64) {
+        return Pair { first, second: 0 };
+    }
+    Pair {
+        first,
+        second: beside(table, n, first),
+    }
 }

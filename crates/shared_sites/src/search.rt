@@ -1,6 +1,7 @@
 // Two quorums without a common site, searched for in the list of holders. With a set b: of the table with the sites of b deleted.
 ghost use mathlib.Core.Path.{_≡_};
 ghost use Prim.Native.Nat.{_<_, _^_};
+ghost use lib.Bits.{bitAnd};
 ghost use Rattle.table.specs.Table.{Table};
 ghost use Rattle.sets.specs.Slices.{slicesOf};
 ghost use Rattle.sets.specs.Quorum.{largest};
@@ -8,7 +9,7 @@ ghost use Rattle.verdicts.specs.Verdicts.{apart, firstApart};
 ghost use Rattle.holders.specs.Inner.{Holds};
 
 // The largest quorum inside w.
-fn largest(table: &[u64], n: usize, list: &[u16; 4096], b: u64, w: u64) -> u64
+fn largest(table: &[u64], n: usize, list: &[u64; 1024], b: u64, w: u64) -> u64
     requires { ⌜ Holds (now table) n (now list) ⌝ }
     requires { ⌜ b < 2 ^ n ⌝ }
     requires { ⌜ w < 2 ^ n ⌝ }
@@ -24,17 +25,16 @@ fn largest(table: &[u64], n: usize, list: &[u16; 4096], b: u64, w: u64) -> u64
     }
 }
 
-// p is a quorum that has a quorum in its complement.
-fn is_apart(table: &[u64], n: usize, list: &[u16; 4096], b: u64, p: u64) -> bool
+// The set p, which is not empty and has no member of b, is a quorum that has a quorum in its complement.
+fn is_apart(table: &[u64], n: usize, list: &[u64; 1024], b: u64, p: u64) -> bool
     requires { ⌜ Holds (now table) n (now list) ⌝ }
     requires { ⌜ b < 2 ^ n ⌝ }
     requires { ⌜ p < 2 ^ n ⌝ }
+    requires { ⌜ bitAnd p b ≡ 0 ⌝ }
+    requires { ⌜ (p ≡ 0 → ⊥) ⌝ }
     ensures { λ r. ⌜ r ≡ apart (slicesOf (now (table .entry)) .deleted b) n p ⌝ }
 {
-    if holders::round(table, n, list, b, p) != p {
-        return false;
-    }
-    if p == 0 {
+    if !holders::still(table, n, list, b, p) {
         return false;
     }
     largest(
@@ -49,15 +49,16 @@ fn is_apart(table: &[u64], n: usize, list: &[u16; 4096], b: u64, p: u64) -> bool
 
 // The quorum of the smallest mask that has a quorum in its complement; 2^n if there is none. Of two quorums without a common site the smaller is no more
 // than half of all sites.
-pub fn first_apart(table: &[u64], n: usize, list: &[u16; 4096], b: u64) -> u64
+pub fn first_apart(table: &[u64], n: usize, list: &[u64; 1024], b: u64) -> u64
     requires { ⌜ Table (now table) n ⌝ }
     requires { ⌜ Holds (now table) n (now list) ⌝ }
     requires { ⌜ b < 2 ^ n ⌝ }
     ensures { λ r. ⌜ r ≡ firstApart (slicesOf (now (table .entry)) .deleted b) n ⌝ }
 {
     let rest = masks::minus(masks::all_below(n as u64), b);
-    let mut p = 0u64;
-    while p + p <= rest {
+    let half = rest / 2;
+    let mut p = masks::minus(b + 1, b);
+    while p <= half {
         if is_apart(table, n, list, b, p) {
             return p;
         }

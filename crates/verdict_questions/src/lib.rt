@@ -21,13 +21,13 @@ pub fn shared(table: &[u64]) -> Sharing
     if MOST < n {
         return Sharing::Refused(Refusal::Large);
     }
-    let first = shared_sites::first_apart(table, n);
-    if first == masks::single(n as u64) {
+    let pair = shared_sites::two_apart(table, n);
+    if pair.first == masks::single(n as u64) {
         return Sharing::Meet;
     }
     Sharing::Apart {
-        first,
-        second: shared_sites::beside(table, n, first),
+        first: pair.first,
+        second: pair.second,
     }
 }
 

@@ -1,7 +1,7 @@
 -- Laws of shared sites, dispensable sets and intact sites, as they are computed.
 use Prim.Native.Nat.{ℕ, _+_, _^_, _≤_, _<_}
 use mathlib.Core.Bool.{Bool, true, false, _&&_, _||_, not, cond, and-true, and-false}
-use mathlib.Core.Logic.{⊎-elim}
+use mathlib.Core.Logic.{_⊎_, inl, inr, ⊎-elim}
 use mathlib.Core.Path.{_≡_, refl, sym, ap, _∙_, subst}
 use native.Mathlib.Nat.{eq-or-lt-of-le, lt-of-lt-of-le}
 use native.Mathlib.Omega.{arith}
@@ -13,7 +13,7 @@ use Rattle.ground.proofs.Least.{least-le, least-passes, least-before, least-fai
 use Rattle.ground.proofs.Logic.{and-l, and-r, and-i, cases, is-false, clash, not-t, or-i, or-e}
 use Rattle.ground.proofs.Some.{some-of, some-ex}
 use Rattle.masks.proofs.Laws.AllBelow.{in-all, ⊆-all}
-use Rattle.masks.proofs.Laws.Apart.{common-of, ⊆-minus, ⊆-minus-apart}
+use Rattle.masks.proofs.Laws.Apart.{apart-⊆, common-of, minus-apart, ⊆-minus, ⊆-minus-apart}
 use Rattle.masks.proofs.Laws.Gather.{∈-gather, gather-∈, gather-lt}
 use Rattle.masks.proofs.Laws.Single.{in?, ∈-eq}
 use Rattle.masks.proofs.Laws.Step.{next-least, next-with, or-part}
@@ -67,6 +67,11 @@ module _ (s : ℕ → ℕ → Bool) (n : ℕ) where
   pub first-apart-found : (p : ℕ) → p < 2 ^ n → ((q : ℕ) → q < p → apart s n q ≡ false) → apart s n p ≡ true → firstApart s n ≡ p
   unfolding firstApart
   first-apart-found p l f e = least-found (2 ^ n) p (apart s n) l f e
+
+  -- the smallest quorum, if there is one beside it
+  pub first-apart-smallest-quorum : (p : ℕ) → quorum s n p ≡ true → ((q : ℕ) → q < p → quorum s n q ≡ false) → (beside s n p ≡ 0 → ⊥) → firstApart s n ≡ p
+  first-apart-smallest-quorum p k f ne =
+      first-apart-found p (quorum-lt s n k) (λ q l. apart-no-quorum q (f q l)) (apart-quorum p k ∙ ap not (ne-eqb (beside s n p) 0 ne))
 
   pub first-apart-none : ((q : ℕ) → q < 2 ^ n → apart s n q ≡ false) → firstApart s n ≡ 2 ^ n
   unfolding firstApart
@@ -238,6 +243,51 @@ module _ (r : Slices) (n : ℕ) where
             let x = intact-ex f v (gather-∈ n (isIntact r n f) h) in
             ∈-minus (in-all (∈-below (gather-lt n (isIntact r n f)) h)) (λ k. x .4 (x .3 .each v k));
       }
+
+  -- What a dispensable set leaves is a quorum, so that it is in the largest that f leaves: all other sites may be taken for faulty.
+  module _ (grows : Rule (r .inside)) (f : ℕ) (sites : f ⊆ allBelow n) where
+    left : ℕ
+    left = beside (r .inside) n f
+
+    contains : (b : ℕ) → dispensable r n b ≡ true → f ⊆ b → minus (allBelow n) left ⊆ b
+    unfolding dispensable left
+    contains b d sub =
+        record { each = λ y h. ⊎-elim (λ k. k) (λ k. outside y h (∈-minus (minus-⊆ (allBelow n) left .each y h) k) (or-e (quorum (r .inside) n (minus (allBelow n) b)) (eqb b (allBelow n)) (and-r (meets (r .deleted b) n) (leavesQuorum b) d))) (in? y b) }
+      where
+        outside : (y : ℕ) → y ∈ minus (allBelow n) left → y ∈ minus (allBelow n) b
+            → (quorum (r .inside) n (minus (allBelow n) b) ≡ true) ⊎ (eqb b (allBelow n) ≡ true) → y ∈ b
+        outside y h o (inl k) =
+            absurd (minus-not-in (allBelow n) h
+            (beside-contains (r .inside) n grows f k (apart-⊆ sub (⊆-refl (minus (allBelow n) b)) (and-comm b (minus (allBelow n) b) ∙ minus-apart (allBelow n) b)) .each y o))
+        outside y h o (inr e) = ∈-eq (sym (eqb-true b (allBelow n) e)) (minus-⊆ (allBelow n) left .each y h)
+
+    pub intact-left : intact r n (minus (allBelow n) (beside (r .inside) n f)) ≡ intact r n f
+    unfolding intact beside left
+    intact-left =
+        ⊆-antisym
+        (record {
+          each = λ v h.
+              let x = intact-ex (minus (allBelow n) left) v (gather-∈ n (isIntact r n (minus (allBelow n) left)) h) in
+              ∈-gather (isIntact r n f) (∈-below (gather-lt n (isIntact r n (minus (allBelow n) left))) h) (intact-of f v (x .0) (x .1) (x .2) (⊆-trans without-left (x .3)) (x .4));
+        })
+        (record {
+          each = λ v h.
+              let x = intact-ex f v (gather-∈ n (isIntact r n f) h) in
+              ∈-gather (isIntact r n (minus (allBelow n) left)) (∈-below (gather-lt n (isIntact r n f)) h)
+              (intact-of (minus (allBelow n) left) v (x .0) (x .1) (x .2) (contains (x .0) (x .2) (x .3)) (x .4));
+        })
+      where
+        without-left : f ⊆ minus (allBelow n) left
+        without-left = ⊆-minus left sites (beside-apart (r .inside) n f)
+
+    -- nothing is left
+    pub intact-nothing : beside (r .inside) n f ≡ 0 → intact r n f ≡ 0
+    intact-nothing e =
+        sym intact-left ∙ ap (λ (x : ℕ). intact r n (minus (allBelow n) x)) e
+        ∙ empty (intact r n (minus (allBelow n) 0))
+        (λ v h.
+        let k = intact-correct (minus (allBelow n) 0) .each v h in
+        minus-not-in (allBelow n) k (∈-minus (minus-⊆ (allBelow n) (minus (allBelow n) 0) .each v k) not-in-zero))
 
   spared-intact : (f b : ℕ) → b < 2 ^ n → f ⊆ b → sparedBy b ⊆ intact r n f
   unfolding intact

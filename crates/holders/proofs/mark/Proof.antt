@@ -9,10 +9,10 @@ use Rattle.holders.proofs.mark.Statement.{statement}
 use Rattle.holders.proofs.mark.Tie as tie
 
 abbrev Inv-loop : tie.InvT-loop
-Inv-loop table n list₀ v₀ list v = (v ≤ n) × Marked table v 0 list
+Inv-loop table n words₀ v₀ words v = (v ≤ n) × Marked table v 0 words
 
 abbrev μ-loop : tie.MeasureT-loop
-μ-loop table n list₀ v₀ list v = n - v
+μ-loop table n words₀ v₀ words v = n - v
 
 returns : tie.Need-returns Inv-loop μ-loop
 returns c =
@@ -20,7 +20,7 @@ returns c =
     let l = c .before .loop in
     let h = l .inv .0 in
     let e : l .v ≡ a .n = omega arith in
-    subst (λ (k : ℕ). Marked (now (a .table)) k 0 (l .list)) e (l .inv .1)
+    subst (λ (k : ℕ). Marked (now (a .table)) k 0 (l .words)) e (l .inv .1)
 
 pub mark-spec : {M : Type 1} → statement M
 mark-spec =

@@ -1,12 +1,12 @@
 -- `mark_site` meets its contract: the slices of v before slice i are marked.
-use Prim.Native.Nat.{ℕ, _+_, _*_, _-_, _≤_, _<_}
+use Prim.Native.Nat.{ℕ, _+_, _*_, _/_, _%_, _-_, _≤_, _<_}
 use mathlib.Core.Path.{_≡_, sym, subst}
 use native.Mathlib.Nat.{lt-of-lt-of-le}
 use native.Mathlib.Omega.{arith}
 use mathlib.Core.List.{List}
 use lib.Bits.{bitOr}
 use lib.ListN.{getD, set}
-use lib.Pow.{pow-mono, pow-lt}
+use lib.Pow.{pow-mono}
 use borrow.Author.Needs.{needs}
 use denote.Ref.{now}
 use Rattle.masks.specs.Mask.{single}
@@ -18,68 +18,67 @@ use Rattle.table.specs.Table.{Table, countOf}
 use Rattle.holders.proofs.mark_site.Tie as tie
 
 abbrev Inv-loop : tie.InvT-loop
-Inv-loop table n v list₀ own many i₀ list i = (i ≤ many) × (many ≤ 62) × Marked table v i list
+Inv-loop table n v words₀ many i₀ words i = (i ≤ many) × (many ≤ 62) × Marked table v i words
 
 abbrev μ-loop : tie.MeasureT-loop
-μ-loop table n v list₀ own many i₀ list i = many - i
-
-cast-own : tie.Need-cast-own Inv-loop μ-loop
-cast-own c =
-    let s = c .before .before in
-    omega (arith, c .single .ensures, pow-lt (lt-of-lt-of-le (s .pre .1 .1 .0) (s .pre .1 .0)))
+μ-loop table n v words₀ many i₀ words i = many - i
 
 loop-holds : tie.Need-loop-holds Inv-loop μ-loop
 loop-holds c =
-    let s = c .before .before .before in
+    let s = c .before .before in
     (search needs, subst (λ (k : ℕ). k ≤ 62) (count-at (now (s .args .table)) (s .args .v)) (s .pre .0 .few-slices (s .args .v) (s .pre .1 .1 .0)), search needs)
 
 -- a slice is the number of a set in the list
 slice-few : {t : List ℕ} {n : ℕ} → Table t n → n ≤ 12 → (v i : ℕ) → i < 62 → getD t (63 * v + 1 + i) 0 < 4096
 slice-few {t} table few v i l = subst (λ (q : ℕ). q < 4096) (slice-at t v i l) (lt-of-lt-of-le (slice-lt table v i) (pow-mono few))
 
-mul-list : tie.Need-mul-list Inv-loop μ-loop
-mul-list c =
-    let s = c .before .before .before .before .before .before in
+mul-words : tie.Need-mul-words Inv-loop μ-loop
+mul-words c =
+    let s = c .before .before .before .before .before in
     omega (arith, slice-few (s .pre .0) (s .pre .1 .0) (s .args .v) (c .before .before .loop .i) (omega arith))
 
-element-copy-out-list : tie.Need-element-copy-out-list Inv-loop μ-loop
-element-copy-out-list c =
-    let s = c .before .before .before .before .before .before in
-    slice-few (s .pre .0) (s .pre .1 .0) (s .args .v) (c .before .before .loop .i) (omega arith)
+element-copy-out-words : tie.Need-element-copy-out-words Inv-loop μ-loop
+element-copy-out-words c =
+    let s = c .before .before .before .before .before in
+    omega (arith, slice-few (s .pre .0) (s .pre .1 .0) (s .args .v) (c .before .before .loop .i) (omega arith))
 
-mul-list-2 : tie.Need-mul-list-2 Inv-loop μ-loop
-mul-list-2 c =
+mul-words-2 : tie.Need-mul-words-2 Inv-loop μ-loop
+mul-words-2 c =
     let s = c .before .before .before .before .before .before .before in
-    omega (arith, slice-few (s .pre .0) (s .pre .1 .0) (s .args .v) (c .before .before .before .loop .i) (omega arith))
+    omega (arith, slice-few (s .pre .0) (s .pre .1 .0) (s .args .v) (c .before .before .before .before .loop .i) (omega arith))
 
-element-write-list : tie.Need-element-write-list Inv-loop μ-loop
-element-write-list c =
+element-write-words : tie.Need-element-write-words Inv-loop μ-loop
+element-write-words c =
     let s = c .before .before .before .before .before .before .before in
-    slice-few (s .pre .0) (s .pre .1 .0) (s .args .v) (c .before .before .before .loop .i) (omega arith)
+    omega (arith, slice-few (s .pre .0) (s .pre .1 .0) (s .args .v) (c .before .before .before .before .loop .i) (omega arith))
 
 loop-again : tie.Need-loop-again Inv-loop μ-loop
 loop-again c =
     let s = c .before .before .before .before .before .before .before in
     let a = s .args in
     let t = now (a .table) in
-    let l = c .before .before .before .loop in
-    let few : l .i < 62 = omega arith in (
+    let l = c .before .before .before .before .loop in
+    let few : l .i < 62 = omega arith in
+    let site : a .v < 16 = omega arith in
+    let own : l .i < countOf t (a .v) = omega (arith, count-at t (a .v)) in (
       search needs,
       search needs,
-      subst (λ (k : ℕ). Marked t (a .v) (l .i + 1) (set (l .list) (getD t (63 * a .v + 1 + l .i) 0) (bitOr (getD (l .list) (getD t (63 * a .v + 1 + l .i) 0) 0) k)))
-          (sym (c .before .before .before .before .before .single .ensures))
-          (subst (λ (q : ℕ). Marked t (a .v) (l .i + 1) (set (l .list) q (bitOr (getD (l .list) q 0) (single (a .v))))) (slice-at t (a .v) (l .i) few)
-          (marked-slice t (a .v) (l .i) (lt-of-lt-of-le (slice-lt (s .pre .0) (a .v) (l .i)) (pow-mono (s .pre .1 .0))) (l .inv .2))),
+      subst (λ (k : ℕ). Marked t (a .v) (l .i + 1) (set (l .words) (getD t (63 * a .v + 1 + l .i) 0 / 4) (bitOr (getD (l .words) (getD t (63 * a .v + 1 + l .i) 0 / 4) 0) k)))
+          (sym (c .single .ensures))
+          (subst
+          (λ (q : ℕ). Marked t (a .v) (l .i + 1) (set (l .words) (q / 4) (bitOr (getD (l .words) (q / 4) 0) (single (16 * (q % 4) + a .v)))))
+          (slice-at t (a .v) (l .i) few)
+          (marked-slice t (a .v) (l .i) site own (lt-of-lt-of-le (slice-lt (s .pre .0) (a .v) (l .i)) (pow-mono (s .pre .1 .0))) (l .inv .2))),
     )
 
 returns : tie.Need-returns Inv-loop μ-loop
 returns c =
-    let a = c .before .before .before .before .before .args in
+    let a = c .before .before .before .before .args in
     let t = now (a .table) in
     let l = c .before .loop in
     let h = l .inv .0 in
     let e : l .i ≡ countOf t (a .v) = omega (arith, count-at t (a .v)) in
-    marked-site t (a .v) (subst (λ (k : ℕ). Marked t (a .v) k (l .list)) e (l .inv .2))
+    marked-site t (a .v) (subst (λ (k : ℕ). Marked t (a .v) k (l .words)) e (l .inv .2))
 
 pub mark-site-spec : {M : Type 1} → statement M
 mark-site-spec =
@@ -87,8 +86,6 @@ mark-site-spec =
     (tie.spec
     Inv-loop
     μ-loop
-    (λ c κs. search needs)
-    cast-own
     (λ c. search needs)
     (λ c. search needs)
     (λ c. search needs)
@@ -98,10 +95,13 @@ mark-site-spec =
     (λ c. search needs)
     (λ c. search needs)
     (λ c. search needs)
-    mul-list
-    element-copy-out-list
-    mul-list-2
-    element-write-list
+    mul-words
+    element-copy-out-words
+    (λ c. search needs)
+    (λ c. search needs)
+    (λ c κs. search needs)
+    mul-words-2
+    element-write-words
     (λ c. search needs)
     (λ c. search needs)
     loop-again

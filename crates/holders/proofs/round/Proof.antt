@@ -2,7 +2,7 @@
 use mathlib.Core.Path.{_∙_}
 use native.Mathlib.Omega.{arith}
 use borrow.Author.Needs.{needs}
-use Rattle.holders.proofs.HolderLaws.{held-at, held-few, held-round}
+use Rattle.holders.proofs.HolderLaws.{held-at, held-round}
 use Rattle.holders.proofs.round.Statement.{statement}
 use Rattle.holders.proofs.round.Tie as tie
 
@@ -16,11 +16,6 @@ element-copy-out-minus c =
     let s = c .before in
     held-at (s .pre .0) (s .args .b) (s .args .u) (s .pre .1 .0) (s .pre .1 .1)
 
-cast-minus : tie.Need-cast-minus
-cast-minus c =
-    let s = c .before .before in
-    omega (arith, held-few (s .pre .0) (s .args .b) (s .args .u) (s .pre .1 .0) (s .pre .1 .1))
-
 returns : tie.Need-returns
 returns c =
     let s = c .before .before .before in
@@ -32,6 +27,7 @@ round-spec =
     (tie.spec
     mul-minus
     element-copy-out-minus
-    cast-minus
+    (λ c. search needs)
+    (λ c. search needs)
     (λ c κs. search needs)
     returns)

@@ -1,0 +1,294 @@
+-- Laws of the sets of the first six sites: how they are found in one word.
+use Prim.Native.Nat.{ℕ, zero, suc, _+_, _-_, _*_, _/_, _%_, _^_, _≤_, _<_}
+use mathlib.Core.Bool.{Bool, true, false, _&&_, _||_, not}
+use mathlib.Core.List.{List}
+use mathlib.Core.Logic.{_⊎_, inl, inr, ⊎-elim}
+use mathlib.Core.Path.{_≡_, refl, sym, ap, ap₂, _∙_, subst}
+use native.Mathlib.Nat.{le-refl, not-suc-le-zero, le-of-suc-le-suc, lt-trans, div-one}
+use native.Mathlib.Numerals.{add-one}
+use native.Mathlib.Omega.{arith}
+use lib.Bits.{bitAnd, bitOr, or-disjoint}
+use lib.Count.{trailingZeros, under, trailing-of-zero}
+use lib.Dec.{eqb, ltb}
+use lib.Pow.{pow-mono}
+use borrow.Author.Tests.{ltb-true, ltb-false, eq-eqb, ne-eqb}
+use Rattle.ground.proofs.Every.{every-at, every-of, every-none, every-suc}
+use Rattle.ground.proofs.Least.{least-found, least-fails}
+use Rattle.ground.proofs.Logic.{and-l, and-r, and-i, cases, iff, is-false, clash, or-e, or-i, not-t}
+use Rattle.ground.proofs.Numbers.{same?}
+use Rattle.ground.specs.Search.{every, least}
+use Rattle.holders.specs.Inner.{reaches}
+use Rattle.holders.proofs.Reaching.{Reaches, reaches-of, reaches-itself, reach-down}
+use Rattle.holders.proofs.Shifts.{has-shifted, has-shifted-low}
+use Rattle.masks.proofs.Laws.AllBelow.{in-all}
+use Rattle.masks.proofs.Laws.Apart.{apart-of}
+use Rattle.masks.proofs.Laws.Members.{has-and, has-or, has-minus, has-zero, has-suc, has-above, has-single}
+use Rattle.masks.proofs.Laws.Single.{in?, ∈-or, ∈-single, single-∈, single-⊆}
+use Rattle.masks.proofs.Laws.Step.{or-part, minus-or}
+use Rattle.masks.proofs.Laws.Subsets.{mem, not-in-zero, ⊆-refl, ⊆-trans, ⊆-le, ∈-below, or-⊆-l, or-⊆-r, minus-⊆, minus-lt, minus-not-in}
+use Rattle.masks.specs.Mask.{has, single, minus, allBelow, _∈_, _⊆_}
+use Rattle.early_quorums.specs.Inner.{Without, Taken, Sets, Held}
+use Rattle.one_round.proofs.Rounds.{first-member}
+use Rattle.sets.specs.Quorum.{quorum}
+use Rattle.sets.specs.Slices.{slicesOf}
+use Rattle.sets.proofs.Quorum.{quorum-of, quorum-some, quorum-slice}
+use Rattle.sets.proofs.Slices.{inside-of, inside-ex, no-slice, slice-below}
+use Rattle.table.specs.Table.{Table, countOf, sliceOf}
+
+-- the sets without a site, as words
+
+same : Bool → Bool → Bool
+same true b = b
+same false b = not b
+
+same-is : (a b : Bool) → same a b ≡ true → a ≡ b
+unfolding same
+same-is true b e = sym e
+same-is false true e = e
+same-is false false e = refl
+
+abbrev lacks : ℕ → ℕ → Bool
+lacks x word = every 64 (λ u. same (has word u) (not (has u x)))
+
+lacks-is : (x word : ℕ) → lacks x word ≡ true → Without x word
+lacks-is x word e = record { each = λ u l. same-is (has word u) (not (has u x)) (every-at 64 (λ u. same (has word u) (not (has u x))) e u l) }
+
+pub without-0 : Without 0 6148914691236517205
+unfolding every has same
+without-0 = lacks-is 0 6148914691236517205 refl
+
+pub without-1 : Without 1 3689348814741910323
+unfolding every has same
+without-1 = lacks-is 1 3689348814741910323 refl
+
+pub without-2 : Without 2 1085102592571150095
+unfolding every has same
+without-2 = lacks-is 2 1085102592571150095 refl
+
+pub without-3 : Without 3 71777214294589695
+unfolding every has same
+without-3 = lacks-is 3 71777214294589695 refl
+
+pub without-4 : Without 4 281470681808895
+unfolding every has same
+without-4 = lacks-is 4 281470681808895 refl
+
+pub without-5 : Without 5 4294967295
+unfolding every has same
+without-5 = lacks-is 5 4294967295 refl
+
+-- the slices of a site: none, one more, all of them, or as many as are such sets
+
+module _ (t : List ℕ) (v : ℕ) where
+  pub taken-none : Taken t v 0 0
+  taken-none = record { right = λ u l h. absurd (not-in-zero h); each = λ k l. absurd (not-suc-le-zero l) }
+
+  pub taken-more : (i : ℕ) {word : ℕ} → i < countOf t v → Taken t v i word → Taken t v (i + 1) (bitOr word (single (sliceOf t v i)))
+  taken-more i {word} l m =
+      record {
+        right = λ u lu h.
+            ⊎-elim (λ k. m .right u lu k) (λ k. inside-of t v i l (subst (λ (q : ℕ). q ⊆ u) (single-∈ (sliceOf t v i) k) (⊆-refl u))) (∈-or word (single (sliceOf t v i)) h);
+        each = λ k lk.
+            ⊎-elim
+            (λ e.
+            subst (λ (y : ℕ). sliceOf t v y ∈ bitOr word (single (sliceOf t v i))) (sym e)
+            (or-⊆-r word (single (sliceOf t v i)) .each (sliceOf t v i) (∈-single (sliceOf t v i))))
+            (λ ne. or-⊆-l word (single (sliceOf t v i)) .each (sliceOf t v k) (m .each k (less k lk ne))) (same? k i);
+      }
+    where
+      less : (k : ℕ) → k < i + 1 → (k ≡ i → ⊥) → k < i
+      less k h ne = omega arith
+
+  pub taken-all : {word : ℕ} → Taken t v (countOf t v) word → Sets t v 0 word
+  taken-all {word} m =
+      record { right = m .right; full = λ u i lu li e. subst (λ (q : ℕ). q ∈ word) (sym (reaches-itself (sliceOf t v i) u e)) (m .each i li) }
+
+module _ {t : List ℕ} {n : ℕ} (table : Table t n) (v : ℕ) where
+  pub sets-none : n ≤ v → Sets t v 0 0
+  sets-none l = record { right = λ u lu h. absurd (not-in-zero h); full = λ u i lu li e. absurd (not-suc-le-zero (subst (λ (k : ℕ). i < k) (no-slice table v l) li)) }
+
+  ascend-le : v < n → (i d : ℕ) → i + d < countOf t v → sliceOf t v i ≤ sliceOf t v (i + d)
+  ascend-le lv i zero l = subst (λ (k : ℕ). sliceOf t v i ≤ sliceOf t v k) (plus-none i) (le-refl (sliceOf t v i))
+    where
+      plus-none : (k : ℕ) → k ≡ k + zero
+      plus-none k = omega arith
+  ascend-le lv i (suc d) l =
+      subst (λ (k : ℕ). sliceOf t v i ≤ sliceOf t v k) (next i d)
+      (more (ascend-le lv i d (less l)) (table .ascend v (i + d) lv (subst (λ (k : ℕ). k < countOf t v) (sym (next i d)) l)))
+    where
+      next : (i d : ℕ) → suc (i + d) ≡ i + suc d
+      next i d = omega arith
+
+      less : i + suc d < countOf t v → i + d < countOf t v
+      less l = omega arith
+
+      more : {a b c : ℕ} → a ≤ b → b < c → a ≤ c
+      more p q = omega arith
+
+  pub taken-stop : v < n → (i : ℕ) {word : ℕ} → 64 ≤ sliceOf t v i → Taken t v i word → Sets t v 0 word
+  taken-stop lv i {word} big m =
+      record { right = m .right; full = λ u k lu lk e. let z = reaches-itself (sliceOf t v k) u e in subst (λ (q : ℕ). q ∈ word) (sym z) (pick k lk (subst (λ (q : ℕ). q < 64) z lu) (cases (ltb k i))) }
+    where
+      back : {k : ℕ} → i ≤ k → i + (k - i) ≡ k
+      back l = omega arith
+
+      bad : {q : ℕ} → sliceOf t v i ≤ q → q < 64 → ⊥
+      bad a b = omega arith
+
+      pick : (k : ℕ) → k < countOf t v → sliceOf t v k < 64 → (ltb k i ≡ true) ⊎ (ltb k i ≡ false) → sliceOf t v k ∈ word
+      pick k lk few (inl b) = m .each k (ltb-true k i b)
+      pick k lk few (inr b) =
+          let e = back (ltb-false k i b) in
+          absurd (bad (subst (λ (y : ℕ). sliceOf t v i ≤ sliceOf t v y) e (ascend-le lv i (k - i) (subst (λ (y : ℕ). y < countOf t v) (sym e) lk))) few)
+
+-- one site more: each set without it hands on to the set with it
+
+abbrev lift : ℕ → ℕ → ℕ → ℕ
+lift x word rest = bitOr word (bitAnd word rest * 2 ^ 2 ^ x % 2 ^ 64)
+
+module _ (x word rest : ℕ) (few : x < 6) (w : Without x rest) where
+  -- a set with site x, and without it
+  with-x : (y : ℕ) → (x ∈ y → ⊥) → bitOr y (single x) ≡ y + 2 ^ x
+  with-x y out = or-disjoint y (single x) (apart-of y (single x) (λ v h k. out (subst (λ (z : ℕ). z ∈ y) (single-∈ x k) h)))
+
+  small : 2 ^ x ≤ 32
+  small = pow-mono (le-five few)
+    where
+      le-five : x < 6 → x ≤ 5
+      le-five l = omega arith
+
+  lift-ex : (u : ℕ) → u < 64 → u ∈ lift x word rest → (u ∈ word) ⊎ ((y : ℕ) × (y < 64) × (y ⊆ u) × (y ∈ word))
+  lift-ex u l h = ⊎-elim inl (λ k. inr (pick k (cases (ltb u (2 ^ x))))) (∈-or word (bitAnd word rest * 2 ^ 2 ^ x % 2 ^ 64) h)
+    where
+      back : 2 ^ x ≤ u → u ≡ 2 ^ x + (u - 2 ^ x)
+      back b = omega arith
+
+      turn : 2 ^ x ≤ u → u - 2 ^ x + 2 ^ x ≡ u
+      turn b = omega arith
+
+      pick : u ∈ bitAnd word rest * 2 ^ 2 ^ x % 2 ^ 64 → (ltb u (2 ^ x) ≡ true) ⊎ (ltb u (2 ^ x) ≡ false) → (y : ℕ) × (y < 64) × (y ⊆ u) × (y ∈ word)
+      pick k (inl b) = absurd (clash (k .holds) (has-shifted-low (bitAnd word rest) (2 ^ x) u (ltb-true u (2 ^ x) b) (omega (arith, small))))
+      pick k (inr b) =
+          let c = ltb-false u (2 ^ x) b in
+          let y = u - 2 ^ x in
+          let at = sym (has-and word rest y) ∙ sym (has-shifted (bitAnd word rest) (2 ^ x) y (subst (λ (z : ℕ). z < 64) (back c) l))
+          ∙ sym (ap (has (bitAnd word rest * 2 ^ 2 ^ x % 2 ^ 64)) (back c)) ∙ k .holds in
+          let ly : y < 64 = omega arith in
+          let out : (x ∈ y → ⊥) = λ o. clash (o .holds) (not-t (has y x) (sym (w .each y ly) ∙ and-r (has word y) (has rest y) at)) in (
+            y,
+            ly,
+            subst (λ (z : ℕ). y ⊆ z) (with-x y out ∙ turn c) (or-⊆-l y (single x)),
+            mem (and-l (has word y) (has rest y) at),
+          )
+
+  lift-of : (u : ℕ) → u < 64 → x ∈ u → minus u (single x) ∈ word → u ∈ lift x word rest
+  lift-of u l i h =
+      or-⊆-r word (bitAnd word rest * 2 ^ 2 ^ x % 2 ^ 64) .each u
+      (mem (ap (has (bitAnd word rest * 2 ^ 2 ^ x % 2 ^ 64)) (sym sum)
+      ∙ has-shifted (bitAnd word rest) (2 ^ x) y (subst (λ (z : ℕ). z < 64) (sym sum) l)
+      ∙ has-and word rest y
+      ∙ and-i (h .holds) (w .each y ly ∙ ap not (is-false (has y x) (λ o. minus-not-in u (mem o) (∈-single x))))))
+    where
+      y : ℕ
+      y = minus u (single x)
+
+      sum : 2 ^ x + y ≡ u
+      sum = let p = or-part (single-⊆ i) in omega (arith, minus-or u (single x))
+
+      ly : y < 64
+      ly = omega (arith, sum)
+
+  pub sets-lift : (t : List ℕ) (v : ℕ) → Sets t v x word → Sets t v (x + 1) (lift x word rest)
+  sets-lift t v m =
+      record {
+        right = λ u l h. ⊎-elim (λ k. m .right u l k) (λ k. grows (k .2) (m .right (k .0) (k .1) (k .3))) (lift-ex u l h);
+        full = λ u i l li e.
+            ⊎-elim (λ k. or-⊆-l word (bitAnd word rest * 2 ^ 2 ^ x % 2 ^ 64) .each u (m .full u i l li k))
+            (λ k. lift-of u l (k .0) (m .full (minus u (single x)) i (le-lt (⊆-le (minus-⊆ u (single x))) l) li (k .1)))
+            (reach-down x (sliceOf t v i) u (subst (λ (y : ℕ). reaches y (sliceOf t v i) u ≡ true) (add-one x) e));
+      }
+    where
+      grows : {a b : ℕ} → a ⊆ b → slicesOf t .inside v a ≡ true → slicesOf t .inside v b ≡ true
+      grows {a} s e = let r = inside-ex t v a e in inside-of t v (r .0) (r .1) (⊆-trans (r .2) s)
+
+      le-lt : {a b c : ℕ} → a ≤ b → b < c → a < c
+      le-lt p q = omega arith
+
+-- with all six sites handed on the sets are known
+
+sets-are : (t : List ℕ) (v : ℕ) {word : ℕ} → Sets t v 6 word → (u : ℕ) → u < 64 → has word u ≡ slicesOf t .inside v u
+sets-are t v {word} m u l =
+    iff (has word u) (slicesOf t .inside v u) (λ e. m .right u l (mem e))
+    (λ e. let r = inside-ex t v u e in m .full u (r .0) l (r .1) (reaches-of (record { inside = r .2; lacks = λ y h k. ∈-below l h })) .holds)
+
+pub held-none : (t : List ℕ) → Held t 0 18446744073709551615
+held-none t = record { each = λ u l. in-all l .holds ∙ sym (every-none (λ y. not (has u y) || slicesOf t .inside y u)) }
+
+pub held-more : (t : List ℕ) (v : ℕ) {word rest sets : ℕ} → Held t v word → Without v rest → Sets t v 6 sets → Held t (v + 1) (bitAnd word (bitOr rest sets))
+held-more t v {word} {rest} {sets} h w m =
+    record {
+      each = λ u l.
+          has-and word (bitOr rest sets) u
+          ∙ ap₂ (λ a b. a && b) (h .each u l) (has-or rest sets u ∙ ap₂ (λ a b. a || b) (w .each u l) (sets-are t v m u l))
+          ∙ sym (every-suc v (λ y. not (has u y) || slicesOf t .inside y u));
+    }
+
+-- the quorums among these sets, and the first
+
+lowest : (m : ℕ) → m % 2 ≡ 0 → has m 0 ≡ false
+unfolding has
+lowest m e = ap (λ (x : ℕ). eqb x 1) (ap (λ (x : ℕ). x % 2) (div-one m) ∙ e)
+
+trailing-before : (k m v : ℕ) → v < trailingZeros k m → has m v ≡ false
+unfolding trailingZeros
+trailing-before zero m v l = absurd (not-suc-le-zero l)
+trailing-before (suc k) m v l = go (m % 2) refl v l (trailing-before k (m / 2))
+  where
+    go : (r : ℕ) → m % 2 ≡ r → (v : ℕ) → v < under r (trailingZeros k (m / 2)) → ((v : ℕ) → v < trailingZeros k (m / 2) → has (m / 2) v ≡ false) → has m v ≡ false
+    go zero e zero l ih = lowest m e
+    go zero e (suc v) l ih = has-suc m v ∙ ih v (le-of-suc-le-suc l)
+    go (suc r) e v l ih = absurd (not-suc-le-zero l)
+
+module _ {t : List ℕ} {n : ℕ} (table : Table t n) {word : ℕ} (h : Held t 6 word) where
+  quorum-at : (u : ℕ) → u < 64 → has (minus word 1) u ≡ quorum (slicesOf t .inside) n u
+  quorum-at u l =
+      has-minus word 1 u
+      ∙ iff (has word u && not (has 1 u)) (quorum (slicesOf t .inside) n u)
+      (λ e.
+      let some = not-t (has 1 u) (and-r (has word u) (not (has 1 u)) e) in
+      let all = sym (h .each u l) ∙ and-l (has word u) (not (has 1 u)) e in
+      quorum-of (slicesOf t .inside) n (λ z. clash (has-single 0 u ∙ eq-eqb u 0 z) some)
+      (record { each = λ v i. in-all (site v (member u l all v i)) }) (member u l all))
+      (λ e.
+      and-i
+      (h .each u l
+      ∙ every-of 6 (λ y. not (has u y) || slicesOf t .inside y u)
+      (λ y ly. ⊎-elim (λ k. or-i (not (has u y)) (slicesOf t .inside y u) (quorum-slice (slicesOf t .inside) n e (mem k))) (λ k. ap (λ (c : Bool). not c || slicesOf t .inside y u) k) (cases (has u y))))
+      (ap not (has-single 0 u ∙ ne-eqb u 0 (quorum-some (slicesOf t .inside) n e))))
+    where
+      member : (u : ℕ) → u < 64 → every 6 (λ y. not (has u y) || slicesOf t .inside y u) ≡ true → (v : ℕ) → v ∈ u → slicesOf t .inside v u ≡ true
+      member u l all v i =
+          ⊎-elim (λ k. absurd (clash (i .holds) (not-t (has u v) k))) (λ k. k)
+          (or-e (not (has u v)) (slicesOf t .inside v u) (every-at 6 (λ y. not (has u y) || slicesOf t .inside y u) all v (∈-below l i)))
+
+      site : (v : ℕ) → slicesOf t .inside v u ≡ true → v < n
+      site v e = ⊎-elim (λ b. ltb-true v n b) (λ b. let r = inside-ex t v u e in absurd (not-suc-le-zero (subst (λ (k : ℕ). r .0 < k) (no-slice table v (ltb-false v n b)) (r .1)))) (cases (ltb v n))
+
+  pub first-is : word < 2 ^ 64 → trailingZeros 64 (minus word 1) ≡ least 64 (quorum (slicesOf t .inside) n)
+  first-is fits = ⊎-elim none some (same? (minus word 1) 0)
+    where
+      q : ℕ → Bool
+      q = quorum (slicesOf t .inside) n
+
+      none : minus word 1 ≡ 0 → trailingZeros 64 (minus word 1) ≡ least 64 q
+      none e =
+          ap (trailingZeros 64) e ∙ trailing-of-zero 64
+          ∙ sym (least-fails 64 q (λ u l. sym (quorum-at u l) ∙ ap (λ (x : ℕ). has x u) e ∙ has-zero u))
+
+      some : (minus word 1 ≡ 0 → ⊥) → trailingZeros 64 (minus word 1) ≡ least 64 q
+      some ne =
+          let lt = minus-lt 64 word 1 fits in
+          let i = first-member 64 (minus word 1) ne lt in
+          let l = ∈-below lt i in
+          sym (least-found 64 (trailingZeros 64 (minus word 1)) q l
+          (λ u k. sym (quorum-at u (lt-trans k l)) ∙ trailing-before 64 (minus word 1) u k) (sym (quorum-at (trailingZeros 64 (minus word 1)) l) ∙ i .holds))

@@ -1,0 +1,2 @@
+pub mod EarlyLaws
+pub mod Coincide

@@ -1,0 +1,28 @@
+-- The sets of the first six sites, one bit a set: bit u of a word says something of the set u.
+use Prim.Native.Nat.{ℕ, _<_}
+use mathlib.Core.Bool.{true, _||_, not}
+use mathlib.Core.List.{List}
+use mathlib.Core.Path.{_≡_}
+use Rattle.ground.specs.Search.{every}
+use Rattle.holders.specs.Inner.{reaches}
+use Rattle.masks.specs.Mask.{has, _∈_}
+use Rattle.sets.specs.Slices.{slicesOf}
+use Rattle.table.specs.Table.{countOf, sliceOf}
+
+-- the sets without site x
+pub record Without (x word : ℕ) : Type 0 where
+  pub each : (u : ℕ) → u < 64 → has word u ≡ not (has u x)
+
+-- the first i slices of site v are among these sets, and in each it has a slice
+pub record Taken (t : List ℕ) (v i word : ℕ) : Type 0 where
+  pub right : (u : ℕ) → u < 64 → u ∈ word → slicesOf t .inside v u ≡ true
+  pub each : (k : ℕ) → k < i → sliceOf t v k ∈ word
+
+-- in these sets site v has a slice, and it has none in the others that a slice of it reaches by sites below x
+pub record Sets (t : List ℕ) (v x word : ℕ) : Type 0 where
+  pub right : (u : ℕ) → u < 64 → u ∈ word → slicesOf t .inside v u ≡ true
+  pub full : (u i : ℕ) → u < 64 → i < countOf t v → reaches x (sliceOf t v i) u ≡ true → u ∈ word
+
+-- in these sets each member below v has a slice
+pub record Held (t : List ℕ) (v word : ℕ) : Type 0 where
+  pub each : (u : ℕ) → u < 64 → has word u ≡ every v (λ y. not (has u y) || slicesOf t .inside y u)
