@@ -10,7 +10,7 @@ use Rattle.masks.proofs.Laws.Single.{single-⊆}
 use Rattle.masks.proofs.Laws.Step.{minus-or, or-part}
 use Rattle.masks.proofs.Laws.Subsets.{mem}
 use Rattle.masks.specs.Mask.{has, single, minus, _∈_}
-use Rattle.one_round.specs.Inner.First.{first}
+use Rattle.one_round.specs.Inner.First.{lowest}
 
 -- the zeros below the lowest member say which it is
 first-odd : (k m : ℕ) → (m ≡ 0 → ⊥) → m < 2 ^ k → m / 2 ^ trailingZeros k m % 2 ≡ 1
@@ -55,5 +55,5 @@ first-out k m f h =
     omega arith
 
 -- the member that is asked is the one that is taken out
-pub out-next : (rest : ℕ) {m v : ℕ} → m ≡ minus rest (single (first rest)) → v ≡ first rest → m ≡ minus rest (single v)
+pub out-next : (rest : ℕ) {m v : ℕ} → m ≡ minus rest (single (lowest rest)) → v ≡ lowest rest → m ≡ minus rest (single v)
 out-next rest e q = e ∙ ap (λ (x : ℕ). minus rest (single x)) (sym q)

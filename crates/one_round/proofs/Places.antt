@@ -13,7 +13,7 @@ use Rattle.ground.proofs.Logic.{is-false, clash, cases}
 use Rattle.masks.proofs.Laws.Single.{single-∈}
 use Rattle.masks.proofs.Laws.Subsets.{⊆-refl, ⊆-trans, within-⊆, ⊆-within, ∈-minus}
 use Rattle.masks.specs.Mask.{within, single, minus, allBelow, _∈_, _⊆_}
-use Rattle.one_round.specs.Inner.Places.{Place, Places, Placed, Held}
+use Rattle.one_round.specs.Inner.Places.{Place, Places, Placed, SlicesHeld}
 use Rattle.sets.specs.Slices.{slicesOf}
 use Rattle.table.specs.Table.{sliceOf, Table}
 
@@ -65,7 +65,7 @@ module _ (t : List ℕ) where
     pub places-less : {u w : ℕ} {places : List ℕ} → u ⊆ w → Places t n w places → Places t n u places
     places-less s p = record { many = p .many; at = λ v l h. place-less s (p .at v l (s .each v h)) }
 
-    pub held-less : {u w : ℕ} {places held : List ℕ} → u ⊆ w → Held t n w places held → Held t n u places held
+    pub held-less : {u w : ℕ} {places held : List ℕ} → u ⊆ w → SlicesHeld t n w places held → SlicesHeld t n u places held
     held-less s p = record { many = p .many; at = λ v l h. p .at v l (s .each v h) }
 
     -- slice k is the place of site v now
@@ -78,7 +78,7 @@ module _ (t : List ℕ) where
           }
 
       -- and held beside it
-      pub held-more : {held : List ℕ} → Held t n w places held → Held t n w (set places v k) (set held v (sliceOf t v k))
+      pub held-more : {held : List ℕ} → SlicesHeld t n w places held → SlicesHeld t n w (set places v k) (set held v (sliceOf t v k))
       held-more {held} h =
           record {
             many = length-set held v (sliceOf t v k) ∙ h .many;
@@ -91,7 +91,7 @@ module _ (t : List ℕ) where
           here = subst (λ (x : ℕ). sliceOf t v x ⊆ sliceOf t v k) (sym (getD-set-same places v k 0 (subst (λ (x : ℕ). v < x) (sym (p .many)) l))) (⊆-refl (sliceOf t v k))
 
     -- before a slice is held: all sites, which every slice is inside
-    pub held-all : {m w : ℕ} {places : List ℕ} → Table t n → m ≡ allBelow n → Places t n w places → Held t n w places (replicate 64 m)
+    pub held-all : {m w : ℕ} {places : List ℕ} → Table t n → m ≡ allBelow n → Places t n w places → SlicesHeld t n w places (replicate 64 m)
     held-all {m} {w} {places} table e p =
         record {
           many = length-replicate 64 m;

@@ -7,8 +7,8 @@ ghost use Rattle.masks.specs.Mask.{single, minus, within, _∈_};
 ghost use Rattle.table.specs.Table.{countOf, sliceOf, Table};
 ghost use Rattle.sets.specs.Slices.{slicesOf};
 ghost use Rattle.sets.specs.Quorum.{round};
-ghost use Rattle.one_round.specs.Inner.First.{first};
-ghost use Rattle.one_round.specs.Inner.Places.{Places, Placed, Held};
+ghost use Rattle.one_round.specs.Inner.First.{lowest};
+ghost use Rattle.one_round.specs.Inner.Places.{Places, Placed, SlicesHeld};
 ghost use Rattle.one_round.specs.Inner.Swept.{Swept};
 
 // Slice i of site v is inside w.
@@ -66,10 +66,10 @@ fn moves_held(
     requires { ⌜ v < n ⌝ }
     requires { ⌜ v ∈ w ⌝ }
     requires { ⌜ Places (now table) n w (now places) ⌝ }
-    requires { ⌜ Held (now table) n w (now places) (now held) ⌝ }
+    requires { ⌜ SlicesHeld (now table) n w (now places) (now held) ⌝ }
     ensures { λ r. ⌜ r ≡ slicesOf (now (table .entry)) .inside v w ⌝ }
     ensures { λ r. ⌜ Places (now (table .entry)) n w (now (places .exit)) ⌝ }
-    ensures { λ r. ⌜ Held (now (table .entry)) n w (now (places .exit)) (now (held .exit)) ⌝ }
+    ensures { λ r. ⌜ SlicesHeld (now (table .entry)) n w (now (places .exit)) (now (held .exit)) ⌝ }
 {
     let i = sets::next_inside(table, n, v, w, places[v]);
     if i < table[63 * v] as usize {
@@ -93,10 +93,10 @@ fn stays_held(
     requires { ⌜ v < n ⌝ }
     requires { ⌜ v ∈ w ⌝ }
     requires { ⌜ Places (now table) n w (now places) ⌝ }
-    requires { ⌜ Held (now table) n w (now places) (now held) ⌝ }
+    requires { ⌜ SlicesHeld (now table) n w (now places) (now held) ⌝ }
     ensures { λ r. ⌜ r ≡ slicesOf (now (table .entry)) .inside v w ⌝ }
     ensures { λ r. ⌜ Places (now (table .entry)) n w (now (places .exit)) ⌝ }
-    ensures { λ r. ⌜ Held (now (table .entry)) n w (now (places .exit)) (now (held .exit)) ⌝ }
+    ensures { λ r. ⌜ SlicesHeld (now (table .entry)) n w (now (places .exit)) (now (held .exit)) ⌝ }
 {
     if masks::within(held[v], w) {
         return true;
@@ -123,7 +123,7 @@ fn goes(table: &[u64], n: usize, v: usize, w: u64, places: &mut [u8; 64]) -> u64
 // The first member of a set that is not empty.
 fn first_member(m: u64) -> usize
     requires { ⌜ (m ≡ 0 → ⊥) ⌝ }
-    ensures { λ r. ⌜ (r ≡ first m) × (r ∈ m) ⌝ }
+    ensures { λ r. ⌜ (r ≡ lowest m) × (r ∈ m) ⌝ }
 {
     u64::trailing_zeros(m) as usize
 }
@@ -131,7 +131,7 @@ fn first_member(m: u64) -> usize
 // A set that is not empty, without its first member.
 fn but_first(m: u64) -> u64
     requires { ⌜ (m ≡ 0 → ⊥) ⌝ }
-    ensures { λ r. ⌜ r ≡ minus m (single (first m)) ⌝ }
+    ensures { λ r. ⌜ r ≡ minus m (single (lowest m)) ⌝ }
 {
     m & (m - 1)
 }
@@ -162,10 +162,10 @@ pub fn round_from(
 ) -> u64
     requires { ⌜ Table (now table) n ⌝ }
     requires { ⌜ Places (now table) n w (now places) ⌝ }
-    requires { ⌜ Held (now table) n w (now places) (now held) ⌝ }
+    requires { ⌜ SlicesHeld (now table) n w (now places) (now held) ⌝ }
     ensures { λ r. ⌜ r ≡ round (slicesOf (now (table .entry)) .inside) n w ⌝ }
     ensures { λ r. ⌜ Places (now (table .entry)) n r (now (places .exit)) ⌝ }
-    ensures { λ r. ⌜ Held (now (table .entry)) n r (now (places .exit)) (now (held .exit)) ⌝ }
+    ensures { λ r. ⌜ SlicesHeld (now (table .entry)) n r (now (places .exit)) (now (held .exit)) ⌝ }
 {
     let mut stay = w & masks::all_below(n as u64);
     let mut rest = stay;

@@ -10,28 +10,38 @@ use Rattle.block.proofs.with_six.Tie as tie
 
 with-word-requires-3 : tie.Need-with-word-requires-3
 with-word-requires-3 c κs =
-    let e : c .before .before .before .args .k + 1 + 1 ≡ c .before .before .before .args .k + 2 = omega arith in
-    (omega (arith, c .before .before .before .pre .0), (as-many-s (now (c .before .before .before .args .b)) _ e (c .with-word2 .ensures .0), as-many-t (now (c .before .before .before .args .b)) _ e (c .with-word2 .ensures .1)))
+    let start = c .before .before .before in
+    let b = now (start .args .b) in
+    let e : start .args .k + 1 + 1 ≡ start .args .k + 2 = omega arith in
+    (omega (arith, start .pre .0), (as-many-s b _ e (c .with-word2 .ensures .0), as-many-t b _ e (c .with-word2 .ensures .1)))
 
 with-word-requires-4 : tie.Need-with-word-requires-4
 with-word-requires-4 c κs =
-    let e : c .before .before .before .before .args .k + 2 + 1 ≡ c .before .before .before .before .args .k + 3 = omega arith in
-    (omega (arith, c .before .before .before .before .pre .0), (as-many-s (now (c .before .before .before .before .args .b)) _ e (c .with-word3 .ensures .0), as-many-t (now (c .before .before .before .before .args .b)) _ e (c .with-word3 .ensures .1)))
+    let start = c .before .before .before .before in
+    let b = now (start .args .b) in
+    let e : start .args .k + 2 + 1 ≡ start .args .k + 3 = omega arith in
+    (omega (arith, start .pre .0), (as-many-s b _ e (c .with-word3 .ensures .0), as-many-t b _ e (c .with-word3 .ensures .1)))
 
 with-word-requires-5 : tie.Need-with-word-requires-5
 with-word-requires-5 c κs =
-    let e : c .before .before .before .before .before .args .k + 3 + 1 ≡ c .before .before .before .before .before .args .k + 4 = omega arith in
-    (omega (arith, c .before .before .before .before .before .pre .0), (as-many-s (now (c .before .before .before .before .before .args .b)) _ e (c .with-word4 .ensures .0), as-many-t (now (c .before .before .before .before .before .args .b)) _ e (c .with-word4 .ensures .1)))
+    let start = c .before .before .before .before .before in
+    let b = now (start .args .b) in
+    let e : start .args .k + 3 + 1 ≡ start .args .k + 4 = omega arith in
+    (omega (arith, start .pre .0), (as-many-s b _ e (c .with-word4 .ensures .0), as-many-t b _ e (c .with-word4 .ensures .1)))
 
 with-word-requires-6 : tie.Need-with-word-requires-6
 with-word-requires-6 c κs =
-    let e : c .before .before .before .before .before .before .args .k + 4 + 1 ≡ c .before .before .before .before .before .before .args .k + 5 = omega arith in
-    (omega (arith, c .before .before .before .before .before .before .pre .0), (as-many-s (now (c .before .before .before .before .before .before .args .b)) _ e (c .with-word5 .ensures .0), as-many-t (now (c .before .before .before .before .before .before .args .b)) _ e (c .with-word5 .ensures .1)))
+    let start = c .before .before .before .before .before .before in
+    let b = now (start .args .b) in
+    let e : start .args .k + 4 + 1 ≡ start .args .k + 5 = omega arith in
+    (omega (arith, start .pre .0), (as-many-s b _ e (c .with-word5 .ensures .0), as-many-t b _ e (c .with-word5 .ensures .1)))
 
 returns : tie.Need-returns
 returns c =
-    let e : c .before .before .before .before .before .before .before .args .k + 5 + 1 ≡ c .before .before .before .before .before .before .before .args .k + 6 = omega arith in
-    (as-many-s (now (c .before .before .before .before .before .before .before .args .b)) _ e (c .with-word6 .ensures .0), as-many-t (now (c .before .before .before .before .before .before .before .args .b)) _ e (c .with-word6 .ensures .1))
+    let start = c .before .before .before .before .before .before .before in
+    let b = now (start .args .b) in
+    let e : start .args .k + 5 + 1 ≡ start .args .k + 6 = omega arith in
+    (as-many-s b _ e (c .with-word6 .ensures .0), as-many-t b _ e (c .with-word6 .ensures .1))
 
 pub with-six-spec : {M : Type 1} → statement M
 with-six-spec =

@@ -4,9 +4,8 @@ use mathlib.Core.Bool.{Bool, true, false, _&&_, _||_, cond, or-false}
 use mathlib.Core.Logic.{⊎-elim}
 use mathlib.Core.Path.{_≡_, refl, sym, ap, ap₂, _∙_}
 use native.Mathlib.Nat.{le-refl, zero-lt-suc, pow-suc, one-mul, add-comm, add-zero}
-use native.Mathlib.Numerals.{add-one}
 use native.Mathlib.Omega.{arith}
-use lib.Bits.{bitOr, or-shifted-r, or-zero-r}
+use lib.Bits.{bitOr, or-shifted-r}
 use lib.Dec.{eqb, ltb}
 use borrow.Author.Tests.{eqb-true, eqb-false, eq-eqb, ne-eqb, ltb-true, ltb-false, lt-ltb, le-ltb}
 use Rattle.ground.proofs.Logic.{and-r, and-i, cases}
@@ -67,25 +66,8 @@ has-gather (suc n) p v =
     (λ e. ap (λ (x : ℕ). has x v) (gather-in n p e) ∙ has-or (gather n p) (2 ^ n) v ∙ ap₂ _||_ ih (has-single n v) ∙ one-more n p v e)
     (λ e. ap (λ (x : ℕ). has x v) (gather-out n p e) ∙ ih ∙ none-more n p v e) (cases (p n))
 
--- the same at n + 1, as a loop counts, and before its first turn
-pub gather-none : (p : ℕ → Bool) → 0 ≡ gather 0 p
-unfolding gather
-gather-none p = refl
-
-pub gather-took : (n : ℕ) (p : ℕ → Bool) → p n ≡ true → bitOr (gather n p) (2 ^ n) ≡ gather (n + 1) p
-gather-took n p e = sym (ap (λ (k : ℕ). gather k p) (add-one n) ∙ gather-in n p e)
-
-pub gather-left : (n : ℕ) (p : ℕ → Bool) → p n ≡ false → gather n p ≡ gather (n + 1) p
-gather-left n p e = sym (ap (λ (k : ℕ). gather k p) (add-one n) ∙ gather-out n p e)
-
 pub ∈-gather : {n v : ℕ} (p : ℕ → Bool) → v < n → p v ≡ true → v ∈ gather n p
 ∈-gather {n} {v} p l e = mem (has-gather n p v ∙ and-i (lt-ltb v n l) e)
 
 pub gather-∈ : (n : ℕ) (p : ℕ → Bool) {v : ℕ} → v ∈ gather n p → p v ≡ true
 gather-∈ n p {v} h = and-r (ltb v n) (p v) (sym (has-gather n p v) ∙ h .holds)
-
--- the step of a loop that adds a set for each site, the site's own or none
-pub gather-more : (n : ℕ) (p : ℕ → Bool) → bitOr (gather n p) (cond (p n) (2 ^ n) 0) ≡ gather (n + 1) p
-gather-more n p =
-    ⊎-elim (λ e. ap (λ (b : Bool). bitOr (gather n p) (cond b (2 ^ n) 0)) e ∙ gather-took n p e)
-    (λ e. ap (λ (b : Bool). bitOr (gather n p) (cond b (2 ^ n) 0)) e ∙ or-zero-r (gather n p) ∙ gather-left n p e) (cases (p n))

@@ -6,7 +6,7 @@ use native.Mathlib.Omega.{arith}
 use lib.ListN.{set}
 use borrow.Author.Needs.{needs}
 use denote.Ref.{now}
-use Rattle.one_round.specs.Inner.Places.{Held}
+use Rattle.one_round.specs.Inner.Places.{SlicesHeld}
 use Rattle.one_round.proofs.Places.{passed-to, places-more, held-more}
 use Rattle.one_round.proofs.moves_held.Statement.{statement}
 use Rattle.sets.proofs.Slices.{inside-found, inside-missed}
@@ -48,7 +48,7 @@ returns c =
       sym (inside-found t (a .v) (a .w) (k .result) l (k .ensures .1 .0 l)),
       (
         places-more t (a .n) (k .result) few places (record { slice = l; passed = passed-to t before (k .ensures .1 .1 .0) }),
-        subst (λ (x : ℕ). Held t (a .n) (a .w) (set (now (a .places)) (a .v) (k .result)) (set (now (a .held)) (a .v) x)) (slice-at t (a .v) (k .result) short)
+        subst (λ (x : ℕ). SlicesHeld t (a .n) (a .w) (set (now (a .places)) (a .v) (k .result)) (set (now (a .held)) (a .v) x)) (slice-at t (a .v) (k .result) short)
             (held-more t (a .n) (k .result) few places (p .pre .1 .1 .1 .1)),
       ),
     )

@@ -10,7 +10,7 @@ use denote.Ref.{now}
 use Rattle.ground.proofs.Logic.{clash}
 use Rattle.masks.proofs.Laws.Subsets.{⊆-antisym, ⊆-trans, and-⊆-l}
 use Rattle.masks.specs.Mask.{minus, allBelow}
-use Rattle.one_round.specs.Inner.Places.{Places, Held}
+use Rattle.one_round.specs.Inner.Places.{Places, SlicesHeld}
 use Rattle.one_round.proofs.First.{out-next}
 use Rattle.one_round.proofs.Places.{places-less, held-less}
 use Rattle.one_round.proofs.Rounds.{is-site, round-part, in-round, fewer, SomeAsked, asked-none, asked-all, asked-member, asked-stays, asked-goes}
@@ -22,7 +22,7 @@ use Rattle.one_round.proofs.round_from.Tie as tie
 
 abbrev Inv-loop : tie.InvT-loop
 Inv-loop table n w places₀ held₀ stay₀ rest₀ places held stay rest =
-    SomeAsked (bitAnd w (allBelow n)) (round (slicesOf table .inside) n w) (round (slicesOf table .inside) n w) rest stay × Places table n w places × Held table n w places held
+    SomeAsked (bitAnd w (allBelow n)) (round (slicesOf table .inside) n w) (round (slicesOf table .inside) n w) rest stay × Places table n w places × SlicesHeld table n w places held
 
 abbrev μ-loop : tie.MeasureT-loop
 μ-loop table n w places₀ held₀ stay₀ rest₀ places held stay rest = rest

@@ -2,5 +2,5 @@
 use Prim.Native.Nat.{ℕ}
 use lib.Count.{trailingZeros}
 
-abbrev pub first : ℕ → ℕ
-first m = trailingZeros 64 m
+abbrev pub lowest : ℕ → ℕ
+lowest m = trailingZeros 64 m

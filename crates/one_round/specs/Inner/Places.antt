@@ -25,6 +25,6 @@ pub record Placed (t : List ℕ) (w v : ℕ) (before after : List ℕ) : Type 0 
   pub others : (u : ℕ) → (u ≡ v → ⊥) → getD after u 0 ≡ getD before u 0
 
 -- beside the place of each site of w: the slice at it, or a set that the slice is inside
-pub record Held (t : List ℕ) (n w : ℕ) (places held : List ℕ) : Type 0 where
+pub record SlicesHeld (t : List ℕ) (n w : ℕ) (places held : List ℕ) : Type 0 where
   pub many : length held ≡ 64
   pub at : (v : ℕ) → v < n → v ∈ w → sliceOf t v (getD places v 0) ⊆ getD held v 0

@@ -6,7 +6,7 @@ use native.Mathlib.Omega.{arith}
 use lib.Count.{ones-le}
 use borrow.Author.Needs.{needs}
 use denote.Ref.{now}
-use Rattle.one_round.specs.Inner.Places.{Places, Held}
+use Rattle.one_round.specs.Inner.Places.{Places, SlicesHeld}
 use Rattle.sets.specs.Quorum.{round, largest, rounds}
 use Rattle.sets.specs.Slices.{slicesOf}
 use Rattle.one_round.proofs.Places.{held-all}
@@ -16,7 +16,7 @@ use Rattle.rounds.proofs.largest.Tie as tie
 
 abbrev Inv-loop : tie.InvT-loop
 Inv-loop table n w places₀ set₀ held₀ count₀ places set held count =
-    Places table n set places × Held table n set places held × (largest (slicesOf table .inside) n set ≡ largest (slicesOf table .inside) n w)
+    Places table n set places × SlicesHeld table n set places held × (largest (slicesOf table .inside) n set ≡ largest (slicesOf table .inside) n w)
     × (count + rounds (slicesOf table .inside) n set ≡ rounds (slicesOf table .inside) n w)
 
 abbrev μ-loop : tie.MeasureT-loop
