@@ -18,21 +18,22 @@ use Rattle.ground.proofs.Logic.{and-l, and-r, and-i, cases, iff, is-false, clas
 use Rattle.ground.proofs.Numbers.{same?}
 use Rattle.ground.specs.Search.{every, least}
 use Rattle.holders.specs.Inner.{reaches}
-use Rattle.holders.proofs.Reaching.{Reaches, reaches-of, reaches-itself, reach-down}
+use Rattle.holders.proofs.HolderLaws.{inside-up}
+use Rattle.holders.proofs.Reaching.{reaches-of, reaches-itself, reach-down}
 use Rattle.holders.proofs.Shifts.{has-shifted, has-shifted-low}
 use Rattle.masks.proofs.Laws.AllBelow.{in-all}
 use Rattle.masks.proofs.Laws.Apart.{apart-of}
-use Rattle.masks.proofs.Laws.Members.{has-and, has-or, has-minus, has-zero, has-suc, has-above, has-single}
-use Rattle.masks.proofs.Laws.Single.{in?, ∈-or, ∈-single, single-∈, single-⊆}
+use Rattle.masks.proofs.Laws.Members.{has-and, has-or, has-minus, has-zero, has-suc, has-single}
+use Rattle.masks.proofs.Laws.Single.{∈-or, ∈-single, single-∈, single-⊆}
 use Rattle.masks.proofs.Laws.Step.{or-part, minus-or}
-use Rattle.masks.proofs.Laws.Subsets.{mem, not-in-zero, ⊆-refl, ⊆-trans, ⊆-le, ∈-below, or-⊆-l, or-⊆-r, minus-⊆, minus-lt, minus-not-in}
-use Rattle.masks.specs.Mask.{has, single, minus, allBelow, _∈_, _⊆_}
-use Rattle.early_quorums.specs.Inner.{Without, Taken, Sets, Held}
+use Rattle.masks.proofs.Laws.Subsets.{mem, not-in-zero, ⊆-refl, ⊆-le, ∈-below, or-⊆-l, or-⊆-r, minus-⊆, minus-lt, minus-not-in}
+use Rattle.masks.specs.Mask.{has, single, minus, _∈_, _⊆_}
+use Rattle.early_quorums.specs.Inner.{Without, Counted, Sets, Held}
 use Rattle.one_round.proofs.Rounds.{first-member}
 use Rattle.sets.specs.Quorum.{quorum}
 use Rattle.sets.specs.Slices.{slicesOf}
 use Rattle.sets.proofs.Quorum.{quorum-of, quorum-some, quorum-slice}
-use Rattle.sets.proofs.Slices.{inside-of, inside-ex, no-slice, slice-below}
+use Rattle.sets.proofs.Slices.{inside-of, inside-ex, no-slice}
 use Rattle.table.specs.Table.{Table, countOf, sliceOf}
 
 -- the sets without a site, as words
@@ -80,11 +81,11 @@ without-5 = lacks-is 5 4294967295 refl
 -- the slices of a site: none, one more, all of them, or as many as are such sets
 
 module _ (t : List ℕ) (v : ℕ) where
-  pub taken-none : Taken t v 0 0
-  taken-none = record { right = λ u l h. absurd (not-in-zero h); each = λ k l. absurd (not-suc-le-zero l) }
+  pub counted-none : Counted t v 0 0
+  counted-none = record { right = λ u l h. absurd (not-in-zero h); each = λ k l. absurd (not-suc-le-zero l) }
 
-  pub taken-more : (i : ℕ) {word : ℕ} → i < countOf t v → Taken t v i word → Taken t v (i + 1) (bitOr word (single (sliceOf t v i)))
-  taken-more i {word} l m =
+  pub counted-more : (i : ℕ) {word : ℕ} → i < countOf t v → Counted t v i word → Counted t v (i + 1) (bitOr word (single (sliceOf t v i)))
+  counted-more i {word} l m =
       record {
         right = λ u lu h.
             ⊎-elim (λ k. m .right u lu k) (λ k. inside-of t v i l (subst (λ (q : ℕ). q ⊆ u) (single-∈ (sliceOf t v i) k) (⊆-refl u))) (∈-or word (single (sliceOf t v i)) h);
@@ -99,8 +100,8 @@ module _ (t : List ℕ) (v : ℕ) where
       less : (k : ℕ) → k < i + 1 → (k ≡ i → ⊥) → k < i
       less k h ne = omega arith
 
-  pub taken-all : {word : ℕ} → Taken t v (countOf t v) word → Sets t v 0 word
-  taken-all {word} m =
+  pub counted-all : {word : ℕ} → Counted t v (countOf t v) word → Sets t v 0 word
+  counted-all {word} m =
       record { right = m .right; full = λ u i lu li e. subst (λ (q : ℕ). q ∈ word) (sym (reaches-itself (sliceOf t v i) u e)) (m .each i li) }
 
 module _ {t : List ℕ} {n : ℕ} (table : Table t n) (v : ℕ) where
@@ -125,8 +126,8 @@ module _ {t : List ℕ} {n : ℕ} (table : Table t n) (v : ℕ) where
       more : {a b c : ℕ} → a ≤ b → b < c → a ≤ c
       more p q = omega arith
 
-  pub taken-stop : v < n → (i : ℕ) {word : ℕ} → 64 ≤ sliceOf t v i → Taken t v i word → Sets t v 0 word
-  taken-stop lv i {word} big m =
+  pub counted-stop : v < n → (i : ℕ) {word : ℕ} → 64 ≤ sliceOf t v i → Counted t v i word → Sets t v 0 word
+  counted-stop lv i {word} big m =
       record { right = m .right; full = λ u k lu lk e. let z = reaches-itself (sliceOf t v k) u e in subst (λ (q : ℕ). q ∈ word) (sym z) (pick k lk (subst (λ (q : ℕ). q < 64) z lu) (cases (ltb k i))) }
     where
       back : {k : ℕ} → i ≤ k → i + (k - i) ≡ k
@@ -201,16 +202,13 @@ module _ (x word rest : ℕ) (few : x < 6) (w : Without x rest) where
   pub sets-lift : (t : List ℕ) (v : ℕ) → Sets t v x word → Sets t v (x + 1) (lift x word rest)
   sets-lift t v m =
       record {
-        right = λ u l h. ⊎-elim (λ k. m .right u l k) (λ k. grows (k .2) (m .right (k .0) (k .1) (k .3))) (lift-ex u l h);
+        right = λ u l h. ⊎-elim (λ k. m .right u l k) (λ k. inside-up t v (k .2) (m .right (k .0) (k .1) (k .3))) (lift-ex u l h);
         full = λ u i l li e.
             ⊎-elim (λ k. or-⊆-l word (bitAnd word rest * 2 ^ 2 ^ x % 2 ^ 64) .each u (m .full u i l li k))
             (λ k. lift-of u l (k .0) (m .full (minus u (single x)) i (le-lt (⊆-le (minus-⊆ u (single x))) l) li (k .1)))
             (reach-down x (sliceOf t v i) u (subst (λ (y : ℕ). reaches y (sliceOf t v i) u ≡ true) (add-one x) e));
       }
     where
-      grows : {a b : ℕ} → a ⊆ b → slicesOf t .inside v a ≡ true → slicesOf t .inside v b ≡ true
-      grows {a} s e = let r = inside-ex t v a e in inside-of t v (r .0) (r .1) (⊆-trans (r .2) s)
-
       le-lt : {a b c : ℕ} → a ≤ b → b < c → a < c
       le-lt p q = omega arith
 

@@ -14,7 +14,7 @@ pub record Without (x word : ℕ) : Type 0 where
   pub each : (u : ℕ) → u < 64 → has word u ≡ not (has u x)
 
 -- the first i slices of site v are among these sets, and in each it has a slice
-pub record Taken (t : List ℕ) (v i word : ℕ) : Type 0 where
+pub record Counted (t : List ℕ) (v i word : ℕ) : Type 0 where
   pub right : (u : ℕ) → u < 64 → u ∈ word → slicesOf t .inside v u ≡ true
   pub each : (k : ℕ) → k < i → sliceOf t v k ∈ word
 

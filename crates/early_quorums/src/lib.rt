@@ -1,6 +1,6 @@
 // Which sets of the first six sites are quorums, without a list of all sets: one word has a bit for each of these 64 sets.
 ghost use mathlib.Core.Path.{_≡_};
-ghost use Prim.Native.Nat.{_<_, _^_};
+ghost use Prim.Native.Nat.{_<_};
 ghost use Rattle.ground.specs.Search.{least};
 ghost use Rattle.sets.specs.Quorum.{quorum};
 ghost use Rattle.sets.specs.Slices.{slicesOf};

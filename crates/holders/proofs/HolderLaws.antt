@@ -21,7 +21,7 @@ use Rattle.masks.proofs.Laws.Subsets.{mem, not-in-zero, ⊆-refl, ⊆-trans, �
 use Rattle.masks.specs.Mask.{has, single, minus, _∈_, _⊆_}
 use Rattle.holders.specs.Inner.{reaches, Right, Full, Stands, Marked, Handed, Handing, Quarters, Spread, Holds}
 use Rattle.holders.proofs.Shifts.{has-shr}
-use Rattle.holders.proofs.Reaching.{Reaches, reaches-of, reaches-is, reaches-itself, Quad, a-⊆-b, a-⊆-c, b-⊆-d, c-⊆-d, reach-a, reach-b, reach-c, reach-d, quad-of, quad-eq}
+use Rattle.holders.proofs.Reaching.{reaches-of, reaches-is, reaches-itself, Quad, a-⊆-b, a-⊆-c, b-⊆-d, c-⊆-d, reach-a, reach-b, reach-c, reach-d, quad-of, quad-eq, next-part}
 use Rattle.sets.specs.Quorum.{round}
 use Rattle.sets.specs.Slices.{slicesOf}
 use Rattle.sets.proofs.Quorum.{round-⊆, round-slice, ∈-round, round-lt}
@@ -53,11 +53,11 @@ module _ (t : List ℕ) where
   right-or : {w : ℕ} (a b : ℕ) → Right t w a → Right t w b → Right t w (bitOr a b)
   right-or a b p q = record { each = λ j v lj lv h. ⊎-elim (λ k. p .each j v lj lv k) (λ k. q .each j v lj lv k) (∈-or a b h) }
 
-  grows : (v : ℕ) {a b : ℕ} → a ⊆ b → slicesOf t .inside v a ≡ true → slicesOf t .inside v b ≡ true
-  grows v {a} s e = let r = inside-ex t v a e in inside-of t v (r .0) (r .1) (⊆-trans (r .2) s)
+  pub inside-up : (v : ℕ) {a b : ℕ} → a ⊆ b → slicesOf t .inside v a ≡ true → slicesOf t .inside v b ≡ true
+  inside-up v {a} s e = let r = inside-ex t v a e in inside-of t v (r .0) (r .1) (⊆-trans (r .2) s)
 
   right-up : {w next a : ℕ} → ((j : ℕ) → j < 4 → 4 * w + j ⊆ 4 * next + j) → Right t w a → Right t next a
-  right-up s p = record { each = λ j v lj lv h. grows v (s j lj) (p .each j v lj lv h) }
+  right-up s p = record { each = λ j v lj lv h. inside-up v (s j lj) (p .each j v lj lv h) }
 
   full-grow : {n x w a b : ℕ} → a ⊆ b → Full t n x w a → Full t n x w b
   full-grow s p = record { each = λ j v i lj lv li e. s .each (16 * j + v) (p .each j v i lj lv li e) }
@@ -201,11 +201,11 @@ module _ (t : List ℕ) (n : ℕ) where
           each = λ j v lj lv h.
               four (λ j. 16 * j + v ∈ z → slicesOf t .inside v (4 * w + j) ≡ true)
               (λ h. at-a v lv (sym (s .at-0 v lv) ∙ ap (has z) (first v) ∙ h .holds))
-              (λ h. ⊎-elim (λ e. p .each 1 v (omega arith) lv (mem e)) (λ e. grows t v (a-⊆-b quad-inside) (at-a v lv e)) (or-e _ _ (sym (s .at-1 v lv) ∙ h .holds)))
-              (λ h. ⊎-elim (λ e. p .each 2 v (omega arith) lv (mem e)) (λ e. grows t v (a-⊆-c quad-inside) (at-a v lv e)) (or-e _ _ (sym (s .at-2 v lv) ∙ h .holds)))
+              (λ h. ⊎-elim (λ e. p .each 1 v (omega arith) lv (mem e)) (λ e. inside-up t v (a-⊆-b quad-inside) (at-a v lv e)) (or-e _ _ (sym (s .at-1 v lv) ∙ h .holds)))
+              (λ h. ⊎-elim (λ e. p .each 2 v (omega arith) lv (mem e)) (λ e. inside-up t v (a-⊆-c quad-inside) (at-a v lv e)) (or-e _ _ (sym (s .at-2 v lv) ∙ h .holds)))
               (λ h.
-              ⊎-elim (λ e. ⊎-elim (λ e. p .each 3 v (omega arith) lv (mem e)) (λ e. grows t v (c-⊆-d quad-inside) (p .each 2 v (omega arith) lv (mem e))) (or-e _ _ e))
-              (λ e. grows t v (b-⊆-d quad-inside) (⊎-elim (λ e. p .each 1 v (omega arith) lv (mem e)) (λ e. grows t v (a-⊆-b quad-inside) (at-a v lv e)) (or-e _ _ e)))
+              ⊎-elim (λ e. ⊎-elim (λ e. p .each 3 v (omega arith) lv (mem e)) (λ e. inside-up t v (c-⊆-d quad-inside) (p .each 2 v (omega arith) lv (mem e))) (or-e _ _ e))
+              (λ e. inside-up t v (b-⊆-d quad-inside) (⊎-elim (λ e. p .each 1 v (omega arith) lv (mem e)) (λ e. inside-up t v (a-⊆-b quad-inside) (at-a v lv e)) (or-e _ _ e)))
               (or-e _ _ (sym (s .at-3 v lv) ∙ h .holds)))
               j lj h;
         }
@@ -536,9 +536,6 @@ all-parts x l = sym (pow-add 2 (10 - x) x) ∙ ap (λ (k : ℕ). 2 ^ k) (sum l)
   where
     sum : x ≤ 10 → 10 - x + x ≡ 10
     sum l = omega arith
-
-pub next-part : (x k : ℕ) → (k + 1) * 2 ^ x ≡ k * 2 ^ x + 2 ^ x
-next-part x k = omega arith
 
 pub part-below : (x k : ℕ) → x ≤ 10 → k < 2 ^ (10 - x) → k * 2 ^ x + 2 ^ x ≤ 1024
 part-below x k l h =

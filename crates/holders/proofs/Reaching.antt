@@ -1,20 +1,20 @@
 -- Which sets a slice reaches by sites below x, and how the sets with and without two sites in a row lie to each other.
 use Prim.Native.Nat.{ℕ, suc, _+_, _-_, _*_, _%_, _^_, _≤_, _<_}
-use mathlib.Core.Bool.{Bool, true, false}
+use mathlib.Core.Bool.{true}
 use mathlib.Core.Logic.{_⊎_, inl, inr, ⊎-elim}
-use mathlib.Core.Path.{_≡_, refl, sym, ap, _∙_, subst}
+use mathlib.Core.Path.{_≡_, sym, ap, _∙_, subst}
 use native.Mathlib.Nat.{not-suc-le-zero, suc-mul, div-eq-of-lt-le}
 use native.Mathlib.Numerals.{add-one}
 use native.Mathlib.Omega.{arith}
 use lib.Bits.{bitOr}
 use lib.Dec.{eqb}
-use lib.Pow.{ones-lt, pow-add, pow-pos}
+use lib.Pow.{ones-lt}
 use borrow.Author.Tests.{eq-eqb}
 use Rattle.ground.proofs.Logic.{and-l, and-r, and-i, clash}
 use Rattle.masks.proofs.Laws.AllBelow.{in-all}
 use Rattle.masks.proofs.Laws.Single.{in?, ∈-or, ∈-single, single-∈, single-⊆}
 use Rattle.masks.proofs.Laws.Step.{or-part, minus-or}
-use Rattle.masks.proofs.Laws.Subsets.{mem, ⊆-refl, ⊆-antisym, within-⊆, ⊆-within, ∈-below, or-⊆-l, or-⊆-r, minus-⊆, ∈-minus, minus-not-in}
+use Rattle.masks.proofs.Laws.Subsets.{mem, ⊆-antisym, within-⊆, ⊆-within, ∈-below, or-⊆-l, or-⊆-r, minus-⊆, ∈-minus, minus-not-in}
 use Rattle.masks.specs.Mask.{has, single, within, minus, allBelow, _∈_, _⊆_}
 use Rattle.holders.specs.Inner.{reaches}
 
@@ -122,7 +122,7 @@ module _ {x a b c d : ℕ} (quad : Quad x a b c d) where
 
 -- such sets as numbers
 
-next-part : (x k : ℕ) → (k + 1) * 2 ^ x ≡ k * 2 ^ x + 2 ^ x
+pub next-part : (x k : ℕ) → (k + 1) * 2 ^ x ≡ k * 2 ^ x + 2 ^ x
 next-part x k = ap (λ (y : ℕ). y * 2 ^ x) (add-one k) ∙ suc-mul k (2 ^ x)
 
 -- the sets from k * 2 ^ x up to (k + 1) * 2 ^ x have site x exactly if k is odd

@@ -252,8 +252,11 @@ module _ (r : Slices) (n : ℕ) where
     contains : (b : ℕ) → dispensable r n b ≡ true → f ⊆ b → minus (allBelow n) left ⊆ b
     unfolding dispensable left
     contains b d sub =
-        record { each = λ y h. ⊎-elim (λ k. k) (λ k. outside y h (∈-minus (minus-⊆ (allBelow n) left .each y h) k) (or-e (quorum (r .inside) n (minus (allBelow n) b)) (eqb b (allBelow n)) (and-r (meets (r .deleted b) n) (leavesQuorum b) d))) (in? y b) }
+        record { each = λ y h. ⊎-elim (λ k. k) (λ k. outside y h (∈-minus (minus-⊆ (allBelow n) left .each y h) k) leaves) (in? y b) }
       where
+        leaves : (quorum (r .inside) n (minus (allBelow n) b) ≡ true) ⊎ (eqb b (allBelow n) ≡ true)
+        leaves = or-e (quorum (r .inside) n (minus (allBelow n) b)) (eqb b (allBelow n)) (and-r (meets (r .deleted b) n) (leavesQuorum b) d)
+
         outside : (y : ℕ) → y ∈ minus (allBelow n) left → y ∈ minus (allBelow n) b
             → (quorum (r .inside) n (minus (allBelow n) b) ≡ true) ⊎ (eqb b (allBelow n) ≡ true) → y ∈ b
         outside y h o (inl k) =

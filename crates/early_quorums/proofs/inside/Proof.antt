@@ -1,5 +1,5 @@
 -- `inside` meets its contract: the sites below x are handed on.
-use Prim.Native.Nat.{ℕ, _+_, _-_, _*_, _%_, _^_, _≤_, _<_}
+use Prim.Native.Nat.{ℕ, _+_, _-_, _*_, _%_, _^_, _≤_}
 use mathlib.Core.Path.{_≡_, sym, subst}
 use native.Mathlib.Omega.{arith}
 use lib.Bits.{bitAnd, bitOr}

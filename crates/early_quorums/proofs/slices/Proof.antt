@@ -1,20 +1,20 @@
 -- `slices` meets its contract: the first i slices of v are taken; a slice that is no such set ends it, since those behind it are larger.
-use Prim.Native.Nat.{ℕ, _+_, _*_, _-_, _≤_, _<_}
+use Prim.Native.Nat.{ℕ, _+_, _-_, _≤_, _<_}
 use mathlib.Core.Path.{_≡_, sym, subst}
 use native.Mathlib.Omega.{arith}
 use lib.Bits.{bitOr}
 use borrow.Author.Needs.{needs}
 use denote.Ref.{now}
 use Rattle.masks.specs.Mask.{single}
-use Rattle.early_quorums.specs.Inner.{Taken}
-use Rattle.early_quorums.proofs.EarlyLaws.{taken-none, taken-more, taken-all, taken-stop, sets-none}
+use Rattle.early_quorums.specs.Inner.{Counted}
+use Rattle.early_quorums.proofs.EarlyLaws.{counted-none, counted-more, counted-all, counted-stop, sets-none}
 use Rattle.early_quorums.proofs.slices.Statement.{statement}
 use Rattle.table.proofs.Table.{count-at, slice-at}
 use Rattle.table.specs.Table.{countOf}
 use Rattle.early_quorums.proofs.slices.Tie as tie
 
 abbrev Inv-loop : tie.InvT-loop
-Inv-loop table n v many sets₀ i₀ sets i = (i ≤ many) × (many ≤ 62) × Taken table v i sets
+Inv-loop table n v many sets₀ i₀ sets i = (i ≤ many) × (many ≤ 62) × Counted table v i sets
 
 abbrev μ-loop : tie.MeasureT-loop
 μ-loop table n v many sets₀ i₀ sets i = many - i
@@ -28,7 +28,7 @@ loop-holds c =
     let t = now (s .args .table) in (
       search needs,
       subst (λ (k : ℕ). k ≤ 62) (count-at t (s .args .v)) (s .pre .few-slices (s .args .v) (c .before .if1 .left)),
-      taken-none t (s .args .v),
+      counted-none t (s .args .v),
     )
 
 returns-2 : tie.Need-returns-2 Inv-loop μ-loop
@@ -38,7 +38,7 @@ returns-2 c =
     let t = now (a .table) in
     let l = c .before .before .before .loop in
     let few : l .i < 62 = omega arith in
-    taken-stop (s .pre) (a .v) (c .before .before .before .before .before .if1 .left) (l .i)
+    counted-stop (s .pre) (a .v) (c .before .before .before .before .before .if1 .left) (l .i)
     (subst (λ (q : ℕ). 64 ≤ q) (sym (slice-at t (a .v) (l .i) few)) (c .if2 .taken)) (l .inv .2)
 
 loop-again : tie.Need-loop-again Inv-loop μ-loop
@@ -50,8 +50,8 @@ loop-again c =
     let own : l .i < countOf t (a .v) = omega (arith, count-at t (a .v)) in (
       search needs,
       search needs,
-      subst (λ (k : ℕ). Taken t (a .v) (l .i + 1) (bitOr (l .sets) k)) (sym (c .single .ensures))
-          (subst (λ (q : ℕ). Taken t (a .v) (l .i + 1) (bitOr (l .sets) (single q))) (slice-at t (a .v) (l .i) few) (taken-more t (a .v) (l .i) own (l .inv .2))),
+      subst (λ (k : ℕ). Counted t (a .v) (l .i + 1) (bitOr (l .sets) k)) (sym (c .single .ensures))
+          (subst (λ (q : ℕ). Counted t (a .v) (l .i + 1) (bitOr (l .sets) (single q))) (slice-at t (a .v) (l .i) few) (counted-more t (a .v) (l .i) own (l .inv .2))),
     )
 
 returns-3 : tie.Need-returns-3 Inv-loop μ-loop
@@ -61,7 +61,7 @@ returns-3 c =
     let l = c .before .loop in
     let h = l .inv .0 in
     let e : l .i ≡ countOf t (a .v) = omega (arith, count-at t (a .v)) in
-    taken-all t (a .v) (subst (λ (k : ℕ). Taken t (a .v) k (l .sets)) e (l .inv .2))
+    counted-all t (a .v) (subst (λ (k : ℕ). Counted t (a .v) k (l .sets)) e (l .inv .2))
 
 pub slices-spec : {M : Type 1} → statement M
 slices-spec =

@@ -1,5 +1,5 @@
 -- `fill` meets its contract: the slices mark their sets, and the sites below x are handed on, two at a time.
-use Prim.Native.Nat.{_+_, _-_, _%_, _≤_}
+use Prim.Native.Nat.{_-_, _%_, _≤_}
 use mathlib.Core.Path.{_≡_}
 use native.Mathlib.Omega.{arith}
 use borrow.Author.Needs.{needs}

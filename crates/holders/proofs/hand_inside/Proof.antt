@@ -1,6 +1,5 @@
 -- `hand_inside` meets its contract: sites 0 and 1 are handed on in the words below w.
 use Prim.Native.Nat.{_-_, _≤_}
-use native.Mathlib.Omega.{arith}
 use borrow.Author.Needs.{needs}
 use denote.Ref.{now}
 use Rattle.holders.specs.Inner.{Handing}

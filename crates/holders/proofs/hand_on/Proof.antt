@@ -1,12 +1,13 @@
 -- `hand_on` meets its contract: sites x and x + 1 are handed on in the parts before part k.
 use Prim.Native.Nat.{ℕ, _+_, _*_, _-_, _^_, _≤_, _<_}
-use mathlib.Core.Path.{_≡_, sym, ap, subst}
+use mathlib.Core.Path.{sym, subst}
 use native.Mathlib.Nat.{zero-mul}
 use native.Mathlib.Omega.{arith}
 use borrow.Author.Needs.{needs}
 use denote.Ref.{now}
 use Rattle.holders.specs.Inner.{Handing}
-use Rattle.holders.proofs.HolderLaws.{handing-start, handing-end, part-below, parts-above, next-part}
+use Rattle.holders.proofs.HolderLaws.{handing-start, handing-end, part-below, parts-above}
+use Rattle.holders.proofs.Reaching.{next-part}
 use Rattle.holders.proofs.hand_on.Statement.{statement}
 use Rattle.holders.proofs.hand_on.Tie as tie
 
