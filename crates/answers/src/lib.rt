@@ -48,7 +48,7 @@ fn is_against(n: usize, state: &[u64], kind: usize, from: usize, to: usize, side
     false
 }
 
-// A vote or accept that a correct sender has not sent. Two places behind those who voted are those who accepted: no branch by the kind.
+// A vote or accept that a correct sender has not sent.
 fn is_unsent(
     n: usize,
     faulty: u64,
@@ -66,7 +66,7 @@ fn is_unsent(
     if kind == 0 {
         return false;
     }
-    let sent = state[places::voted(n, side) + 2 * (kind - 1)];
+    let sent = state[places::sent_at(n, kind, side)];
     !masks::has(sent | faulty, from as u64)
 }
 
@@ -102,7 +102,7 @@ pub fn answer(
     Check::Sound
 }
 
-// The bit that a call sets is set already. Two places behind the votes that a site heard are the accepts.
+// The bit that a call sets is set already.
 pub fn is_heard(n: usize, state: &[u64], kind: usize, from: usize, to: usize, side: usize) -> bool
     requires { ⌜ length (now state) ≡ width n ⌝ }
     requires { ⌜ n ≤ 64 ⌝ }
@@ -112,5 +112,5 @@ pub fn is_heard(n: usize, state: &[u64], kind: usize, from: usize, to: usize, si
     if kind == 0 {
         return masks::has(state[places::voted(n, side)], to as u64);
     }
-    masks::has(state[places::votes(side, to) + 2 * (kind - 1)], from as u64)
+    masks::has(state[places::heard_at(kind, side, to)], from as u64)
 }

@@ -29,7 +29,7 @@ use Rattle.masks.proofs.Laws.Step.{or-part, minus-or}
 use Rattle.masks.proofs.Laws.Subsets.{mem, not-in-zero, ⊆-refl, ⊆-le, ∈-below, or-⊆-l, or-⊆-r, minus-⊆, minus-lt, minus-not-in}
 use Rattle.masks.specs.Mask.{has, single, minus, _∈_, _⊆_}
 use Rattle.early_quorums.specs.Inner.{Without, Counted, Sets, Held}
-use Rattle.one_round.proofs.Rounds.{first-member}
+use Rattle.masks.proofs.Laws.First.{first-member}
 use Rattle.sets.specs.Quorum.{quorum}
 use Rattle.sets.specs.Slices.{slicesOf}
 use Rattle.sets.proofs.Quorum.{quorum-of, quorum-some, quorum-slice}

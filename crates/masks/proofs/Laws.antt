@@ -7,3 +7,4 @@ pub mod AllBelow
 pub mod Single
 pub mod Size
 pub mod Step
+pub mod First

@@ -10,8 +10,12 @@ use Rattle.places.proofs.accepts.Kinds as accepts-kinds
 use Rattle.places.proofs.accepts.Reads as accepts-reads
 use Rattle.places.proofs.confirmed.Kinds as confirmed-kinds
 use Rattle.places.proofs.confirmed.Reads as confirmed-reads
+use Rattle.places.proofs.heard_at.Kinds as heard-at-kinds
+use Rattle.places.proofs.heard_at.Reads as heard-at-reads
 use Rattle.places.proofs.put.Kinds as put-kinds
 use Rattle.places.proofs.put.Reads as put-reads
+use Rattle.places.proofs.sent_at.Kinds as sent-at-kinds
+use Rattle.places.proofs.sent_at.Reads as sent-at-reads
 use Rattle.places.proofs.voted.Kinds as voted-kinds
 use Rattle.places.proofs.voted.Reads as voted-reads
 use Rattle.places.proofs.votes.Kinds as votes-kinds
@@ -21,6 +25,12 @@ use Rattle.places.proofs.width.Reads as width-reads
 
 pub votes-coincide : Answers votes-kinds.ps votes-kinds.r votes-reads.Post
 votes-coincide κs a x y s t p q = p ∙ sym q
+
+pub sent-at-coincide : Answers sent-at-kinds.ps sent-at-kinds.r sent-at-reads.Post
+sent-at-coincide κs a x y s t p q = p ∙ sym q
+
+pub heard-at-coincide : Answers heard-at-kinds.ps heard-at-kinds.r heard-at-reads.Post
+heard-at-coincide κs a x y s t p q = p ∙ sym q
 
 pub accepts-coincide : Answers accepts-kinds.ps accepts-kinds.r accepts-reads.Post
 accepts-coincide κs a x y s t p q = p ∙ sym q

@@ -1,7 +1,7 @@
 -- `but_first` meets its contract: one less has the same members above the first, and not the first.
 use Prim.Native.Nat.{_^_, _<_}
 use borrow.Author.Needs.{needs}
-use Rattle.one_round.proofs.First.{first-out}
+use Rattle.masks.proofs.Laws.First.{first-out}
 use Rattle.one_round.proofs.but_first.Statement.{statement}
 use Rattle.one_round.proofs.but_first.Tie as tie
 

@@ -3,7 +3,7 @@ use Prim.Native.Nat.{_^_, _<_}
 use mathlib.Core.Path.{refl}
 use lib.Count.{trailing-le}
 use borrow.Author.Needs.{needs}
-use Rattle.one_round.proofs.First.{first-member}
+use Rattle.masks.proofs.Laws.First.{first-member}
 use Rattle.one_round.proofs.first_member.Statement.{statement}
 use Rattle.one_round.proofs.first_member.Tie as tie
 
