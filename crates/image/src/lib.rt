@@ -34,8 +34,8 @@ pub fn read(image: &[u8], room: &mut [u64]) -> Reading
         return Reading::Refused(r);
     }
     image_blocks::load_blocks(image, n, room);
-    let l = rounds::largest(&room[..63 * n], n, masks::all_below(n as u64));
-    if l.set == 0 {
+    let quorum = rounds::largest_set(&room[..63 * n], n, masks::all_below(n as u64));
+    if quorum == 0 {
         return Reading::Refused(Refusal::NoQuorum);
     }
     Reading::Sites(n as u64)

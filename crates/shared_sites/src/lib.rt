@@ -21,8 +21,7 @@ pub fn beside(table: &[u64], n: usize, p: u64) -> u64
     requires { ⌜ Table (now table) n ⌝ }
     ensures { λ r. ⌜ r ≡ beside (slicesOf (now (table .entry)) .inside) n p ⌝ }
 {
-    let l = rounds::largest(table, n, masks::minus(masks::all_below(n as u64), p));
-    l.set
+    rounds::largest_set(table, n, masks::minus(masks::all_below(n as u64), p))
 }
 
 // The quorum of the smallest mask that has a quorum in its complement; 2^n if there is none.

@@ -50,14 +50,14 @@ returns-5 c =
     let e = whole-blocks (length b) (f .before .before .if1 .left) (f .before .if2 .left) (f .if3 .left) in
     (sym (read-block b (length (now (a .room))) e (c .before .before .before .before .if4 .left) _ (sym (c .before .before .before .check-blocks .ensures) ∙ c .before .q .given .1)), refl)
 
-slice-aggregate-largest : tie.Need-slice-aggregate-largest
-slice-aggregate-largest c =
+slice-aggregate-largest-set : tie.Need-slice-aggregate-largest-set
+slice-aggregate-largest-set c =
     let l = c .before .before .before .load-blocks in
     let h : 63 * (length (now (c .before .before .before .before .before .before .before .before .before .before .before .before .before .before .args .image)) / 512) ≤ length (l .last .1 .1 .0) = omega (arith, l .kept .1 .1 .0) in
     sym (length-take-le _ _ h)
 
-largest-requires : tie.Need-largest-requires
-largest-requires c κs =
+largest-set-requires : tie.Need-largest-set-requires
+largest-set-requires c κs =
     let g = c .before .before .before .before .before .before in
     let a = g .before .before .before .before .before .before .before .before .before .args in
     let b = now (a .image) in
@@ -66,22 +66,22 @@ largest-requires c κs =
 
 returns-6 : tie.Need-returns-6
 returns-6 c =
-    let g = c .before .before .before .before .before .before .before .before .before in
+    let g = c .before .before .before .before .before .before .before .before in
     let a = g .before .before .before .before .before .before .before .before .before .args in
     let b = now (a .image) in
-    absurd (room-quorum (length b / 512) b _ _ (c .before .before .before .before .before .before .before .load-blocks .ensures) (omega arith) (omega arith)
-    (sym (g .before .before .check-blocks .ensures) ∙ g .enum-told .given .1) _ (c .before .before .before .all-below .ensures) (sym (c .before .before .largest .ensures .0) ∙ c .if5 .taken))
+    absurd (room-quorum (length b / 512) b _ _ (c .before .before .before .before .before .before .load-blocks .ensures) (omega arith) (omega arith)
+    (sym (g .before .before .check-blocks .ensures) ∙ g .enum-told .given .1) _ (c .before .before .all-below .ensures) (sym (c .before .largest-set .ensures) ∙ c .if5 .taken))
 
 returns-7 : tie.Need-returns-7
 unfolding readInto
 returns-7 c =
-    let g = c .before .before .before .before .before .before .before .before .before in
+    let g = c .before .before .before .before .before .before .before .before in
     let f = g .before .before .before .before in
     let a = f .before .before .before .before .before .args in
     let b = now (a .image) in
     let e = whole-blocks (length b) (f .before .before .if1 .left) (f .before .if2 .left) (f .if3 .left) in (
       sym (read-sites b (length (now (a .room))) e (g .before .before .before .if4 .left) (sym (g .before .before .check-blocks .ensures) ∙ g .enum-told .given .1)),
-      c .before .before .before .before .before .before .before .load-blocks .ensures,
+      c .before .before .before .before .before .before .load-blocks .ensures,
     )
 
 pub read-spec : {M : Type 1} → statement M
@@ -100,9 +100,9 @@ read-spec =
     (λ c κs. search needs)
     (λ c. search needs)
     (λ c. search needs)
-    slice-aggregate-largest
+    slice-aggregate-largest-set
     (λ c κs. search needs)
-    largest-requires
+    largest-set-requires
     (λ c. search needs)
     returns-6
     (λ c. search needs)

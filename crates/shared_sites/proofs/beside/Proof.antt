@@ -14,7 +14,7 @@ returns : tie.Need-returns
 unfolding beside
 returns c =
     let a = c .before .before .before .before .args in
-    c .largest .ensures .0
+    c .largest-set .ensures
     ∙ ap (largest (slicesOf (now (a .table)) .inside) (a .n)) (c .before .minus .ensures ∙ ap (λ (x : ℕ). minus x (a .p)) (c .before .before .all-below .ensures))
 
 pub beside-spec : {M : Type 1} → statement M
