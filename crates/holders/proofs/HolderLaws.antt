@@ -587,9 +587,9 @@ held-round {t} {words} {n} holds b u hb hu =
     at v l = has-shr (getD words (all / 4) 0) (16 * (all % 4)) v ∙ holds .each all v (or-lt n u b hu hb) l
 
 -- where u has no member of b, nobody of b has to be dropped
-pub held-still : {t words : List ℕ} {n : ℕ} → Holds t n words → (b u : ℕ) → b < 2 ^ n → u < 2 ^ n → bitAnd u b ≡ 0
+pub held-stay : {t words : List ℕ} {n : ℕ} → Holds t n words → (b u : ℕ) → b < 2 ^ n → u < 2 ^ n → bitAnd u b ≡ 0
     → bitAnd u (getD words (bitOr u b / 4) 0 / 2 ^ (16 * (bitOr u b % 4))) ≡ round (slicesOf t .deleted b) n u
-held-still {t} {words} {n} holds b u hb hu apart = sym (minus-none apart) ∙ held-round holds b u hb hu
+held-stay {t} {words} {n} holds b u hb hu apart = sym (minus-none apart) ∙ held-round holds b u hb hu
   where
     g : ℕ
     g = getD words (bitOr u b / 4) 0 / 2 ^ (16 * (bitOr u b % 4))

@@ -2,7 +2,6 @@
 // word, 16 bits each, so that a site is handed on in four sets at a time.
 ghost use mathlib.Core.Path.{_≡_};
 ghost use lib.Bits.{bitAnd};
-ghost use lib.Dec.{eqb};
 ghost use Prim.Native.Nat.{_<_, _≤_, _+_, _*_, _^_};
 ghost use Rattle.table.specs.Table.{Table};
 ghost use Rattle.sets.specs.Slices.{slicesOf};
@@ -128,14 +127,14 @@ pub fn round(table: &[u64], n: usize, words: &[u64; 1024], b: u64, u: u64) -> u6
     masks::minus(u & (words[(all / 4) as usize] >> (16 * (all % 4))), b)
 }
 
-// A round from u, of the table with b deleted, drops nobody. u has no member of b.
-pub fn still(table: &[u64], n: usize, words: &[u64; 1024], b: u64, u: u64) -> bool
+// The same where u has no member of b: nobody has to be dropped for being deleted.
+pub fn stay(table: &[u64], n: usize, words: &[u64; 1024], b: u64, u: u64) -> u64
     requires { ⌜ Holds (now table) n (now words) ⌝ }
     requires { ⌜ b < 2 ^ n ⌝ }
     requires { ⌜ u < 2 ^ n ⌝ }
     requires { ⌜ bitAnd u b ≡ 0 ⌝ }
-    ensures { λ r. ⌜ r ≡ eqb (round (slicesOf (now (table .entry)) .deleted b) n u) u ⌝ }
+    ensures { λ r. ⌜ r ≡ round (slicesOf (now (table .entry)) .deleted b) n u ⌝ }
 {
     let all = u | b;
-    u & (words[(all / 4) as usize] >> (16 * (all % 4))) == u
+    u & (words[(all / 4) as usize] >> (16 * (all % 4)))
 }

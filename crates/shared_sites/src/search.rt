@@ -8,16 +8,17 @@ ghost use Rattle.sets.specs.Quorum.{largest};
 ghost use Rattle.verdicts.specs.Verdicts.{apart, firstApart};
 ghost use Rattle.holders.specs.Inner.{Holds};
 
-// The largest quorum inside w.
+// The largest quorum inside w, which has no member of b.
 fn largest(table: &[u64], n: usize, list: &[u64; 1024], b: u64, w: u64) -> u64
     requires { ⌜ Holds (now table) n (now list) ⌝ }
     requires { ⌜ b < 2 ^ n ⌝ }
     requires { ⌜ w < 2 ^ n ⌝ }
+    requires { ⌜ bitAnd w b ≡ 0 ⌝ }
     ensures { λ r. ⌜ r ≡ largest (slicesOf (now (table .entry)) .deleted b) n w ⌝ }
 {
     let mut set = w;
     loop {
-        let stay = holders::round(table, n, list, b, set);
+        let stay = holders::stay(table, n, list, b, set);
         if stay == set {
             return set;
         }
@@ -27,6 +28,7 @@ fn largest(table: &[u64], n: usize, list: &[u64; 1024], b: u64, w: u64) -> u64
 
 // The set p, which is not empty and has no member of b, is a quorum that has a quorum in its complement.
 fn is_apart(table: &[u64], n: usize, list: &[u64; 1024], b: u64, p: u64) -> bool
+    requires { ⌜ Table (now table) n ⌝ }
     requires { ⌜ Holds (now table) n (now list) ⌝ }
     requires { ⌜ b < 2 ^ n ⌝ }
     requires { ⌜ p < 2 ^ n ⌝ }
@@ -34,17 +36,11 @@ fn is_apart(table: &[u64], n: usize, list: &[u64; 1024], b: u64, p: u64) -> bool
     requires { ⌜ (p ≡ 0 → ⊥) ⌝ }
     ensures { λ r. ⌜ r ≡ apart (slicesOf (now (table .entry)) .deleted b) n p ⌝ }
 {
-    if !holders::still(table, n, list, b, p) {
+    if holders::stay(table, n, list, b, p) != p {
         return false;
     }
-    largest(
-        table,
-        n,
-        list,
-        b,
-        masks::minus(masks::all_below(n as u64), p),
-    )
-        != 0
+    let rest = masks::minus(masks::all_below(n as u64), b);
+    largest(table, n, list, b, masks::minus(rest, p)) != 0
 }
 
 // The quorum of the smallest mask that has a quorum in its complement; 2^n if there is none. Of two quorums without a common site the smaller is no more

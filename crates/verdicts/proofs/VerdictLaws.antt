@@ -15,7 +15,7 @@ use Rattle.ground.proofs.Some.{some-of, some-ex}
 use Rattle.masks.proofs.Laws.AllBelow.{in-all, ⊆-all}
 use Rattle.masks.proofs.Laws.Apart.{apart-⊆, common-of, minus-apart, ⊆-minus, ⊆-minus-apart}
 use Rattle.masks.proofs.Laws.Gather.{∈-gather, gather-∈, gather-lt}
-use Rattle.masks.proofs.Laws.Single.{in?, ∈-eq}
+use Rattle.masks.proofs.Laws.Single.{in?, ∈-eq, minus-grows}
 use Rattle.masks.proofs.Laws.Step.{next-least, next-with, or-part}
 use Rattle.masks.proofs.Laws.Subsets.{mem, not-in-zero, ⊆-zero, member-of, ⊆-refl, ⊆-trans, ⊆-antisym, ⊆-le, within-⊆, ⊆-within, ∈-below, or-⊆, or-⊆-l, or-⊆-r, minus-⊆, ∈-minus, minus-not-in, empty}
 use Rattle.masks.specs.Mask.{has, within, minus, allBelow, gather, _∈_, _⊆_}
@@ -23,7 +23,8 @@ use Rattle.sets.specs.Quorum.{quorum, round, largest}
 use Rattle.verdicts.specs.Inner.{Gathered}
 use Rattle.sets.specs.Slices.{Slices}
 use Rattle.verdicts.specs.Verdicts.{beside, apart, firstApart, meets, dispensable, isIntact, intact}
-use Rattle.sets.proofs.Quorum.{Rule, round-⊆, quorum-below, quorum-lt, quorum-some, quorum-slice, quorum-empty, quorum-still, still-quorum, largest-⊆, largest-quorum, largest-greatest}
+use Rattle.sets.proofs.Quorum.{Rule, round-⊆, round-slice, quorum-below, quorum-lt, quorum-some, quorum-slice, quorum-empty, quorum-still, still-quorum}
+use Rattle.sets.proofs.Quorum.{largest-⊆, largest-still, largest-quorum, largest-contains, largest-greatest, largest-grows}
 
 module _ (s : ℕ → ℕ → Bool) (n : ℕ) where
   -- a quorum is apart if what is beside it is not empty; what is no quorum is not apart
@@ -124,6 +125,20 @@ module _ (s : ℕ → ℕ → Bool) (n b : ℕ) (gone : (v u : ℕ) → s v u �
   pub meeting-no-quorum : (p : ℕ) → (bitAnd p b ≡ 0 → ⊥) → quorum s n p ≡ false
   meeting-no-quorum p ne =
       is-false (quorum s n p) (λ k. let m = common-of p b ne in gone (m .0) p (quorum-slice s n k (m .1)) (m .2))
+
+  -- and the largest quorum beside p is looked for in the rest
+  pub beside-rest : Rule s → (p : ℕ) → beside s n p ≡ largest s n (minus (minus (allBelow n) b) p)
+  unfolding beside
+  beside-rest r p =
+      ⊆-antisym
+      (largest-contains s n r (largest-still s n (minus (allBelow n) p)) (minus (minus (allBelow n) b) p)
+      (record {
+        each = λ v h.
+            let k = largest-⊆ s n (minus (allBelow n) p) .each v h in
+            let d = round-slice s n (∈-eq (sym (largest-still s n (minus (allBelow n) p))) h) in
+            ∈-minus (∈-minus (minus-⊆ (allBelow n) p .each v k) (gone v (largest s n (minus (allBelow n) p)) d)) (minus-not-in (allBelow n) k);
+      }))
+      (largest-grows s n r (minus-grows p (minus-⊆ (allBelow n) b)))
 
   -- two quorums with no common site are together no more than the rest, so that the smaller is no more than half of it
   pub first-apart-half : Rule s → (p : ℕ) → ((q : ℕ) → q < p → apart s n q ≡ false) → minus (allBelow n) b < p + p → firstApart s n ≡ 2 ^ n

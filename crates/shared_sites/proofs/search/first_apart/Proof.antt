@@ -57,7 +57,7 @@ is-apart-requires : tie.Need-is-apart-requires Inv-loop μ-loop
 is-apart-requires c κs =
     let s = c .before .before .before .before .before .before in
     let l = c .before .loop in
-    (s .pre .1 .0, (s .pre .1 .1, (below (c .loop-test .taken) (l .inv .2), (l .inv .3, some-site (l .inv .0)))))
+    (s .pre .0, (s .pre .1 .0, (s .pre .1 .1, (below (c .loop-test .taken) (l .inv .2), (l .inv .3, some-site (l .inv .0))))))
 
 returns : tie.Need-returns Inv-loop μ-loop
 returns c =

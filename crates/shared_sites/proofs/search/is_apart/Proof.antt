@@ -2,42 +2,54 @@
 use Prim.Native.Nat.{ℕ, _^_, _<_}
 use mathlib.Core.Bool.{not}
 use mathlib.Core.Path.{_≡_, sym, ap, _∙_, subst}
+use lib.Bits.{bitAnd}
 use lib.Dec.{eqb}
 use lib.Pow.{ones-lt}
 use borrow.Author.Needs.{needs}
-use borrow.Author.Tests.{eqb-true, eqb-false, not-true, not-false}
 use denote.Ref.{now}
-use Rattle.masks.proofs.Laws.Subsets.{minus-lt}
+use Rattle.masks.proofs.Laws.Apart.{apart-⊆, minus-apart}
+use Rattle.masks.proofs.Laws.Subsets.{⊆-refl, minus-⊆, minus-lt}
 use Rattle.masks.specs.Mask.{minus, allBelow}
-use Rattle.sets.specs.Quorum.{round, largest}
+use Rattle.sets.specs.Quorum.{largest}
 use Rattle.sets.specs.Slices.{slicesOf}
-use Rattle.verdicts.specs.Verdicts.{beside}
-use Rattle.verdicts.proofs.VerdictLaws.{apart-moved, apart-still}
+use Rattle.sets.proofs.Lawful.{deleted-answers, table-lawful}
+use Rattle.sets.proofs.Slices.{deleted-stays}
+use Rattle.verdicts.proofs.VerdictLaws.{apart-moved, apart-still, beside-rest}
 use Rattle.shared_sites.proofs.search.is_apart.Statement.{statement}
 use Rattle.shared_sites.proofs.search.is_apart.Tie as tie
 
 returns : tie.Need-returns
 returns c =
     let a = c .before .before .before .args in
-    let s = slicesOf (now (a .table)) .deleted (a .b) in
-    sym (apart-moved s (a .n) (a .p) (eqb-false (round s (a .n) (a .p)) (a .p) (sym (c .before .still .ensures) ∙ not-true _ (c .if1 .taken))))
+    sym (apart-moved (slicesOf (now (a .table)) .deleted (a .b)) (a .n) (a .p) (λ q. c .if1 .taken (c .before .stay .ensures ∙ q)))
 
 largest-requires : tie.Need-largest-requires
 largest-requires c κs =
-    let s = c .before .before .before .before .before in
+    let s = c .before .before .before .before .before .before in
     let a = s .args in
-    let e : c .minus .result ≡ minus (allBelow (a .n)) (a .p) = c .minus .ensures ∙ ap (λ (x : ℕ). minus x (a .p)) (c .before .all-below .ensures) in
-    (s .pre .0, (s .pre .1 .0, subst (λ (k : ℕ). k < 2 ^ a .n) (sym e) (minus-lt (a .n) (allBelow (a .n)) (a .p) (ones-lt (a .n)))))
+    let rest = minus (allBelow (a .n)) (a .b) in
+    let e : c .minus2 .result ≡ minus rest (a .p) = c .minus2 .ensures ∙ ap (λ (x : ℕ). minus x (a .p)) (c .before .minus .ensures ∙ ap (λ (x : ℕ). minus x (a .b)) (c .before .before .all-below .ensures)) in (
+      s .pre .1 .0,
+      (
+        s .pre .1 .1 .0,
+        (
+          subst (λ (k : ℕ). k < 2 ^ a .n) (sym e) (minus-lt (a .n) rest (a .p) (minus-lt (a .n) (allBelow (a .n)) (a .b) (ones-lt (a .n)))),
+          ap (λ (x : ℕ). bitAnd x (a .b)) e ∙ apart-⊆ (minus-⊆ rest (a .p)) (⊆-refl (a .b)) (minus-apart (allBelow (a .n)) (a .b)),
+        ),
+      ),
+    )
 
 returns-2 : tie.Need-returns-2
-unfolding beside
 returns-2 c =
-    let p = c .before .before .before .before .before .before in
+    let p = c .before .before .before .before .before .before .before in
     let a = p .args in
-    let s = slicesOf (now (a .table)) .deleted (a .b) in
+    let t = now (a .table) in
+    let s = slicesOf t .deleted (a .b) in
+    let e = c .before .minus2 .ensures ∙ ap (λ (x : ℕ). minus x (a .p)) (c .before .before .minus .ensures ∙ ap (λ (x : ℕ). minus x (a .b)) (c .before .before .before .all-below .ensures)) in
     ap (λ (x : ℕ). not (eqb x 0))
-    (c .largest .ensures ∙ ap (largest s (a .n)) (c .before .minus .ensures ∙ ap (λ (x : ℕ). minus x (a .p)) (c .before .before .all-below .ensures)))
-    ∙ sym (apart-still s (a .n) (a .p) (eqb-true (round s (a .n) (a .p)) (a .p) (sym (c .before .before .before .before .still .ensures) ∙ not-false _ (c .before .before .before .if1 .left))) (p .pre .1 .1 .1 .1))
+    (c .largest .ensures ∙ ap (largest s (a .n)) e
+    ∙ sym (beside-rest s (a .n) (a .b) (deleted-stays t (a .b)) (deleted-answers (table-lawful (p .pre .0)) (a .b) .rule) (a .p)))
+    ∙ sym (apart-still s (a .n) (a .p) (sym (c .before .before .before .before .before .stay .ensures) ∙ c .before .before .before .before .if1 .left) (p .pre .1 .1 .1 .1 .1))
 
 pub is-apart-spec : {M : Type 1} → statement M
 is-apart-spec =
@@ -45,6 +57,7 @@ is-apart-spec =
     (tie.spec
     (λ c κs. search needs)
     returns
+    (λ c κs. search needs)
     (λ c κs. search needs)
     (λ c κs. search needs)
     largest-requires

@@ -1,12 +1,9 @@
--- `still` meets its contract: the holders of u and b together that are in u are those that stay.
-use Prim.Native.Nat.{ℕ}
-use mathlib.Core.Path.{ap}
+-- `stay` meets its contract: the holders of u and b together that are in u are those that stay.
 use native.Mathlib.Omega.{arith}
-use lib.Dec.{eqb}
 use borrow.Author.Needs.{needs}
-use Rattle.holders.proofs.HolderLaws.{held-at, held-still}
-use Rattle.holders.proofs.still.Statement.{statement}
-use Rattle.holders.proofs.still.Tie as tie
+use Rattle.holders.proofs.HolderLaws.{held-at, held-stay}
+use Rattle.holders.proofs.stay.Statement.{statement}
+use Rattle.holders.proofs.stay.Tie as tie
 
 mul-result : tie.Need-mul-result
 mul-result c = omega (arith, held-at (c .pre .0) (c .args .b) (c .args .u) (c .pre .1 .0) (c .pre .1 .1 .0))
@@ -17,10 +14,10 @@ element-copy-out-result c = held-at (c .pre .0) (c .args .b) (c .args .u) (c .pr
 returns : tie.Need-returns
 returns c =
     let s = c .before in
-    ap (λ (x : ℕ). eqb x (s .args .u)) (held-still (s .pre .0) (s .args .b) (s .args .u) (s .pre .1 .0) (s .pre .1 .1 .0) (s .pre .1 .1 .1))
+    held-stay (s .pre .0) (s .args .b) (s .args .u) (s .pre .1 .0) (s .pre .1 .1 .0) (s .pre .1 .1 .1)
 
-pub still-spec : {M : Type 1} → statement M
-still-spec =
+pub stay-spec : {M : Type 1} → statement M
+stay-spec =
     tie.close
     (tie.spec
     mul-result
