@@ -19,13 +19,7 @@
 #define STACK_ALLOWED 1024
 #define STACK_OF_LISTS 9216
 #define STACK_OF_RECORDS 26624
-/* The limits are those of include/siren.h, for the archive of x86-64, and hold on another machine too but for siren_shared and siren_intact: as compiled for
- * aarch64, the loop that fills their list of 8,192 bytes keeps 2,400 bytes of its own. A copy of the lent table, 2,520 bytes for table A, is refused. */
-#if defined(__x86_64__)
-#define STACK_OF_VERDICTS STACK_OF_LISTS
-#else
-#define STACK_OF_VERDICTS 11264
-#endif
+/* The limits are those of include/siren.h. A copy of the lent table, 2,520 bytes for table A, is refused. */
 #define COUNT(a) (sizeof(a) / sizeof *(a))
 
 static unsigned tried;
@@ -480,7 +474,7 @@ int main(int count, char **words)
         on_painted("tables", tables, STACK_ALLOWED);
         on_painted("images", images, STACK_ALLOWED);
         on_painted("set questions", questions, STACK_ALLOWED);
-        on_painted("verdicts", verdicts, STACK_OF_VERDICTS);
+        on_painted("verdicts", verdicts, STACK_OF_LISTS);
         on_painted("voting", voting, STACK_ALLOWED);
         on_painted("runs", runs, STACK_OF_LISTS);
         on_painted("runs of records", runs_of_records, STACK_OF_RECORDS);
