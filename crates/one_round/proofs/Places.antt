@@ -14,8 +14,8 @@ use Rattle.masks.proofs.Laws.Single.{single-∈}
 use Rattle.masks.proofs.Laws.Subsets.{⊆-refl, ⊆-trans, within-⊆, ⊆-within, ∈-minus}
 use Rattle.masks.specs.Mask.{within, single, minus, allBelow, _∈_, _⊆_}
 use Rattle.one_round.specs.Inner.Places.{Place, Places, Placed, SlicesHeld}
-use Rattle.sets.specs.Slices.{slicesOf}
-use Rattle.table.specs.Table.{sliceOf, Table}
+use Rattle.sets.specs.Rows.{Rows, rulesOf}
+use Rattle.table.specs.Table.{sliceOf}
 
 -- site v, or another one
 one-or-other : (P : ℕ → Type 0) (v u : ℕ) → P v → ((u ≡ v → ⊥) → P u) → P u
@@ -44,7 +44,7 @@ module _ (t : List ℕ) where
   passed-to {w} {v} {from} p f i h = ⊎-elim (λ q. p .passed i (ltb-true i from q)) (λ q. f i (ltb-false i from q) h) (cases (ltb i from))
 
   -- in the first round
-  pub placed : {w v k : ℕ} {places : List ℕ} → length places ≡ 64 → v < 64 → (slicesOf t .inside v w ≡ true → Place t w v k) → Placed t w v places (set places v k)
+  pub placed : {w v k : ℕ} {places : List ℕ} → length places ≡ 64 → v < 64 → (rulesOf t .inside v w ≡ true → Place t w v k) → Placed t w v places (set places v k)
   placed {w} {v} {k} {places} many l q =
       record {
         many = length-set places v k ∙ many;
@@ -55,7 +55,7 @@ module _ (t : List ℕ) where
   -- each that was asked and is left has its place: one more is asked
   pub asked-placed : {w n v rest rest' stay stay' : ℕ} {before after : List ℕ} →
       ((u : ℕ) → u < n → u ∈ stay → (u ∈ rest → ⊥) → Place t w u (getD before u 0)) → Placed t w v before after →
-      rest' ≡ minus rest (single v) → stay' ⊆ stay → (v ∈ stay' → slicesOf t .inside v w ≡ true) →
+      rest' ≡ minus rest (single v) → stay' ⊆ stay → (v ∈ stay' → rulesOf t .inside v w ≡ true) →
       (u : ℕ) → u < n → u ∈ stay' → (u ∈ rest' → ⊥) → Place t w u (getD after u 0)
   asked-placed {w} {v = v} {rest = rest} {stay' = stay'} {after = after} old new e sub f u l h out =
       one-or-other (λ (u : ℕ). u ∈ stay' → Place t w u (getD after u 0)) v u (λ h. new .at (f h))
@@ -91,11 +91,11 @@ module _ (t : List ℕ) where
           here = subst (λ (x : ℕ). sliceOf t v x ⊆ sliceOf t v k) (sym (getD-set-same places v k 0 (subst (λ (x : ℕ). v < x) (sym (p .many)) l))) (⊆-refl (sliceOf t v k))
 
     -- before a slice is held: all sites, which every slice is inside
-    pub held-all : {m w : ℕ} {places : List ℕ} → Table t n → m ≡ allBelow n → Places t n w places → SlicesHeld t n w places (replicate 64 m)
-    held-all {m} {w} {places} table e p =
+    pub held-all : {m w : ℕ} {places : List ℕ} → Rows t n → m ≡ allBelow n → Places t n w places → SlicesHeld t n w places (replicate 64 m)
+    held-all {m} {w} {places} rows e p =
         record {
           many = length-replicate 64 m;
           at = λ v l h.
-              subst (λ (x : ℕ). sliceOf t v (getD places v 0) ⊆ x) (sym (getD-replicate 64 v m 0 (lt-of-lt-of-le l (table .few-sites)) ∙ e))
-              (table .below v (getD places v 0) l (p .at v l h .slice));
+              subst (λ (x : ℕ). sliceOf t v (getD places v 0) ⊆ x) (sym (getD-replicate 64 v m 0 (lt-of-lt-of-le l (rows .few-sites)) ∙ e))
+              (rows .listed v l .below (getD places v 0) (p .at v l h .slice));
         }

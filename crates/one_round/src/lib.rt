@@ -4,16 +4,16 @@ ghost use mathlib.Core.Bool.{cond};
 ghost use Prim.Native.Nat.{_<_};
 ghost use lib.ListN.{length};
 ghost use Rattle.masks.specs.Mask.{single, minus, within, _∈_};
-ghost use Rattle.table.specs.Table.{countOf, sliceOf, Table};
-ghost use Rattle.sets.specs.Slices.{slicesOf};
+ghost use Rattle.table.specs.Table.{countOf, sliceOf};
 ghost use Rattle.sets.specs.Quorum.{round};
 ghost use Rattle.one_round.specs.Inner.First.{lowest};
 ghost use Rattle.one_round.specs.Inner.Places.{Places, Placed, SlicesHeld};
 ghost use Rattle.one_round.specs.Inner.Swept.{Swept};
+ghost use Rattle.sets.specs.Rows.{Rows, rulesOf};
 
 // Slice i of site v is inside w.
 fn is_inside(table: &[u64], n: usize, v: usize, i: u8, w: u64) -> bool
-    requires { ⌜ Table (now table) n ⌝ }
+    requires { ⌜ Rows (now table) n ⌝ }
     requires { ⌜ v < n ⌝ }
     requires { ⌜ i < countOf (now table) v ⌝ }
     ensures { λ r. ⌜ r ≡ within (sliceOf (now (table .entry)) v i) w ⌝ }
@@ -23,11 +23,11 @@ fn is_inside(table: &[u64], n: usize, v: usize, i: u8, w: u64) -> bool
 
 // Site v of w has a slice inside w, at its place or behind it. Its place moves on to the first such slice.
 fn moves_on(table: &[u64], n: usize, v: usize, w: u64, places: &mut [u8; 64]) -> bool
-    requires { ⌜ Table (now table) n ⌝ }
+    requires { ⌜ Rows (now table) n ⌝ }
     requires { ⌜ v < n ⌝ }
     requires { ⌜ v ∈ w ⌝ }
     requires { ⌜ Places (now table) n w (now places) ⌝ }
-    ensures { λ r. ⌜ r ≡ slicesOf (now (table .entry)) .inside v w ⌝ }
+    ensures { λ r. ⌜ r ≡ rulesOf (now (table .entry)) .inside v w ⌝ }
     ensures { λ r. ⌜ Places (now (table .entry)) n w (now (places .exit)) ⌝ }
 {
     let i = sets::next_inside(table, n, v, w, places[v]);
@@ -40,11 +40,11 @@ fn moves_on(table: &[u64], n: usize, v: usize, w: u64, places: &mut [u8; 64]) ->
 
 // Site v of w has a slice inside w. The slice at its place, which held it so far, is asked first.
 fn stays(table: &[u64], n: usize, v: usize, w: u64, places: &mut [u8; 64]) -> bool
-    requires { ⌜ Table (now table) n ⌝ }
+    requires { ⌜ Rows (now table) n ⌝ }
     requires { ⌜ v < n ⌝ }
     requires { ⌜ v ∈ w ⌝ }
     requires { ⌜ Places (now table) n w (now places) ⌝ }
-    ensures { λ r. ⌜ r ≡ slicesOf (now (table .entry)) .inside v w ⌝ }
+    ensures { λ r. ⌜ r ≡ rulesOf (now (table .entry)) .inside v w ⌝ }
     ensures { λ r. ⌜ Places (now (table .entry)) n w (now (places .exit)) ⌝ }
 {
     if is_inside(table, n, v, places[v], w) {
@@ -62,12 +62,12 @@ fn moves_held(
     places: &mut [u8; 64],
     held: &mut [u64; 64],
 ) -> bool
-    requires { ⌜ Table (now table) n ⌝ }
+    requires { ⌜ Rows (now table) n ⌝ }
     requires { ⌜ v < n ⌝ }
     requires { ⌜ v ∈ w ⌝ }
     requires { ⌜ Places (now table) n w (now places) ⌝ }
     requires { ⌜ SlicesHeld (now table) n w (now places) (now held) ⌝ }
-    ensures { λ r. ⌜ r ≡ slicesOf (now (table .entry)) .inside v w ⌝ }
+    ensures { λ r. ⌜ r ≡ rulesOf (now (table .entry)) .inside v w ⌝ }
     ensures { λ r. ⌜ Places (now (table .entry)) n w (now (places .exit)) ⌝ }
     ensures { λ r. ⌜ SlicesHeld (now (table .entry)) n w (now (places .exit)) (now (held .exit)) ⌝ }
 {
@@ -89,12 +89,12 @@ fn stays_held(
     places: &mut [u8; 64],
     held: &mut [u64; 64],
 ) -> bool
-    requires { ⌜ Table (now table) n ⌝ }
+    requires { ⌜ Rows (now table) n ⌝ }
     requires { ⌜ v < n ⌝ }
     requires { ⌜ v ∈ w ⌝ }
     requires { ⌜ Places (now table) n w (now places) ⌝ }
     requires { ⌜ SlicesHeld (now table) n w (now places) (now held) ⌝ }
-    ensures { λ r. ⌜ r ≡ slicesOf (now (table .entry)) .inside v w ⌝ }
+    ensures { λ r. ⌜ r ≡ rulesOf (now (table .entry)) .inside v w ⌝ }
     ensures { λ r. ⌜ Places (now (table .entry)) n w (now (places .exit)) ⌝ }
     ensures { λ r. ⌜ SlicesHeld (now (table .entry)) n w (now (places .exit)) (now (held .exit)) ⌝ }
 {
@@ -106,10 +106,10 @@ fn stays_held(
 
 // Site v in the first round from w: the empty set if it has a slice inside w, else the set of v alone. Its place is the first such slice.
 fn goes(table: &[u64], n: usize, v: usize, w: u64, places: &mut [u8; 64]) -> u64
-    requires { ⌜ Table (now table) n ⌝ }
+    requires { ⌜ Rows (now table) n ⌝ }
     requires { ⌜ v < n ⌝ }
     requires { ⌜ length (now places) ≡ 64 ⌝ }
-    ensures { λ r. ⌜ r ≡ cond (slicesOf (now (table .entry)) .inside v w) 0 (single v) ⌝ }
+    ensures { λ r. ⌜ r ≡ cond (rulesOf (now (table .entry)) .inside v w) 0 (single v) ⌝ }
     ensures { λ r. ⌜ Placed (now (table .entry)) w v (now (places .entry)) (now (places .exit)) ⌝ }
 {
     let first = sets::next_inside(table, n, v, w, 0);
@@ -138,9 +138,9 @@ fn but_first(m: u64) -> u64
 
 // The first round from w: the sites that stay, asked member by member. Who stays gets its place.
 pub fn first_round(table: &[u64], n: usize, w: u64, places: &mut [u8; 64]) -> u64
-    requires { ⌜ Table (now table) n ⌝ }
+    requires { ⌜ Rows (now table) n ⌝ }
     requires { ⌜ length (now places) ≡ 64 ⌝ }
-    ensures { λ r. ⌜ (r ≡ round (slicesOf (now (table .entry)) .inside) n w) × Places (now (table .entry)) n r (now (places .exit)) ⌝ }
+    ensures { λ r. ⌜ (r ≡ round (rulesOf (now (table .entry)) .inside) n w) × Places (now (table .entry)) n r (now (places .exit)) ⌝ }
 {
     let mut stay = w & masks::all_below(n as u64);
     let mut rest = stay;
@@ -160,10 +160,10 @@ pub fn round_from(
     places: &mut [u8; 64],
     held: &mut [u64; 64],
 ) -> u64
-    requires { ⌜ Table (now table) n ⌝ }
+    requires { ⌜ Rows (now table) n ⌝ }
     requires { ⌜ Places (now table) n w (now places) ⌝ }
     requires { ⌜ SlicesHeld (now table) n w (now places) (now held) ⌝ }
-    ensures { λ r. ⌜ r ≡ round (slicesOf (now (table .entry)) .inside) n w ⌝ }
+    ensures { λ r. ⌜ r ≡ round (rulesOf (now (table .entry)) .inside) n w ⌝ }
     ensures { λ r. ⌜ Places (now (table .entry)) n r (now (places .exit)) ⌝ }
     ensures { λ r. ⌜ SlicesHeld (now (table .entry)) n r (now (places .exit)) (now (held .exit)) ⌝ }
 {
@@ -181,9 +181,9 @@ pub fn round_from(
 
 // One sweep through w: each member is asked whether it has a slice inside what is left of w, and goes at once if it has none. The rounds are not told apart.
 pub fn sweep_through(table: &[u64], n: usize, w: u64, places: &mut [u8; 64]) -> u64
-    requires { ⌜ Table (now table) n ⌝ }
+    requires { ⌜ Rows (now table) n ⌝ }
     requires { ⌜ Places (now table) n w (now places) ⌝ }
-    ensures { λ r. ⌜ Swept (slicesOf (now (table .entry)) .inside) n w r × Places (now (table .entry)) n r (now (places .exit)) ⌝ }
+    ensures { λ r. ⌜ Swept (rulesOf (now (table .entry)) .inside) n w r × Places (now (table .entry)) n r (now (places .exit)) ⌝ }
 {
     let mut left = w & masks::all_below(n as u64);
     let mut rest = left;

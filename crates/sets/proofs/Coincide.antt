@@ -8,6 +8,8 @@ use Rattle.ground.proofs.Logic.{clash}
 use Rattle.ground.specs.Coincide.{Answers}
 use Rattle.sets.proofs.blocks.Kinds as blocks-kinds
 use Rattle.sets.proofs.blocks.Reads as blocks-reads
+use Rattle.sets.proofs.check_set.Kinds as check-set-kinds
+use Rattle.sets.proofs.check_set.Reads as check-set-reads
 use Rattle.sets.proofs.has_slice.Kinds as has-slice-kinds
 use Rattle.sets.proofs.has_slice.Reads as has-slice-reads
 use Rattle.sets.proofs.is_quorum.Kinds as is-quorum-kinds
@@ -34,3 +36,6 @@ is-quorum-coincide κs a x y s t p q = p ∙ sym q
 
 pub blocks-coincide : Answers blocks-kinds.ps blocks-kinds.r blocks-reads.Post
 blocks-coincide κs a x y s t p q = p ∙ sym q
+
+pub check-set-coincide : Answers check-set-kinds.ps check-set-kinds.r check-set-reads.Post
+check-set-coincide κs a x y s t p q = p ∙ sym q

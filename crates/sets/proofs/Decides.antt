@@ -1,4 +1,4 @@
--- The computed answers decide the paper's statements: for any table that is lawful, and so for every checked table.
+-- The computed answers decide the paper's statements: for any table that is lawful.
 use Prim.Native.Nat.{ℕ}
 use mathlib.Core.Bool.{Bool, true}
 use mathlib.Core.Logic.{inl, inr, ⊎-elim, _↔_}
@@ -8,11 +8,12 @@ use borrow.Author.Tests.{eqb-true, eqb-false}
 use Rattle.ground.proofs.Logic.{cases}
 use Rattle.masks.proofs.Laws.Subsets.{⊆-trans}
 use Rattle.masks.specs.Mask.{others}
-use Rattle.sets.specs.Decides.{Greatest, Decides, TableIsFbqs, TableDecides}
+use Rattle.sets.specs.Decides.{Greatest, Decides}
 use Rattle.sets.specs.Paper.{Fbqs, Quorum, Blocking}
 use Rattle.sets.specs.Quorum.{quorum, largest}
+use Rattle.sets.specs.Rows.{Lawful}
 use Rattle.sets.specs.Slices.{Slices}
-use Rattle.sets.proofs.Lawful.{Answers, Lawful, inside-answers, table-lawful}
+use Rattle.sets.proofs.Lawful.{Answers, inside-answers}
 use Rattle.sets.proofs.Quorum.{quorum-of, quorum-some, quorum-below, quorum-slice, largest-⊆, largest-still, largest-quorum, largest-greatest, largest-after, rounds-drop, rounds-few}
 
 -- of a rule that answers for S
@@ -60,11 +61,3 @@ module _ {S : Fbqs} {r : Slices} {n : ℕ} (lawful : Lawful S r n) where
         blocked-decides = blocked-is;
         largest-decides = greatest-is (inside-answers lawful);
       }
-
--- of a checked table
-
-pub table-is-fbqs : TableIsFbqs
-table-is-fbqs t n table = table-lawful table .well-formed
-
-pub table-decides : TableDecides
-table-decides t n table = decides (table-lawful table)

@@ -1,16 +1,18 @@
--- What a table of whichever form has to show of its tests: that they are answers about the slices of an FBQS S of n sites. All that the paper's
--- statements and the voting ask of the table follows from it (Decides, Promises, WholeQuorum).
+-- Tests that are lawful: what is asked of a table, whole or with some sites deleted, is answered about its slices. All that the paper's statements and the
+-- voting ask of the table follows from it (Decides, Promises, WholeQuorum). A checked table in memory is lawful.
 use Prim.Native.Nat.{ℕ}
 use mathlib.Core.Bool.{Bool, true, false, _&&_, not}
 use mathlib.Core.List.{List}
-use mathlib.Core.Path.{_≡_, refl, sym, ap, _∙_, subst}
-use lib.Bits.{bitAnd, bitOr}
+use mathlib.Core.Path.{_≡_, refl, sym, ap, ap₂, _∙_, subst, fun-ext}
+use lib.Bits.{bitAnd, bitOr, or-zero-r}
 use lib.Pow.{ones-lt}
 use Rattle.ground.proofs.Logic.{and-l, and-r, and-i, is-false, clash, not-t}
 use Rattle.masks.proofs.Laws.Apart.{minus-⊆-or, or-⊆-minus}
+use Rattle.masks.proofs.Laws.Members.{has-zero}
 use Rattle.masks.proofs.Laws.Subsets.{mem, ⊆-refl, ⊆-trans, ∈-below, or-⊆, or-⊆-l, or-⊆-r, minus-⊆, ∈-minus, minus-not-in}
 use Rattle.masks.specs.Mask.{has, minus, others, allBelow, _∈_, _⊆_}
 use Rattle.sets.specs.Paper.{Fbqs, WellFormed, delete}
+use Rattle.sets.specs.Rows.{Lawful}
 use Rattle.sets.specs.Slices.{Slices, fbqsOf, slicesOf}
 use Rattle.sets.proofs.Quorum.{Rule}
 use Rattle.sets.proofs.Slices.{inside-of, inside-ex, deleted-inside, blocked-meets, unblocked-misses}
@@ -23,18 +25,6 @@ pub record Answers (S : Fbqs) (s : ℕ → ℕ → Bool) (n : ℕ) : Type 0 wher
   pub site : (v u : ℕ) → v ∈ allBelow n → s v u ≡ true → v ∈ S .sites
   pub slice : (v u : ℕ) → s v u ≡ true → (q : ℕ) × S .Slice v q × (q ⊆ u)
   pub inside : (v u q : ℕ) → v ∈ S .sites → S .Slice v q → q ⊆ u → s v u ≡ true
-
-pub record Lawful (S : Fbqs) (r : Slices) (n : ℕ) : Type 0 where
-  pub all-sites : S .sites ≡ allBelow n
-  pub well-formed : WellFormed S
-  -- `inside`: some slice inside u
-  pub slice-inside : (v u : ℕ) → r .inside v u ≡ true → (q : ℕ) × S .Slice v q × (q ⊆ u)
-  pub inside-slice : (v u q : ℕ) → S .Slice v q → q ⊆ u → r .inside v u ≡ true
-  -- `deleted`: the site stays, and some slice is inside u together with b
-  pub deleted-or : (b v u : ℕ) → r .deleted b v u ≡ not (has b v) && r .inside v (bitOr u b)
-  -- `blocked`: no slice misses the others of w, or one does
-  pub blocked-slice : (v w q : ℕ) → r .blocked v w ≡ true → S .Slice v q → bitAnd q (others w v) ≡ 0 → ⊥
-  pub unblocked-slice : (v w : ℕ) → r .blocked v w ≡ false → (q : ℕ) × S .Slice v q × (bitAnd q (others w v) ≡ 0)
 
 module _ {S : Fbqs} {r : Slices} {n : ℕ} (lawful : Lawful S r n) where
   pub inside-grows : Rule (r .inside)
@@ -54,9 +44,14 @@ module _ {S : Fbqs} {r : Slices} {n : ℕ} (lawful : Lawful S r n) where
 
   -- `deleted b` answers for S with b deleted
 
-  deleted-stays : (b : ℕ) {v u : ℕ} → r .deleted b v u ≡ true → v ∈ b → ⊥
+  pub deleted-stays : (b : ℕ) {v u : ℕ} → r .deleted b v u ≡ true → v ∈ b → ⊥
   deleted-stays b {v} {u} e h =
       clash (h .holds) (not-t (has b v) (and-l (not (has b v)) (r .inside v (bitOr u b)) (sym (lawful .deleted-or b v u) ∙ e)))
+
+  -- with nobody deleted
+  pub deleted-none : r .deleted 0 ≡ r .inside
+  deleted-none =
+      fun-ext (λ v. fun-ext (λ u. lawful .deleted-or 0 v u ∙ ap₂ (λ (h : Bool) (x : ℕ). not h && r .inside v x) (has-zero v) (or-zero-r u)))
 
   deleted-slice : (b v u : ℕ) → r .deleted b v u ≡ true → r .inside v (bitOr u b) ≡ true
   deleted-slice b v u e = and-r (not (has b v)) (r .inside v (bitOr u b)) (sym (lawful .deleted-or b v u) ∙ e)

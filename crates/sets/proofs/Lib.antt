@@ -3,6 +3,9 @@ pub mod Slices
 pub mod Lawful
 pub mod Decides
 pub mod Promises
+pub mod Forms
+pub mod Rows
+pub mod Groups
 pub mod Without
 pub mod WholeQuorum
 pub mod Coincide

@@ -1,23 +1,20 @@
--- The promises that the voting rests on: kept by any table that is lawful, and so by every checked table.
+-- The promises that the voting rests on: kept by any table that is lawful.
 use Prim.Native.Nat.{ℕ}
 use mathlib.Core.Bool.{true}
-use mathlib.Core.List.{List}
-use mathlib.Core.Path.{_≡_, refl, sym, ap, subst}
+use mathlib.Core.Path.{_≡_, subst}
 use lib.Bits.{and-zero-r}
 use Rattle.ground.proofs.Logic.{is-false}
 use Rattle.masks.proofs.Laws.Apart.{apart-⊆}
 use Rattle.masks.proofs.Laws.Single.{minus-grows}
 use Rattle.masks.proofs.Laws.Subsets.{mem, ⊆-refl, not-in-zero, minus-⊆}
-use Rattle.masks.specs.Mask.{has, single, others, _∈_, _⊆_}
-use Rattle.sets.specs.Decides.{TablePromises}
+use Rattle.masks.specs.Mask.{single, others, _∈_, _⊆_}
 use Rattle.sets.specs.Paper.{Fbqs, Quorum}
-use Rattle.sets.specs.Promises.{Questions, Promises, questionsOf, questions}
+use Rattle.sets.specs.Promises.{Promises, questionsOf}
 use Rattle.sets.specs.Quorum.{largest}
-use Rattle.sets.specs.Slices.{Slices, fbqsOf, slicesOf}
-use Rattle.table.proofs.Table.{sites-of}
-use Rattle.table.specs.Table.{Table}
+use Rattle.sets.specs.Rows.{Lawful}
+use Rattle.sets.specs.Slices.{Slices}
 use Rattle.sets.proofs.Decides.{quorum-is, is-quorum, blocked-is}
-use Rattle.sets.proofs.Lawful.{Lawful, inside-answers, inside-grows, table-lawful}
+use Rattle.sets.proofs.Lawful.{inside-answers, inside-grows}
 use Rattle.sets.proofs.Quorum.{largest-⊆, largest-quorum, largest-greatest, largest-grows}
 
 module _ {S : Fbqs} {r : Slices} {n : ℕ} (lawful : Lawful S r n) where
@@ -49,27 +46,3 @@ module _ {S : Fbqs} {r : Slices} {n : ℕ} (lawful : Lawful S r n) where
         unblocked-rest = lawful .unblocked-slice;
         slice-decides = λ v u w. (lawful .slice-inside u w, λ x. lawful .inside-slice u w (x .0) (x .1) (x .2));
       }
-
--- of a checked table: its length says how many sites it has
-module _ {t : List ℕ} {n : ℕ} (table : Table t n) where
-  many : questionsOf (slicesOf t) n ≡ questions t
-  many = ap (questionsOf (slicesOf t)) (sym (sites-of table))
-
-  promised : Promises (λ v. fbqsOf t n) (questions t)
-  promised = subst (Promises (λ v. fbqsOf t n)) many (promises (table-lawful table))
-
-  -- what the code asks is what the questions say
-  pub quorum-asked : (v w : ℕ) → has (largest (slicesOf t .inside) n w) v ≡ questions t .inQuorum v w
-  unfolding questionsOf
-  quorum-asked v w = ap (λ (Q : Questions). Q .inQuorum v w) many
-
-  pub blocked-asked : (v w : ℕ) → slicesOf t .blocked v w ≡ questions t .blocked v w
-  unfolding questionsOf
-  blocked-asked v w = refl
-
-  pub slice-asked : (v u w : ℕ) → slicesOf t .inside u w ≡ questions t .hasSlice v u w
-  unfolding questionsOf
-  slice-asked v u w = refl
-
-pub table-promises : TablePromises
-table-promises t n table = promised table

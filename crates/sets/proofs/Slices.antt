@@ -3,21 +3,21 @@ use Prim.Native.Nat.{ℕ, _*_, _<_, _≤_}
 use mathlib.Core.Bool.{Bool, true, false, _&&_, not}
 use mathlib.Core.List.{List}
 use mathlib.Core.Logic.{⊎-elim}
-use mathlib.Core.Path.{_≡_, sym, ap, ap₂, _∙_, subst, fun-ext}
+use mathlib.Core.Path.{_≡_, sym, ap, subst, fun-ext}
 use native.Mathlib.Nat.{not-suc-le-zero, mul-le-mul-left}
-use lib.Bits.{bitAnd, bitOr, or-zero-r}
+use lib.Bits.{bitAnd, bitOr}
 use lib.Dec.{eqb, ltb}
 use lib.ListN.{getD, take, drop-of-length-le}
 use borrow.Author.Tests.{not-false, ltb-true, ltb-false, eqb-true, eqb-false}
 use Rattle.ground.proofs.Every.{every-at, every-fails}
-use Rattle.ground.proofs.Logic.{and-l, cases, clash, is-false, not-t}
+use Rattle.ground.proofs.Logic.{cases, clash, is-false, not-t}
 use Rattle.ground.proofs.Some.{some-of, some-ex}
 use Rattle.ground.specs.Search.{some}
-use Rattle.masks.proofs.Laws.Members.{has-zero}
 use Rattle.masks.proofs.Laws.Subsets.{within-⊆, ⊆-within, minus-within}
-use Rattle.masks.specs.Mask.{has, within, others, allBelow, _∈_, _⊆_}
+use Rattle.masks.specs.Mask.{has, within, others, _⊆_}
+use Rattle.sets.specs.Rows.{Listed, Rows}
 use Rattle.sets.specs.Slices.{slicesOf}
-use Rattle.table.specs.Table.{countOf, sliceOf, Table}
+use Rattle.table.specs.Table.{countOf, sliceOf}
 
 module _ (t : List ℕ) where
   -- some slice inside
@@ -38,16 +38,6 @@ module _ (t : List ℕ) where
   unfolding slicesOf
   deleted-inside b v u =
       ap (λ (p : ℕ → Bool). not (has b v) && some (countOf t v) p) (fun-ext (λ i. minus-within (sliceOf t v i) b u))
-
-  -- who has a slice then is not deleted
-  pub deleted-stays : (b v u : ℕ) → slicesOf t .deleted b v u ≡ true → v ∈ b → ⊥
-  deleted-stays b v u e h =
-      clash (h .holds) (not-t (has b v) (and-l (not (has b v)) (slicesOf t .inside v (bitOr u b)) (sym (deleted-inside b v u) ∙ e)))
-
-  -- with nobody deleted
-  pub deleted-none : slicesOf t .deleted 0 ≡ slicesOf t .inside
-  deleted-none =
-      fun-ext (λ v. fun-ext (λ u. deleted-inside 0 v u ∙ ap₂ (λ (h : Bool) (x : ℕ). not h && slicesOf t .inside v x) (has-zero v) (or-zero-r u)))
 
   -- blocking: no slice misses the others of the set
 
@@ -71,16 +61,16 @@ module _ (t : List ℕ) (v u : ℕ) where
   pub inside-missed : ((i : ℕ) → i < countOf t v → within (sliceOf t v i) u ≡ false) → slicesOf t .inside v u ≡ false
   inside-missed f = is-false (slicesOf t .inside v u) (λ h. let r = inside-ex t v u h in clash (⊆-within (r .2)) (f (r .0) (r .1)))
 
--- of a checked table
+-- of rows
 
-module _ {t : List ℕ} {n : ℕ} (table : Table t n) where
+module _ {t : List ℕ} {n : ℕ} (rows : Rows t n) where
   -- who is no site has no slice
   pub no-slice : (v : ℕ) → n ≤ v → countOf t v ≡ 0
   no-slice v l =
-      ap (λ (l : List ℕ). getD (take 63 l) 0 0) (drop-of-length-le t (subst (λ (x : ℕ). x ≤ 63 * v) (sym (table .long)) (mul-le-mul-left 63 l)))
+      ap (λ (l : List ℕ). getD (take 63 l) 0 0) (drop-of-length-le t (subst (λ (x : ℕ). x ≤ 63 * v) (sym (rows .long)) (mul-le-mul-left 63 l)))
 
-  -- every slice is of the n sites
-  pub slice-below : (v i : ℕ) → i < countOf t v → sliceOf t v i ⊆ allBelow n
-  slice-below v i l =
-      ⊎-elim (λ h. table .below v i (ltb-true v n h) l) (λ h. absurd (not-suc-le-zero (subst (λ (x : ℕ). i < x) (no-slice v (ltb-false v n h)) l)))
+  -- who has a slice has a row
+  pub row : (v : ℕ) {i : ℕ} → i < countOf t v → Listed t n v
+  row v {i} l =
+      ⊎-elim (λ h. rows .listed v (ltb-true v n h)) (λ h. absurd (not-suc-le-zero (subst (λ (x : ℕ). i < x) (no-slice v (ltb-false v n h)) l)))
       (cases (ltb v n))

@@ -1,18 +1,17 @@
--- All sites together are a quorum, so a table holds a quorum always: of any table that is lawful, and so of every checked table.
+-- All sites together are a quorum, so a table that is lawful holds a quorum always.
 use Prim.Native.Nat.{ℕ, _<_}
 use mathlib.Core.Bool.{true}
-use mathlib.Core.List.{List}
 use mathlib.Core.Path.{_≡_, sym, _∙_, subst}
 use Rattle.masks.proofs.Laws.AllBelow.{in-all}
 use Rattle.masks.proofs.Laws.Subsets.{⊆-refl, not-in-zero}
 use Rattle.masks.specs.Mask.{allBelow, _∈_}
 use Rattle.sets.specs.Paper.{Fbqs, Quorum}
 use Rattle.sets.specs.Quorum.{quorum, largest}
-use Rattle.sets.specs.Slices.{Slices, slicesOf}
+use Rattle.sets.specs.Rows.{Lawful}
+use Rattle.sets.specs.Slices.{Slices}
 use Rattle.sets.proofs.Decides.{is-quorum}
-use Rattle.sets.proofs.Lawful.{Lawful, inside-answers, table-lawful}
+use Rattle.sets.proofs.Lawful.{inside-answers}
 use Rattle.sets.proofs.Quorum.{quorum-some, quorum-still, largest-stop}
-use Rattle.table.specs.Table.{Table}
 
 module _ {S : Fbqs} {r : Slices} {n : ℕ} (lawful : Lawful S r n) (some-site : 0 < n) where
   -- "quorum availability is trivially met since the set V of servers is a quorum"
@@ -32,7 +31,3 @@ module _ {S : Fbqs} {r : Slices} {n : ℕ} (lawful : Lawful S r n) (some-site : 
 
   pub some-quorum : largest (r .inside) n (allBelow n) ≡ 0 → ⊥
   some-quorum z = quorum-some (r .inside) n whole-quorum (sym largest-whole ∙ z)
-
--- of a checked table: number 7 never arises
-pub table-some-quorum : (t : List ℕ) (n : ℕ) → Table t n → largest (slicesOf t .inside) n (allBelow n) ≡ 0 → ⊥
-table-some-quorum t n table = some-quorum (table-lawful table) (table .some-site)

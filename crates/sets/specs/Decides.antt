@@ -1,15 +1,14 @@
 -- The computed answers are the paper's: what is proved of a checked table, for every n.
 use Prim.Native.Nat.{ℕ, suc, _≤_, _<_}
 use mathlib.Core.Bool.{Bool, true}
-use mathlib.Core.List.{List}
 use mathlib.Core.Logic.{_⊎_, _↔_}
 use mathlib.Core.Path.{_≡_}
 use Rattle.masks.specs.Mask.{size, others, _⊆_}
+use Rattle.sets.specs.Groups.{Groups, sitesOf, fbqsIn, slicesIn, Checked, questions}
 use Rattle.sets.specs.Paper.{Fbqs, WellFormed, Quorum, Blocking}
-use Rattle.sets.specs.Promises.{Promises, questions}
+use Rattle.sets.specs.Promises.{Promises}
 use Rattle.sets.specs.Quorum.{quorum, round, after, largest, rounds}
-use Rattle.sets.specs.Slices.{Slices, fbqsOf, slicesOf}
-use Rattle.table.specs.Table.{Table}
+use Rattle.sets.specs.Slices.{Slices}
 
 -- of the largest quorum inside w, over any rule s: it is 0 or a quorum of S, inside w, and contains every quorum inside w; it is what is left after its
 -- rounds, each of which dropped somebody, the next would drop nobody, and they are no more than the sites of w
@@ -31,10 +30,10 @@ pub record Decides (S : Fbqs) (r : Slices) (n : ℕ) : Type 0 where
 
 -- a checked table is a well-formed FBQS, its answers decide the paper's statements, and it keeps the promises that the voting rests on
 abbrev pub TableIsFbqs : Type 0
-TableIsFbqs = (t : List ℕ) (n : ℕ) → Table t n → WellFormed (fbqsOf t n)
+TableIsFbqs = (t : Groups) → Checked t → WellFormed (fbqsIn t)
 
 abbrev pub TableDecides : Type 0
-TableDecides = (t : List ℕ) (n : ℕ) → Table t n → Decides (fbqsOf t n) (slicesOf t) n
+TableDecides = (t : Groups) → Checked t → Decides (fbqsIn t) (slicesIn t) (sitesOf t)
 
 abbrev pub TablePromises : Type 0
-TablePromises = (t : List ℕ) (n : ℕ) → Table t n → Promises (λ v. fbqsOf t n) (questions t)
+TablePromises = (t : Groups) → Checked t → Promises (λ v. fbqsIn t) (questions t)

@@ -1,16 +1,13 @@
 -- What the voting knows of the sets, and nothing else: three questions, with the receiver first, and their laws. `S v` is the FBQS as site v sees it.
 use Prim.Native.Nat.{ℕ}
 use mathlib.Core.Bool.{Bool, true, false}
-use mathlib.Core.List.{List}
 use mathlib.Core.Logic.{_↔_}
 use mathlib.Core.Path.{_≡_}
 use lib.Bits.{bitAnd}
-use lib.ListN.{length}
 use Rattle.masks.specs.Mask.{has, others, _∈_, _⊆_}
 use Rattle.sets.specs.Paper.{Fbqs, Quorum}
 use Rattle.sets.specs.Quorum.{largest}
-use Rattle.sets.specs.Slices.{Slices, slicesOf}
-use Rattle.table.specs.Table.{sites}
+use Rattle.sets.specs.Slices.{Slices}
 
 pub record Questions : Type 0 where
   -- site v belongs to the largest quorum inside w
@@ -24,10 +21,6 @@ pub record Questions : Type 0 where
 unfoldable pub questionsOf : Slices → ℕ → Questions
 unfolding largest
 questionsOf r n = record { inQuorum = λ v w. has (largest (r .inside) n w) v; blocked = r .blocked; hasSlice = λ v u w. r .inside u w }
-
--- the questions of a table in memory
-abbrev pub questions : List ℕ → Questions
-questions t = questionsOf (slicesOf t) (sites (length t))
 
 pub record Promises (S : ℕ → Fbqs) (Q : Questions) : Type 0 where
   -- both grow with the set

@@ -1,17 +1,31 @@
-// Set questions over a checked table.
+// Set questions over the rows of a checked table, and the check of a set of its sites.
 ghost use mathlib.Core.Path.{_≡_};
 ghost use mathlib.Core.Bool.{true, false};
 ghost use Prim.Native.Nat.{ℕ, _<_, _≤_};
 ghost use Rattle.masks.specs.Mask.{within};
-ghost use Rattle.table.specs.Table.{countOf, sliceOf, Table};
-ghost use Rattle.sets.specs.Slices.{slicesOf};
+ghost use Rattle.table.specs.Table.{countOf, sliceOf};
+ghost use Rattle.sets.specs.Groups.{outsider};
+ghost use Rattle.sets.specs.Rows.{Rows, rulesOf};
 ghost use Rattle.sets.specs.Quorum.{quorum};
+use refusals::Check;
+use refusals::Refusal;
+
+// 10: the set names a site at or above n.
+pub fn check_set(n: usize, set: u64) -> Check
+    requires { ⌜ n ≤ 64 ⌝ }
+    ensures { λ r. ⌜ r ≡ outsider n set ⌝ }
+{
+    if masks::within(set, masks::all_below(n as u64)) {
+        return Check::Sound;
+    }
+    Check::Refused(Refusal::Set)
+}
 
 // The set w blocks site v: without v itself it meets every slice of v.
 pub fn blocks(table: &[u64], n: usize, w: u64, v: usize) -> bool
-    requires { ⌜ Table (now table) n ⌝ }
+    requires { ⌜ Rows (now table) n ⌝ }
     requires { ⌜ v < n ⌝ }
-    ensures { λ r. ⌜ r ≡ slicesOf (now (table .entry)) .blocked v w ⌝ }
+    ensures { λ r. ⌜ r ≡ rulesOf (now (table .entry)) .blocked v w ⌝ }
 {
     let others = masks::minus(w, masks::single(v as u64));
     let many = table[63 * v] as usize;
@@ -27,7 +41,7 @@ pub fn blocks(table: &[u64], n: usize, w: u64, v: usize) -> bool
 
 // The first slice of site v from slice start on that is inside u, or the count of its slices.
 pub fn next_inside(table: &[u64], n: usize, v: usize, u: u64, start: u8) -> usize
-    requires { ⌜ Table (now table) n ⌝ }
+    requires { ⌜ Rows (now table) n ⌝ }
     requires { ⌜ v < n ⌝ }
     ensures { λ r. ⌜ r ≤ countOf (now (table .entry)) v ⌝ }
     ensures { λ r. ⌜ (r < countOf (now (table .entry)) v → within (sliceOf (now (table .entry)) v r) u ≡ true) ⌝ }
@@ -47,17 +61,17 @@ pub fn next_inside(table: &[u64], n: usize, v: usize, u: u64, start: u8) -> usiz
 
 // Site v has a slice inside u.
 pub fn has_slice(table: &[u64], n: usize, v: usize, u: u64) -> bool
-    requires { ⌜ Table (now table) n ⌝ }
+    requires { ⌜ Rows (now table) n ⌝ }
     requires { ⌜ v < n ⌝ }
-    ensures { λ r. ⌜ r ≡ slicesOf (now (table .entry)) .inside v u ⌝ }
+    ensures { λ r. ⌜ r ≡ rulesOf (now (table .entry)) .inside v u ⌝ }
 {
     next_inside(table, n, v, u, 0) < table[63 * v] as usize
 }
 
 // q is a quorum.
 pub fn is_quorum(table: &[u64], n: usize, q: u64) -> bool
-    requires { ⌜ Table (now table) n ⌝ }
-    ensures { λ r. ⌜ r ≡ quorum (slicesOf (now (table .entry)) .inside) n q ⌝ }
+    requires { ⌜ Rows (now table) n ⌝ }
+    ensures { λ r. ⌜ r ≡ quorum (rulesOf (now (table .entry)) .inside) n q ⌝ }
 {
     if q == 0 {
         return false;

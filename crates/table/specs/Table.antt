@@ -6,10 +6,10 @@ use mathlib.Core.Path.{_≡_}
 use lib.Dec.{eqb, ltb}
 use lib.ListN.{length}
 use Rattle.ground.specs.Pieces.{part}
-use Rattle.masks.specs.Mask.{within, allBelow, _∈_, _⊆_}
+use Rattle.masks.specs.Mask.{allBelow, _∈_, _⊆_}
 use Rattle.refusals.specs.First.{orElse, refuse, first}
 use Rattle.refusals.specs.declared.Check.{Check}
-use Rattle.refusals.specs.declared.Refusal.the-variants.{Length, Set}
+use Rattle.refusals.specs.declared.Refusal.the-variants.{Length}
 use Rattle.rows.specs.Site.{count, slice, siteCheck}
 
 -- the 63 numbers of site v in a table, the count of its slices, and its slice i
@@ -39,11 +39,6 @@ sitesCheck n t = first (λ v. siteCheck n v (siteOf t v)) n
 unfoldable pub check : List ℕ → Check
 unfolding tableMisshapen sitesCheck
 check t = orElse (refuse (tableMisshapen (length t)) Length) (sitesCheck (sites (length t)) t)
-
--- the table, then 10: "a set names a site at or above n"
-unfoldable pub setCheck : List ℕ → ℕ → Check
-unfolding check
-setCheck t set = orElse (check t) (refuse (not (within set (allBelow (sites (length t))))) Set)
 
 -- What a sound table promises: "A table has n sites, 1 to 64. Each site has 1 to 62 slices. Every slice contains its owner and names no site at
 -- or above n; a site's slices ascend strictly as numbers", and unused places are zero.

@@ -1,8 +1,8 @@
-// The table of groups in memory: its check, and that of a set of its sites.
+// The table of groups in memory: its check.
 ghost use mathlib.Core.Path.{_≡_};
 ghost use Prim.Native.Nat.{_*_, _≤_};
 ghost use lib.ListN.{length};
-ghost use Rattle.table.specs.Table.{sitesCheck, check, setCheck};
+ghost use Rattle.table.specs.Table.{sitesCheck, check};
 use refusals::Check;
 use refusals::Refusal;
 
@@ -38,19 +38,4 @@ pub fn check(table: &[u64]) -> Check
         return Check::Refused(Refusal::Length);
     }
     check_sites(table, n)
-}
-
-// The table, then 10: the set names no site at or above n.
-pub fn check_set(table: &[u64], set: u64) -> Check
-    ensures { λ r. ⌜ r ≡ setCheck (now (table .entry)) set ⌝ }
-{
-    let q = check(table);
-    let Check::Sound = q else {
-        return q;
-    };
-    let n = table.len() / 63;
-    if masks::within(set, masks::all_below(n as u64)) {
-        return Check::Sound;
-    }
-    Check::Refused(Refusal::Set)
 }

@@ -18,12 +18,12 @@ use Rattle.one_round.proofs.Rounds.{is-site, round-part, in-round, fewe
 use Rattle.one_round.proofs.first_round.Statement.{statement}
 use Rattle.sets.proofs.Quorum.{round-slice}
 use Rattle.sets.specs.Quorum.{round}
-use Rattle.sets.specs.Slices.{slicesOf}
 use Rattle.one_round.proofs.first_round.Tie as tie
+use Rattle.sets.specs.Rows.{rulesOf}
 
 abbrev Inv-loop : tie.InvT-loop
 Inv-loop table n w places₀ stay₀ rest₀ places stay rest =
-    SomeAsked (bitAnd w (allBelow n)) (round (slicesOf table .inside) n w) (round (slicesOf table .inside) n w) rest stay × (length places ≡ 64)
+    SomeAsked (bitAnd w (allBelow n)) (round (rulesOf table .inside) n w) (round (rulesOf table .inside) n w) rest stay × (length places ≡ 64)
     × ((u : ℕ) → u < n → u ∈ stay → (u ∈ rest → ⊥) → Place table w u (getD places u 0))
 
 abbrev μ-loop : tie.MeasureT-loop
@@ -33,7 +33,7 @@ loop-holds : tie.Need-loop-holds Inv-loop μ-loop
 loop-holds c =
     let p = c .before .before in
     let a = p .args in
-    let s = slicesOf (now (a .table)) .inside in
+    let s = rulesOf (now (a .table)) .inside in
     let W = bitAnd (a .w) (allBelow (a .n)) in
     let R = round s (a .n) (a .w) in
     let start : SomeAsked W R R W W = asked-none (round-part (a .n) (a .w) s) in
@@ -55,7 +55,7 @@ loop-again : tie.Need-loop-again Inv-loop μ-loop
 loop-again c =
     let a = c .before .before .before .before .before .before .before .before .before .args in
     let t = now (a .table) in
-    let s = slicesOf t .inside in
+    let s = rulesOf t .inside in
     let l = c .before .before .before .before .before .before .loop in
     let v = c .before .before .before .before .first-member in
     let x = c .before .before .goes .ensures in

@@ -8,7 +8,7 @@ use denote.Ref.{now}
 use Rattle.ground.proofs.Logic.{clash}
 use Rattle.one_round.proofs.Places.{placed}
 use Rattle.one_round.proofs.goes.Statement.{statement}
-use Rattle.sets.proofs.Slices.{inside-found, inside-missed}
+use Rattle.sets.proofs.Rows.{row-found, row-missed}
 use Rattle.table.proofs.Table.{count-at}
 use Rattle.table.specs.Table.{countOf}
 use Rattle.one_round.proofs.goes.Tie as tie
@@ -16,7 +16,7 @@ use Rattle.one_round.proofs.goes.Tie as tie
 cast-places : tie.Need-cast-places
 cast-places c =
     let p = c .before .before in
-    omega (arith, c .next-inside .ensures .0, p .pre .0 .few-slices (p .args .v) (p .pre .1 .0))
+    omega (arith, c .next-inside .ensures .0, p .pre .0 .listed (p .args .v) (p .pre .1 .0) .few-slices)
 
 returns : tie.Need-returns
 returns c =
@@ -26,7 +26,7 @@ returns c =
     let k = c .before .before .next-inside in
     let l : k .result < countOf t (a .v) = subst (λ (x : ℕ). k .result < x) (sym (count-at t (a .v))) (c .if1 .taken) in
     let few : a .v < 64 = omega (arith, p .pre .0 .few-sites, p .pre .1 .0) in
-    let f = inside-found t (a .v) (a .w) (k .result) l (k .ensures .1 .0 l) in
+    let f = row-found (p .pre .0 .listed (a .v) (p .pre .1 .0)) (a .w) (k .result) l (k .ensures .1 .0 l) in
     (rw f refl, placed t (p .pre .1 .1) few (λ e. record { slice = l; passed = λ i h. k .ensures .1 .1 .0 i zero-le h }))
 
 returns-2 : tie.Need-returns-2
@@ -37,7 +37,7 @@ returns-2 c =
     let k = c .before .before .before .next-inside in
     let l : countOf t (a .v) ≤ k .result = subst (λ (x : ℕ). x ≤ k .result) (sym (count-at t (a .v))) (c .before .if1 .left) in
     let few : a .v < 64 = omega (arith, p .pre .0 .few-sites, p .pre .1 .0) in
-    let f = inside-missed t (a .v) (a .w) (λ i m. k .ensures .1 .1 .0 i zero-le (lt-of-lt-of-le m l)) in
+    let f = row-missed (p .pre .0 .listed (a .v) (p .pre .1 .0)) (a .w) (λ i m. k .ensures .1 .1 .0 i zero-le (lt-of-lt-of-le m l)) in
     (rw f (c .single .ensures), placed t (p .pre .1 .1) few (λ e. absurd (clash e f)))
 
 pub goes-spec : {M : Type 1} → statement M

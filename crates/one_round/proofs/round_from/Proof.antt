@@ -17,12 +17,12 @@ use Rattle.one_round.proofs.Rounds.{is-site, round-part, in-round, fewe
 use Rattle.one_round.proofs.round_from.Statement.{statement}
 use Rattle.sets.proofs.Quorum.{round-slice}
 use Rattle.sets.specs.Quorum.{round}
-use Rattle.sets.specs.Slices.{slicesOf}
 use Rattle.one_round.proofs.round_from.Tie as tie
+use Rattle.sets.specs.Rows.{rulesOf}
 
 abbrev Inv-loop : tie.InvT-loop
 Inv-loop table n w places₀ held₀ stay₀ rest₀ places held stay rest =
-    SomeAsked (bitAnd w (allBelow n)) (round (slicesOf table .inside) n w) (round (slicesOf table .inside) n w) rest stay × Places table n w places × SlicesHeld table n w places held
+    SomeAsked (bitAnd w (allBelow n)) (round (rulesOf table .inside) n w) (round (rulesOf table .inside) n w) rest stay × Places table n w places × SlicesHeld table n w places held
 
 abbrev μ-loop : tie.MeasureT-loop
 μ-loop table n w places₀ held₀ stay₀ rest₀ places held stay rest = rest
@@ -31,7 +31,7 @@ loop-holds : tie.Need-loop-holds Inv-loop μ-loop
 loop-holds c =
     let p = c .before .before in
     let a = p .args in
-    let s = slicesOf (now (a .table)) .inside in
+    let s = rulesOf (now (a .table)) .inside in
     let W = bitAnd (a .w) (allBelow (a .n)) in
     let R = round s (a .n) (a .w) in
     let start : SomeAsked W R R W W = asked-none (round-part (a .n) (a .w) s) in
@@ -62,7 +62,7 @@ loop-less c =
 loop-again : tie.Need-loop-again Inv-loop μ-loop
 loop-again c =
     let a = c .before .before .before .before .before .before .before .before .before .before .args in
-    let s = slicesOf (now (a .table)) .inside in
+    let s = rulesOf (now (a .table)) .inside in
     let l = c .before .before .before .before .before .before .before .loop in
     let v = c .before .before .before .before .before .first-member in
     let x = c .before .before .stays-held .ensures in

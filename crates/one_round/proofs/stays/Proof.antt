@@ -4,7 +4,7 @@ use lib.ListN.{getD}
 use borrow.Author.Needs.{needs}
 use denote.Ref.{now}
 use Rattle.one_round.proofs.stays.Statement.{statement}
-use Rattle.sets.proofs.Slices.{inside-found}
+use Rattle.sets.proofs.Rows.{row-found}
 use Rattle.one_round.proofs.stays.Tie as tie
 
 is-inside-requires : tie.Need-is-inside-requires
@@ -17,7 +17,7 @@ returns c =
     let p = c .before .before .before .before in
     let a = p .args in
     let l = p .pre .1 .1 .1 .at (a .v) (p .pre .1 .0) (p .pre .1 .1 .0) .slice in
-    (sym (inside-found (now (a .table)) (a .v) (a .w) (getD (now (a .places)) (a .v) 0) l (sym (c .before .is-inside .ensures) ∙ c .if1 .taken)), p .pre .1 .1 .1)
+    (sym (row-found (p .pre .0 .listed (a .v) (p .pre .1 .0)) (a .w) (getD (now (a .places)) (a .v) 0) l (sym (c .before .is-inside .ensures) ∙ c .if1 .taken)), p .pre .1 .1 .1)
 
 pub stays-spec : {M : Type 1} → statement M
 stays-spec =

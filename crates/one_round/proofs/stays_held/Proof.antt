@@ -3,19 +3,18 @@ use mathlib.Core.Path.{sym, _∙_}
 use lib.ListN.{getD}
 use borrow.Author.Needs.{needs}
 use denote.Ref.{now}
-use Rattle.masks.proofs.Laws.Subsets.{⊆-trans, within-⊆}
+use Rattle.masks.proofs.Laws.Subsets.{⊆-trans, within-⊆, ⊆-within}
 use Rattle.one_round.proofs.stays_held.Statement.{statement}
-use Rattle.sets.proofs.Slices.{inside-of}
+use Rattle.sets.proofs.Rows.{row-found}
 use Rattle.one_round.proofs.stays_held.Tie as tie
 
 returns : tie.Need-returns
 returns c =
     let p = c .before .before .before .before in
     let a = p .args in
-    let t = now (a .table) in
     let l = p .pre .1 .1 .1 .0 .at (a .v) (p .pre .1 .0) (p .pre .1 .1 .0) .slice in
     let held = within-⊆ (getD (now (a .held)) (a .v) 0) (a .w) (sym (c .before .within .ensures) ∙ c .if1 .taken) in (
-      sym (inside-of t (a .v) (getD (now (a .places)) (a .v) 0) l (⊆-trans (p .pre .1 .1 .1 .1 .at (a .v) (p .pre .1 .0) (p .pre .1 .1 .0)) held)),
+      sym (row-found (p .pre .0 .listed (a .v) (p .pre .1 .0)) (a .w) (getD (now (a .places)) (a .v) 0) l (⊆-within (⊆-trans (p .pre .1 .1 .1 .1 .at (a .v) (p .pre .1 .0) (p .pre .1 .1 .0)) held))),
       p .pre .1 .1 .1,
     )
 

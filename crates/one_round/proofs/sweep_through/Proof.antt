@@ -15,15 +15,16 @@ use Rattle.one_round.proofs.Places.{places-less}
 use Rattle.one_round.proofs.Rounds.{is-site, round-part, in-round, fewer, SomeAsked, asked-none, asked-all, asked-member, asked-stays, asked-goes}
 use Rattle.one_round.proofs.Sweeps.{out-of-largest}
 use Rattle.one_round.proofs.sweep_through.Statement.{statement}
-use Rattle.sets.proofs.Lawful.{inside-grows, table-lawful}
+use Rattle.sets.proofs.Lawful.{inside-grows}
 use Rattle.sets.proofs.Quorum.{largest-⊆-round}
 use Rattle.sets.specs.Quorum.{round, largest}
-use Rattle.sets.specs.Slices.{slicesOf}
 use Rattle.one_round.proofs.sweep_through.Tie as tie
+use Rattle.sets.proofs.Rows.{rows-lawful}
+use Rattle.sets.specs.Rows.{rulesOf}
 
 abbrev Inv-loop : tie.InvT-loop
 Inv-loop table n w places₀ left₀ rest₀ places left rest =
-    SomeAsked (bitAnd w (allBelow n)) (largest (slicesOf table .inside) n w) (round (slicesOf table .inside) n w) rest left × Places table n left places
+    SomeAsked (bitAnd w (allBelow n)) (largest (rulesOf table .inside) n w) (round (rulesOf table .inside) n w) rest left × Places table n left places
 
 abbrev μ-loop : tie.MeasureT-loop
 μ-loop table n w places₀ left₀ rest₀ places left rest = rest
@@ -32,7 +33,7 @@ loop-holds : tie.Need-loop-holds Inv-loop μ-loop
 loop-holds c =
     let p = c .before .before in
     let a = p .args in
-    let s = slicesOf (now (a .table)) .inside in
+    let s = rulesOf (now (a .table)) .inside in
     let W = bitAnd (a .w) (allBelow (a .n)) in
     let start : SomeAsked W (largest s (a .n) (a .w)) (round s (a .n) (a .w)) W W = asked-none (⊆-trans (largest-⊆-round s (a .n) (a .w)) (round-part (a .n) (a .w) s)) in
     subst (λ (x : ℕ). SomeAsked W (largest s (a .n) (a .w)) (round s (a .n) (a .w)) (bitAnd (a .w) x) (bitAnd (a .w) x) × Places (now (a .table)) (a .n) (bitAnd (a .w) x) (now (a .places))) (sym (c .all-below .ensures))
@@ -62,8 +63,8 @@ loop-again c =
     let p = c .before .before .before .before .before .before .before .before .before in
     let a = p .args in
     let t = now (a .table) in
-    let s = slicesOf t .inside in
-    let rule = inside-grows (table-lawful (p .pre .0)) in
+    let s = rulesOf t .inside in
+    let rule = inside-grows (rows-lawful (p .pre .0)) in
     let l = c .before .before .before .before .before .before .loop in
     let v = c .before .before .before .before .first-member in
     let x = c .before .before .stays in

@@ -5,7 +5,7 @@ use mathlib.Core.List.{List}
 use mathlib.Core.Path.{_≡_}
 use lib.ListN.{length, getD}
 use Rattle.masks.specs.Mask.{within, _∈_, _⊆_}
-use Rattle.sets.specs.Slices.{slicesOf}
+use Rattle.sets.specs.Rows.{rulesOf}
 use Rattle.table.specs.Table.{countOf, sliceOf}
 
 -- in the table t number k is a slice of site v, and none before it is inside w
@@ -21,7 +21,7 @@ pub record Places (t : List ℕ) (n w : ℕ) (places : List ℕ) : Type 0 where
 -- site v got its place if it has a slice inside w, and no other place changed
 pub record Placed (t : List ℕ) (w v : ℕ) (before after : List ℕ) : Type 0 where
   pub many : length after ≡ 64
-  pub at : slicesOf t .inside v w ≡ true → Place t w v (getD after v 0)
+  pub at : rulesOf t .inside v w ≡ true → Place t w v (getD after v 0)
   pub others : (u : ℕ) → (u ≡ v → ⊥) → getD after u 0 ≡ getD before u 0
 
 -- beside the place of each site of w: the slice at it, or a set that the slice is inside

@@ -11,16 +11,17 @@ use Rattle.masks.specs.Mask.{has}
 use Rattle.one_round.specs.Inner.Places.{Places}
 use Rattle.one_round.specs.Inner.Swept.{Swept}
 use Rattle.sets.specs.Quorum.{round, largest}
-use Rattle.sets.specs.Slices.{slicesOf}
 use Rattle.one_round.proofs.Sweeps.{swept-still, swept-less, swept-largest}
-use Rattle.sets.proofs.Lawful.{inside-grows, table-lawful}
+use Rattle.sets.proofs.Lawful.{inside-grows}
 use Rattle.sets.proofs.Quorum.{∈-round, round-slice, largest-stop, largest-step, largest-⊆, largest-⊆-round}
 use Rattle.rounds.proofs.in_largest.Statement.{statement}
 use Rattle.rounds.proofs.in_largest.Tie as tie
+use Rattle.sets.proofs.Rows.{rows-lawful}
+use Rattle.sets.specs.Rows.{rulesOf}
 
 abbrev Inv-loop : tie.InvT-loop
 Inv-loop table n v w places₀ set₀ places set =
-    Places table n set places × (largest (slicesOf table .inside) n set ≡ largest (slicesOf table .inside) n w) × (has set v ≡ true)
+    Places table n set places × (largest (rulesOf table .inside) n set ≡ largest (rulesOf table .inside) n w) × (has set v ≡ true)
 
 abbrev μ-loop : tie.MeasureT-loop
 μ-loop table n v w places₀ set₀ places set = set
@@ -28,14 +29,14 @@ abbrev μ-loop : tie.MeasureT-loop
 returns : tie.Need-returns Inv-loop μ-loop
 returns c =
     let a = c .before .before .before .args in
-    let s = slicesOf (now (a .table)) .inside in
+    let s = rulesOf (now (a .table)) .inside in
     sym (is-false (has (largest s (a .n) (a .w)) (a .v))
     (λ h. clash (largest-⊆ s (a .n) (a .w) .each (a .v) (mem h) .holds) (sym (c .before .has .ensures) ∙ not-true _ (c .if1 .taken))))
 
 returns-2 : tie.Need-returns-2 Inv-loop μ-loop
 returns-2 c =
     let a = c .before .before .before .before .before .args in
-    let s = slicesOf (now (a .table)) .inside in
+    let s = rulesOf (now (a .table)) .inside in
     sym (is-false (has (largest s (a .n) (a .w)) (a .v))
     (λ h. clash (round-slice s (a .n) (largest-⊆-round s (a .n) (a .w) .each (a .v) (mem h))) (sym (c .before .has-slice .ensures) ∙ not-true _ (c .if2 .taken))))
 
@@ -45,7 +46,7 @@ first-round-requires c κs = (c .before .before .before .before .before .before 
 returns-3 : tie.Need-returns-3 Inv-loop μ-loop
 returns-3 c =
     let a = c .before .before .before .before .before .before .before .before .args in
-    let s = slicesOf (now (a .table)) .inside in
+    let s = rulesOf (now (a .table)) .inside in
     let e : round s (a .n) (a .w) ≡ a .w = sym (c .before .first-round .ensures .0) ∙ c .if3 .taken in
     sym (ap (λ (x : ℕ). has x (a .v)) (largest-stop s (a .n) (a .w) e) ∙ sym (c .before .before .before .before .before .before .has .ensures) ∙ not-false _ (c .before .before .before .before .before .if1 .left))
 
@@ -53,7 +54,7 @@ loop-holds : tie.Need-loop-holds Inv-loop μ-loop
 loop-holds c =
     let p = c .before .before .before .before .before .before .before .before in
     let a = p .args in
-    let s = slicesOf (now (a .table)) .inside in
+    let s = rulesOf (now (a .table)) .inside in
     let r = c .before .first-round .ensures in
     let inside = sym (c .before .before .before .before .has-slice .ensures) ∙ not-false _ (c .before .before .before .if2 .left) in
     let member = mem (sym (c .before .before .before .before .before .before .has .ensures) ∙ not-false _ (c .before .before .before .before .before .if1 .left)) in (
@@ -68,7 +69,7 @@ sweep-through-requires c κs = (c .before .before .before .before .before .befor
 returns-4 : tie.Need-returns-4 Inv-loop μ-loop
 returns-4 c =
     let a = c .before .before .before .before .before .before .before .before .before .before .before .before .args in
-    let s = slicesOf (now (a .table)) .inside in
+    let s = rulesOf (now (a .table)) .inside in
     let l = c .before .before .before .loop in
     let e = swept-still (a .n) (subst (λ (k : ℕ). Swept s (a .n) (l .set) k) (c .if4 .taken) (c .before .sweep-through .ensures .0)) in
     sym (l .inv .2) ∙ ap (λ (x : ℕ). has x (a .v)) (sym (largest-stop s (a .n) (l .set) e) ∙ l .inv .1)
@@ -76,7 +77,7 @@ returns-4 c =
 returns-5 : tie.Need-returns-5 Inv-loop μ-loop
 returns-5 c =
     let a = c .before .before .before .before .before .before .before .before .before .before .before .before .before .before .args in
-    let s = slicesOf (now (a .table)) .inside in
+    let s = rulesOf (now (a .table)) .inside in
     let l = c .before .before .before .before .before .loop in
     let x = c .before .before .before .sweep-through .ensures .0 in
     sym (is-false (has (largest s (a .n) (a .w)) (a .v))
@@ -90,7 +91,7 @@ loop-again c =
     let p = c .before .before .before .before .before .before .before .before .before .before .before .before .before .before in
     let x = c .before .before .before .sweep-through .ensures in (
       x .1,
-      swept-largest (p .args .n) (inside-grows (table-lawful (p .pre .0))) (x .0) ∙ c .before .before .before .before .before .loop .inv .1,
+      swept-largest (p .args .n) (inside-grows (rows-lawful (p .pre .0))) (x .0) ∙ c .before .before .before .before .before .loop .inv .1,
       sym (c .before .has2 .ensures) ∙ not-false _ (c .if5 .left),
     )
 

@@ -5,15 +5,16 @@ use denote.Ref.{now}
 use Rattle.one_round.specs.Inner.Places.{Places}
 use Rattle.one_round.specs.Inner.Swept.{Swept}
 use Rattle.sets.specs.Quorum.{largest}
-use Rattle.sets.specs.Slices.{slicesOf}
 use Rattle.one_round.proofs.Sweeps.{swept-still, swept-less, swept-largest}
-use Rattle.sets.proofs.Lawful.{inside-grows, table-lawful}
+use Rattle.sets.proofs.Lawful.{inside-grows}
 use Rattle.sets.proofs.Quorum.{largest-stop, largest-step}
 use Rattle.rounds.proofs.largest_set.Statement.{statement}
 use Rattle.rounds.proofs.largest_set.Tie as tie
+use Rattle.sets.proofs.Rows.{rows-lawful}
+use Rattle.sets.specs.Rows.{rulesOf}
 
 abbrev Inv-loop : tie.InvT-loop
-Inv-loop table n w places₀ set₀ places set = Places table n set places × (largest (slicesOf table .inside) n set ≡ largest (slicesOf table .inside) n w)
+Inv-loop table n w places₀ set₀ places set = Places table n set places × (largest (rulesOf table .inside) n set ≡ largest (rulesOf table .inside) n w)
 
 abbrev μ-loop : tie.MeasureT-loop
 μ-loop table n w places₀ set₀ places set = set
@@ -24,12 +25,12 @@ first-round-requires c κs = (c .before .before .pre, refl)
 returns : tie.Need-returns Inv-loop μ-loop
 returns c =
     let a = c .before .before .before .before .args in
-    c .if1 .taken ∙ sym (largest-stop (slicesOf (now (a .table)) .inside) (a .n) (a .w) (sym (c .before .first-round .ensures .0) ∙ c .if1 .taken))
+    c .if1 .taken ∙ sym (largest-stop (rulesOf (now (a .table)) .inside) (a .n) (a .w) (sym (c .before .first-round .ensures .0) ∙ c .if1 .taken))
 
 loop-holds : tie.Need-loop-holds Inv-loop μ-loop
 loop-holds c =
     let a = c .before .before .before .before .args in
-    let s = slicesOf (now (a .table)) .inside in
+    let s = rulesOf (now (a .table)) .inside in
     let r = c .before .first-round .ensures in
     (r .1, ap (largest s (a .n)) (r .0) ∙ sym (largest-step s (a .n) (a .w) (λ q. c .if1 .left (r .0 ∙ q))))
 
@@ -39,7 +40,7 @@ sweep-through-requires c κs = (c .before .before .before .before .before .befor
 returns-2 : tie.Need-returns-2 Inv-loop μ-loop
 returns-2 c =
     let a = c .before .before .before .before .before .before .before .before .args in
-    let s = slicesOf (now (a .table)) .inside in
+    let s = rulesOf (now (a .table)) .inside in
     let l = c .before .before .before .loop in
     let e = swept-still (a .n) (subst (λ (k : ℕ). Swept s (a .n) (l .set) k) (c .if2 .taken) (c .before .sweep-through .ensures .0)) in
     sym (largest-stop s (a .n) (l .set) e) ∙ l .inv .1
@@ -51,7 +52,7 @@ loop-again : tie.Need-loop-again Inv-loop μ-loop
 loop-again c =
     let p = c .before .before .before .before .before .before .before .before in
     let x = c .before .sweep-through .ensures in
-    (x .1, swept-largest (p .args .n) (inside-grows (table-lawful (p .pre))) (x .0) ∙ c .before .before .before .loop .inv .1)
+    (x .1, swept-largest (p .args .n) (inside-grows (rows-lawful (p .pre))) (x .0) ∙ c .before .before .before .loop .inv .1)
 
 pub largest-set-spec : {M : Type 1} → statement M
 largest-set-spec =

@@ -12,6 +12,7 @@ use Rattle.ground.proofs.Every.{every-none, every-more, every-not}
 use Rattle.ground.specs.Search.{every}
 use Rattle.masks.specs.Mask.{minus, others}
 use Rattle.sets.specs.Slices.{slicesOf}
+use Rattle.sets.proofs.Rows.{listed-blocked}
 use Rattle.sets.proofs.blocks.Statement.{statement}
 use Rattle.table.proofs.Table.{count-at, slice-at}
 use Rattle.table.specs.Table.{countOf, sliceOf}
@@ -33,7 +34,7 @@ loop-holds c =
     let p = c .before .before .before .before .pre in
     let own = c .before .before .single .ensures in (
       search needs,
-      subst (λ (k : ℕ). k ≤ 62) (count-at (now (a .table)) (a .v)) (p .0 .few-slices (a .v) (p .1)),
+      subst (λ (k : ℕ). k ≤ 62) (count-at (now (a .table)) (a .v)) (p .0 .listed (a .v) (p .1) .few-slices),
       c .before .minus .ensures ∙ ap (minus (a .w)) own,
       every-none _,
     )
@@ -41,7 +42,8 @@ loop-holds c =
 returns : tie.Need-returns Inv-loop μ-loop
 unfolding slicesOf
 returns c =
-    let a = c .before .before .before .before .before .before .before .before .args in
+    let p = c .before .before .before .before .before .before .before .before in
+    let a = p .args in
     let t = now (a .table) in
     let o = others (a .w) (a .v) in
     let i = c .before .before .before .loop .i in
@@ -50,6 +52,7 @@ returns c =
     ap₂ bitAnd (slice-at t (a .v) i l) (sym (c .before .before .before .loop .inv .2)) ∙ c .if1 .taken in
     sym (every-not (countOf t (a .v)) (λ k. not (eqb (bitAnd (sliceOf t (a .v) k) o) 0)) {j = i}
     (subst (λ (k : ℕ). i < k) (sym (count-at t (a .v))) (c .before .before .loop-test .taken)) (ap not (eq-eqb _ 0 e)))
+    ∙ sym (listed-blocked (p .pre .0 .listed (a .v) (p .pre .1)) (a .w))
 
 loop-again : tie.Need-loop-again Inv-loop μ-loop
 loop-again c =
@@ -66,10 +69,12 @@ loop-again c =
 returns-2 : tie.Need-returns-2 Inv-loop μ-loop
 unfolding slicesOf
 returns-2 c =
-    let a = c .before .before .before .before .before .before .args in
+    let p = c .before .before .before .before .before .before in
+    let a = p .args in
     let t = now (a .table) in
     let e : c .before .loop .i ≡ countOf t (a .v) = omega (arith, c .before .loop .inv .0, count-at t (a .v)) in
     sym (subst (λ (m : ℕ). every m (λ k. not (eqb (bitAnd (sliceOf t (a .v) k) (others (a .w) (a .v))) 0)) ≡ true) e (c .before .loop .inv .3))
+    ∙ sym (listed-blocked (p .pre .0 .listed (a .v) (p .pre .1)) (a .w))
 
 pub blocks-spec : {M : Type 1} → statement M
 blocks-spec =

@@ -8,7 +8,7 @@ use borrow.Author.Needs.{needs}
 use borrow.Author.Tests.{ltb-true, ltb-false}
 use denote.Ref.{now}
 use Rattle.ground.proofs.Logic.{cases}
-use Rattle.sets.proofs.Slices.{inside-found, inside-missed}
+use Rattle.sets.proofs.Rows.{row-found, row-missed}
 use Rattle.sets.proofs.has_slice.Statement.{statement}
 use Rattle.table.proofs.Table.{count-at}
 use Rattle.table.specs.Table.{countOf}
@@ -16,14 +16,16 @@ use Rattle.sets.proofs.has_slice.Tie as tie
 
 returns : tie.Need-returns
 returns c =
-    let a = c .before .before .before .args in
+    let p = c .before .before .before in
+    let a = p .args in
     let t = now (a .table) in
+    let row = p .pre .0 .listed (a .v) (p .pre .1) in
     let k = c .before .next-inside in
     ap (ltb (k .result)) (sym (count-at t (a .v)))
     ∙ ⊎-elim
-    (λ e. let l = ltb-true (k .result) (countOf t (a .v)) e in e ∙ sym (inside-found t (a .v) (a .u) (k .result) l (k .ensures .1 .0 l)))
+    (λ e. let l = ltb-true (k .result) (countOf t (a .v)) e in e ∙ sym (row-found row (a .u) (k .result) l (k .ensures .1 .0 l)))
     (λ e. let l = ltb-false (k .result) (countOf t (a .v)) e in
-    e ∙ sym (inside-missed t (a .v) (a .u) (λ i m. k .ensures .1 .1 .0 i zero-le (lt-of-lt-of-le m l))))
+    e ∙ sym (row-missed row (a .u) (λ i m. k .ensures .1 .1 .0 i zero-le (lt-of-lt-of-le m l))))
     (cases (ltb (k .result) (countOf t (a .v))))
 
 pub has-slice-spec : {M : Type 1} → statement M

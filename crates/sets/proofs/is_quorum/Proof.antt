@@ -14,13 +14,13 @@ use Rattle.ground.proofs.Logic.{clash}
 use Rattle.masks.proofs.Laws.Subsets.{mem, within-⊆, ∈-below}
 use Rattle.masks.specs.Mask.{within, allBelow, _∈_, _⊆_}
 use Rattle.sets.specs.Quorum.{quorum}
-use Rattle.sets.specs.Slices.{slicesOf}
+use Rattle.sets.specs.Rows.{rulesOf}
 use Rattle.sets.proofs.Quorum.{quorum-of, quorum-empty, quorum-outside, quorum-lacks}
 use Rattle.sets.proofs.is_quorum.Statement.{statement}
 use Rattle.sets.proofs.is_quorum.Tie as tie
 
 abbrev Inv-loop : tie.InvT-loop
-Inv-loop table n q v₀ v = (v ≤ n) × ((x : ℕ) → x < v → x ∈ q → slicesOf table .inside x q ≡ true)
+Inv-loop table n q v₀ v = (v ≤ n) × ((x : ℕ) → x < v → x ∈ q → rulesOf table .inside x q ≡ true)
 
 abbrev μ-loop : tie.MeasureT-loop
 μ-loop table n q v₀ v = n - v
@@ -28,7 +28,7 @@ abbrev μ-loop : tie.MeasureT-loop
 returns : tie.Need-returns Inv-loop μ-loop
 returns c =
     let a = c .before .before .args in
-    let s = slicesOf (now (a .table)) .inside in
+    let s = rulesOf (now (a .table)) .inside in
     sym (ap (quorum s (a .n)) (c .if1 .taken) ∙ quorum-empty s (a .n))
 
 returns-2 : tie.Need-returns-2 Inv-loop μ-loop
@@ -36,7 +36,7 @@ returns-2 c =
     let a = c .before .before .before .before .before .args in
     let e : within (a .q) (allBelow (a .n)) ≡ false =
     ap (within (a .q)) (sym (c .before .before .all-below .ensures)) ∙ sym (c .before .within .ensures) ∙ not-true _ (c .if2 .taken) in
-    sym (quorum-outside (slicesOf (now (a .table)) .inside) (a .n) (a .q) e)
+    sym (quorum-outside (rulesOf (now (a .table)) .inside) (a .n) (a .q) e)
 
 loop-holds : tie.Need-loop-holds Inv-loop μ-loop
 loop-holds c = (search needs, below-none _)
@@ -44,7 +44,7 @@ loop-holds c = (search needs, below-none _)
 returns-3 : tie.Need-returns-3 Inv-loop μ-loop
 returns-3 c =
     let a = c .before .before .before .before .before .before .before .before .before .before .before .args in
-    sym (quorum-lacks (slicesOf (now (a .table)) .inside) (a .n) (mem (sym (c .before .before .before .has .ensures) ∙ c .before .before .if3 .taken))
+    sym (quorum-lacks (rulesOf (now (a .table)) .inside) (a .n) (mem (sym (c .before .before .before .has .ensures) ∙ c .before .before .if3 .taken))
     (sym (c .before .has-slice .ensures) ∙ not-true _ (c .if4 .taken)))
 
 loop-again : tie.Need-loop-again Inv-loop μ-loop
@@ -63,7 +63,7 @@ returns-4 c =
     let q : a .q ⊆ allBelow (a .n) =
     within-⊆ (a .q) (allBelow (a .n))
     (ap (within (a .q)) (sym (c .before .before .before .before .all-below .ensures)) ∙ sym (c .before .before .before .within .ensures) ∙ not-false _ (c .before .before .if2 .left)) in
-    sym (quorum-of (slicesOf (now (a .table)) .inside) (a .n) (c .before .before .before .before .before .if1 .left) q
+    sym (quorum-of (rulesOf (now (a .table)) .inside) (a .n) (c .before .before .before .before .before .if1 .left) q
     (λ x h. l .inv .1 x (lt-of-lt-of-le (∈-below (ones-lt (a .n)) (q .each x h)) (c .loop-test .left)) h))
 
 pub is-quorum-spec : {M : Type 1} → statement M

@@ -1,0 +1,48 @@
+-- What a form shows is enough: its tests are lawful. And promises of each receiver's own view are the promises of the family.
+use Prim.Native.Nat.{ℕ}
+use mathlib.Core.Bool.{Bool, true, false, not}
+use mathlib.Core.Path.{_≡_, refl, sym, _∙_}
+use lib.Bits.{bitAnd}
+use borrow.Author.Tests.{not-false}
+use Rattle.ground.proofs.Logic.{clash, not-t}
+use Rattle.masks.proofs.Laws.Apart.{⊆-minus, ⊆-minus-apart}
+use Rattle.masks.proofs.Laws.Subsets.{⊆-refl, and-⊆-l, and-⊆-r, minus-⊆}
+use Rattle.masks.specs.Mask.{minus, others, allBelow}
+use Rattle.sets.specs.Forms.{Form, FormLawful, ViewsPromise}
+
+pub form-lawful : FormLawful
+form-lawful r n F =
+    record {
+      all-sites = refl;
+      well-formed = record {
+        one-or-more = λ v h. (allBelow n, (F .all-sites v h, ⊆-refl (allBelow n), h));
+        of-nodes = λ v q h x. x .1;
+        belongs = λ v q h x. x .2;
+      };
+      slice-inside = λ v u e.
+          let c = F .of-sites v u e in (bitAnd u (allBelow n), (c, and-⊆-r u (allBelow n), F .own v (bitAnd u (allBelow n)) c), and-⊆-l u (allBelow n));
+      inside-slice = λ v u q x sub. F .grows v q u sub (x .0);
+      deleted-or = F .deleted-or;
+      blocked-slice = λ v w q e x z.
+          clash (F .grows v q (rest v w) (⊆-minus (others w v) (x .1) z) (x .0)) (not-t (r .inside v (rest v w)) (sym (F .blocked-rest v w) ∙ e));
+      unblocked-slice = λ v w e.
+          let c = not-false (r .inside v (rest v w)) (sym (F .blocked-rest v w) ∙ e) in
+          (rest v w, (c, minus-⊆ (allBelow n) (others w v), F .own v (rest v w) c), ⊆-minus-apart (allBelow n) (others w v) (⊆-refl (rest v w)));
+    }
+  where
+    rest : ℕ → ℕ → ℕ
+    rest v w = minus (allBelow n) (others w v)
+
+pub views : ViewsPromise
+views S Q P =
+    record {
+      quorum-grows = λ v. P v .quorum-grows v;
+      blocked-grows = λ v. P v .blocked-grows v;
+      quorum-member = λ v. P v .quorum-member v;
+      quorum-inside = λ v. P v .quorum-inside v;
+      of-quorum = λ v. P v .of-quorum v;
+      nobody-blocked = λ v. P v .nobody-blocked v;
+      blocked-meets = λ v. P v .blocked-meets v;
+      unblocked-rest = λ v. P v .unblocked-rest v;
+      slice-decides = λ v. P v .slice-decides v;
+    }

@@ -1,0 +1,85 @@
+-- A checked table of whichever form is lawful; and one in memory stands in rows, whose answers are its own.
+use Prim.Native.Nat.{ℕ}
+use mathlib.Core.Bool.{true, false}
+use mathlib.Core.List.{List}
+use mathlib.Core.Path.{_≡_, refl, sym, ap}
+use lib.ListN.{length}
+use borrow.Author.Tests.{not-false}
+use Rattle.masks.proofs.Laws.Subsets.{within-⊆}
+use Rattle.masks.specs.Mask.{within, allBelow, _⊆_}
+use Rattle.refusals.proofs.First.{orElse-sound, kept}
+use Rattle.refusals.specs.declared.Check.the-variants.{Sound, Refused}
+use Rattle.refusals.specs.declared.Refusal.the-variants.{Set}
+use Rattle.sets.specs.Decides.{TableIsFbqs, TableDecides, TablePromises}
+use Rattle.sets.specs.Groups.{Groups, lists, sitesOf, fbqsIn, slicesIn, groupsCheck, Checked, outsider, setCheck, questions}
+use Rattle.sets.specs.Promises.{questionsOf}
+use Rattle.sets.specs.Rows.{Rows, rulesOf, rowQuestions, Lawful}
+use Rattle.sets.proofs.Decides.{decides}
+use Rattle.sets.proofs.Lawful.{table-lawful}
+use Rattle.sets.proofs.Promises.{promises}
+use Rattle.table.proofs.Exact.{checked}
+use Rattle.table.specs.Table.{sites, Table}
+
+pub lawful : (t : Groups) → Checked t → Lawful (fbqsIn t) (slicesIn t) (sitesOf t)
+lawful (lists t) c = table-lawful (checked t c)
+
+pub table-is-fbqs : TableIsFbqs
+table-is-fbqs t c = lawful t c .well-formed
+
+pub table-decides : TableDecides
+table-decides t c = decides (lawful t c)
+
+pub table-promises : TablePromises
+table-promises t c = promises (lawful t c)
+
+-- rows of lists
+
+pub table-rows : {t : List ℕ} {n : ℕ} → Table t n → Rows t n
+table-rows s =
+    record {
+      long = s .long;
+      some-site = s .some-site;
+      few-sites = s .few-sites;
+      listed = λ v l. record {
+        some-slice = s .some-slice v l;
+        few-slices = s .few-slices v l;
+        owner = λ i. s .owner v i l;
+        below = λ i. s .below v i l;
+        ascend = λ i. s .ascend v i l;
+      };
+    }
+
+module _ (t : List ℕ) (c : Checked (lists t)) where
+  pub checked-rows : Rows t (sites (length t))
+  checked-rows = table-rows (checked t c)
+
+  pub same-rules : rulesOf t ≡ slicesIn (lists t)
+  unfolding rulesOf
+  same-rules = refl
+
+  pub same-questions : rowQuestions t (sites (length t)) ≡ questions (lists t)
+  unfolding rowQuestions
+  same-questions = ap (λ r. questionsOf r (sites (length t))) same-rules
+
+-- a set that is taken: the table is, and the set is of its sites
+
+module _ (t : Groups) (set : ℕ) (e : setCheck t set ≡ Sound) where
+  pub set-checked : Checked t
+  unfolding setCheck
+  set-checked = orElse-sound (groupsCheck t) _ e .0
+
+  pub set-of-sites : set ⊆ allBelow (sitesOf t)
+  unfolding setCheck outsider
+  set-of-sites =
+      within-⊆ set (allBelow (sitesOf t)) (not-false (within set (allBelow (sitesOf t))) (kept _ Set (orElse-sound (groupsCheck t) _ e .1)))
+
+-- a set of n sites, or not
+
+module _ (n set : ℕ) where
+  pub no-outsider : within set (allBelow n) ≡ true → outsider n set ≡ Sound
+  unfolding outsider
+  no-outsider e = rw e refl
+
+  pub some-outsider : within set (allBelow n) ≡ false → outsider n set ≡ Refused Set
+  unfolding outsider
+  some-outsider e = rw e refl
