@@ -2,11 +2,10 @@
 ghost use mathlib.Core.Path.{_≡_};
 ghost use Prim.Native.Nat.{_<_};
 ghost use lib.ListN.{length};
-ghost use Rattle.table.specs.Table.{Table};
-ghost use Rattle.sets.specs.Promises.{questions};
 ghost use Rattle.rules.specs.State.{width};
 ghost use Rattle.rules.specs.Rules.{only, nowAccepts};
 ghost use Rattle.rules.specs.Inner.{Since};
+ghost use Rattle.sets.specs.Rows.{Rows, rowQuestions};
 
 // The site alone if b, else nobody.
 pub fn only(b: bool, v: usize) -> u64
@@ -30,13 +29,13 @@ pub fn now_accepts(
     votes_before: u64,
     accepts_before: u64,
 )
-    requires { ⌜ Table (now table) n ⌝ }
+    requires { ⌜ Rows (now table) n ⌝ }
     requires { ⌜ length (now state) ≡ width n ⌝ }
     requires { ⌜ sender < n ⌝ }
     requires { ⌜ receiver < n ⌝ }
     requires { ⌜ side < 2 ⌝ }
-    requires { ⌜ Since (questions (now table)) n sender receiver side «votes_before» «accepts_before» (now state) ⌝ }
-    ensures { λ r. ⌜ now (state .exit) ≡ nowAccepts (questions (now (table .entry))) n receiver side (now (state .entry)) ⌝ }
+    requires { ⌜ Since (rowQuestions (now table) n) n sender receiver side «votes_before» «accepts_before» (now state) ⌝ }
+    ensures { λ r. ⌜ now (state .exit) ≡ nowAccepts (rowQuestions (now (table .entry)) n) n receiver side (now (state .entry)) ⌝ }
 {
     if masks::has(state[places::accepted(n, side)], receiver as u64) {
         return;

@@ -2,10 +2,9 @@
 ghost use mathlib.Core.Path.{_≡_};
 ghost use mathlib.Core.Bool.{false};
 ghost use Prim.Native.Nat.{_<_};
-ghost use Rattle.table.specs.Table.{Table};
-ghost use Rattle.sets.specs.Promises.{questions};
 ghost use Rattle.rules.specs.Rules.{accepting};
 ghost use Rattle.rules.specs.Inner.{New};
+ghost use Rattle.sets.specs.Rows.{Rows, rowQuestions};
 
 // The receiver belongs to the largest quorum inside w. It does not belong to that inside before, where only the sender and the receiver are new. If the
 // sender has no slice inside w, it brings nobody in.
@@ -17,12 +16,12 @@ pub fn now_in_quorum(
     before: u64,
     w: u64,
 ) -> bool
-    requires { ⌜ Table (now table) n ⌝ }
+    requires { ⌜ Rows (now table) n ⌝ }
     requires { ⌜ sender < n ⌝ }
     requires { ⌜ receiver < n ⌝ }
-    requires { ⌜ questions (now table) .inQuorum receiver before ≡ false ⌝ }
+    requires { ⌜ rowQuestions (now table) n .inQuorum receiver before ≡ false ⌝ }
     requires { ⌜ New sender receiver before w ⌝ }
-    ensures { λ r. ⌜ r ≡ questions (now (table .entry)) .inQuorum receiver w ⌝ }
+    ensures { λ r. ⌜ r ≡ rowQuestions (now (table .entry)) n .inQuorum receiver w ⌝ }
 {
     if w == before {
         return false;
@@ -38,10 +37,10 @@ pub fn now_in_quorum(
 
 // The sites of others block the receiver. Those of before do not.
 fn now_blocked(table: &[u64], n: usize, receiver: usize, before: u64, others: u64) -> bool
-    requires { ⌜ Table (now table) n ⌝ }
+    requires { ⌜ Rows (now table) n ⌝ }
     requires { ⌜ receiver < n ⌝ }
-    requires { ⌜ questions (now table) .blocked receiver before ≡ false ⌝ }
-    ensures { λ r. ⌜ r ≡ questions (now (table .entry)) .blocked receiver others ⌝ }
+    requires { ⌜ rowQuestions (now table) n .blocked receiver before ≡ false ⌝ }
+    ensures { λ r. ⌜ r ≡ rowQuestions (now (table .entry)) n .blocked receiver others ⌝ }
 {
     if others == before {
         return false;
@@ -61,13 +60,13 @@ pub fn now_accepting(
     votes: u64,
     accepts: u64,
 ) -> bool
-    requires { ⌜ Table (now table) n ⌝ }
+    requires { ⌜ Rows (now table) n ⌝ }
     requires { ⌜ sender < n ⌝ }
     requires { ⌜ receiver < n ⌝ }
-    requires { ⌜ accepting (questions (now table)) receiver «votes_before» «accepts_before» ≡ false ⌝ }
+    requires { ⌜ accepting (rowQuestions (now table) n) receiver «votes_before» «accepts_before» ≡ false ⌝ }
     requires { ⌜ New sender receiver «votes_before» votes ⌝ }
     requires { ⌜ New sender receiver «accepts_before» accepts ⌝ }
-    ensures { λ r. ⌜ r ≡ accepting (questions (now (table .entry))) receiver votes accepts ⌝ }
+    ensures { λ r. ⌜ r ≡ accepting (rowQuestions (now (table .entry)) n) receiver votes accepts ⌝ }
 {
     let own = masks::single(receiver as u64);
     let before = masks::minus(accepts_before, own);

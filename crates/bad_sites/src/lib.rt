@@ -3,11 +3,10 @@ ghost use mathlib.Core.Path.{_≡_};
 ghost use Prim.Native.Nat.{_<_};
 ghost use lib.ListN.{length};
 ghost use Rattle.ground.specs.Search.{some};
-ghost use Rattle.table.specs.Table.{Table};
-ghost use Rattle.sets.specs.Promises.{questions};
 ghost use Rattle.rules.specs.State.{width};
 ghost use Rattle.rules.specs.Sound.{badSide, badSite};
 ghost use Rattle.asking.specs.Inner.{Asked};
+ghost use Rattle.sets.specs.Rows.{Rows, rowQuestions};
 
 // One site and one side. The rules are asked last: they cost most.
 fn is_bad_side(
@@ -19,13 +18,13 @@ fn is_bad_side(
     side: usize,
     asked: &mut [u64; 2],
 ) -> bool
-    requires { ⌜ Table (now table) n ⌝ }
+    requires { ⌜ Rows (now table) n ⌝ }
     requires { ⌜ length (now state) ≡ width n ⌝ }
     requires { ⌜ v < n ⌝ }
     requires { ⌜ side < 2 ⌝ }
-    requires { ⌜ Asked (questions (now table)) n (now asked) ⌝ }
-    ensures { λ r. ⌜ r ≡ badSide (questions (now (table .entry))) n faulty (now (state .entry)) v side ⌝ }
-    ensures { λ r. ⌜ Asked (questions (now (table .entry))) n (now (asked .exit)) ⌝ }
+    requires { ⌜ Asked (rowQuestions (now table) n) n (now asked) ⌝ }
+    ensures { λ r. ⌜ r ≡ badSide (rowQuestions (now (table .entry)) n) n faulty (now (state .entry)) v side ⌝ }
+    ensures { λ r. ⌜ Asked (rowQuestions (now (table .entry)) n) n (now (asked .exit)) ⌝ }
 {
     let votes = state[places::votes(side, v)];
     let accepts = state[places::accepts(side, v)];
@@ -53,12 +52,12 @@ fn is_bad_site(
     v: usize,
     asked: &mut [u64; 2],
 ) -> bool
-    requires { ⌜ Table (now table) n ⌝ }
+    requires { ⌜ Rows (now table) n ⌝ }
     requires { ⌜ length (now state) ≡ width n ⌝ }
     requires { ⌜ v < n ⌝ }
-    requires { ⌜ Asked (questions (now table)) n (now asked) ⌝ }
-    ensures { λ r. ⌜ r ≡ badSite (questions (now (table .entry))) n faulty (now (state .entry)) v ⌝ }
-    ensures { λ r. ⌜ Asked (questions (now (table .entry))) n (now (asked .exit)) ⌝ }
+    requires { ⌜ Asked (rowQuestions (now table) n) n (now asked) ⌝ }
+    ensures { λ r. ⌜ r ≡ badSite (rowQuestions (now (table .entry)) n) n faulty (now (state .entry)) v ⌝ }
+    ensures { λ r. ⌜ Asked (rowQuestions (now (table .entry)) n) n (now (asked .exit)) ⌝ }
 {
     if is_bad_side(table, n, faulty, state, v, 0, asked) {
         return true;
@@ -68,9 +67,9 @@ fn is_bad_site(
 
 // Some site is bad.
 pub fn some_bad_site(table: &[u64], n: usize, faulty: u64, state: &[u64]) -> bool
-    requires { ⌜ Table (now table) n ⌝ }
+    requires { ⌜ Rows (now table) n ⌝ }
     requires { ⌜ length (now state) ≡ width n ⌝ }
-    ensures { λ r. ⌜ r ≡ some n (badSite (questions (now (table .entry))) n faulty (now (state .entry))) ⌝ }
+    ensures { λ r. ⌜ r ≡ some n (badSite (rowQuestions (now (table .entry)) n) n faulty (now (state .entry))) ⌝ }
 {
     let mut asked = [0u64; 2];
     let mut v: usize = 0;

@@ -1,11 +1,10 @@
 // The clauses of 18 for one site and one side: the votes and accepts that it heard, and the masks voted, accepted and confirmed of that side.
 ghost use mathlib.Core.Path.{_≡_};
 ghost use Prim.Native.Nat.{_<_};
-ghost use Rattle.table.specs.Table.{Table};
-ghost use Rattle.sets.specs.Promises.{questions};
 ghost use Rattle.rules.specs.Rules.{accepting};
 ghost use Rattle.rules.specs.Sound.{differ, notZero, notOwn, notRule, notSent};
 ghost use Rattle.asking.specs.Inner.{Asked};
+ghost use Rattle.sets.specs.Rows.{Rows, rowQuestions};
 
 // One test holds and not the other.
 fn differ(a: bool, b: bool) -> bool
@@ -67,11 +66,11 @@ fn is_accepting(
     accepts: u64,
     asked: &mut [u64; 2],
 ) -> bool
-    requires { ⌜ Table (now table) n ⌝ }
+    requires { ⌜ Rows (now table) n ⌝ }
     requires { ⌜ v < n ⌝ }
-    requires { ⌜ Asked (questions (now table)) n (now asked) ⌝ }
-    ensures { λ r. ⌜ r ≡ accepting (questions (now (table .entry))) v votes accepts ⌝ }
-    ensures { λ r. ⌜ Asked (questions (now (table .entry))) n (now (asked .exit)) ⌝ }
+    requires { ⌜ Asked (rowQuestions (now table) n) n (now asked) ⌝ }
+    ensures { λ r. ⌜ r ≡ accepting (rowQuestions (now (table .entry)) n) v votes accepts ⌝ }
+    ensures { λ r. ⌜ Asked (rowQuestions (now (table .entry)) n) n (now (asked .exit)) ⌝ }
 {
     let others = masks::minus(accepts, masks::single(v as u64));
     if asking::blocked(table, n, v, others) {
@@ -91,11 +90,11 @@ pub fn is_not_rule(
     confirmed: u64,
     asked: &mut [u64; 2],
 ) -> bool
-    requires { ⌜ Table (now table) n ⌝ }
+    requires { ⌜ Rows (now table) n ⌝ }
     requires { ⌜ v < n ⌝ }
-    requires { ⌜ Asked (questions (now table)) n (now asked) ⌝ }
-    ensures { λ r. ⌜ r ≡ notRule (questions (now (table .entry))) v votes accepts accepted confirmed ⌝ }
-    ensures { λ r. ⌜ Asked (questions (now (table .entry))) n (now (asked .exit)) ⌝ }
+    requires { ⌜ Asked (rowQuestions (now table) n) n (now asked) ⌝ }
+    ensures { λ r. ⌜ r ≡ notRule (rowQuestions (now (table .entry)) n) v votes accepts accepted confirmed ⌝ }
+    ensures { λ r. ⌜ Asked (rowQuestions (now (table .entry)) n) n (now (asked .exit)) ⌝ }
 {
     if differ(
         masks::has(accepted, v as u64),

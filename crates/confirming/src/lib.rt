@@ -3,12 +3,11 @@ ghost use mathlib.Core.Path.{_≡_};
 ghost use mathlib.Core.Bool.{true};
 ghost use Prim.Native.Nat.{_<_};
 ghost use lib.ListN.{length};
-ghost use Rattle.table.specs.Table.{Table};
-ghost use Rattle.sets.specs.Promises.{questions};
 ghost use Rattle.masks.specs.Mask.{_∈_};
 ghost use Rattle.rules.specs.State.{accepts, confirmed, width, get};
 ghost use Rattle.rules.specs.Rules.{confirming, nowConfirms};
 ghost use Rattle.rules.specs.Inner.{New};
+ghost use Rattle.sets.specs.Rows.{Rows, rowQuestions};
 
 // The receiver confirms if the rule says so. If it has confirmed, nothing is asked.
 pub fn now_confirms(
@@ -20,14 +19,14 @@ pub fn now_confirms(
     side: usize,
     accepts_before: u64,
 )
-    requires { ⌜ Table (now table) n ⌝ }
+    requires { ⌜ Rows (now table) n ⌝ }
     requires { ⌜ length (now state) ≡ width n ⌝ }
     requires { ⌜ sender < n ⌝ }
     requires { ⌜ receiver < n ⌝ }
     requires { ⌜ side < 2 ⌝ }
     requires { ⌜ New sender receiver «accepts_before» (get (now state) (accepts side receiver)) ⌝ }
-    requires { ⌜ (confirming (questions (now table)) receiver «accepts_before» ≡ true → receiver ∈ get (now state) (confirmed n side)) ⌝ }
-    ensures { λ r. ⌜ now (state .exit) ≡ nowConfirms (questions (now (table .entry))) n receiver side (now (state .entry)) ⌝ }
+    requires { ⌜ (confirming (rowQuestions (now table) n) receiver «accepts_before» ≡ true → receiver ∈ get (now state) (confirmed n side)) ⌝ }
+    ensures { λ r. ⌜ now (state .exit) ≡ nowConfirms (rowQuestions (now (table .entry)) n) n receiver side (now (state .entry)) ⌝ }
 {
     if masks::has(state[places::confirmed(n, side)], receiver as u64) {
         return;

@@ -2,11 +2,10 @@
 ghost use mathlib.Core.Path.{_≡_};
 ghost use Prim.Native.Nat.{_<_, _≤_};
 ghost use lib.ListN.{length};
-ghost use Rattle.table.specs.Table.{Table};
-ghost use Rattle.sets.specs.Promises.{questions};
 ghost use Rattle.rules.specs.State.{votes, accepts, width, get};
 ghost use Rattle.rules.specs.Rules.{hears, taken};
 ghost use Rattle.rules.specs.Inner.{InRange, Since};
+ghost use Rattle.sets.specs.Rows.{Rows, rowQuestions};
 ghost use Rattle.votes.specs.Call.{call};
 
 // The site votes, and hears its own vote.
@@ -51,11 +50,11 @@ pub fn take(
     to: usize,
     side: usize,
 )
-    requires { ⌜ Table (now table) n ⌝ }
+    requires { ⌜ Rows (now table) n ⌝ }
     requires { ⌜ length (now state) ≡ width n ⌝ }
     requires { ⌜ InRange n (call kind from to side) ⌝ }
-    requires { ⌜ Since (questions (now table)) n from to side (get (now state) (votes side to)) (get (now state) (accepts side to)) (now state) ⌝ }
-    ensures { λ r. ⌜ now (state .exit) ≡ taken (questions (now (table .entry))) n (call kind from to side) (now (state .entry)) ⌝ }
+    requires { ⌜ Since (rowQuestions (now table) n) n from to side (get (now state) (votes side to)) (get (now state) (accepts side to)) (now state) ⌝ }
+    ensures { λ r. ⌜ now (state .exit) ≡ taken (rowQuestions (now (table .entry)) n) n (call kind from to side) (now (state .entry)) ⌝ }
 {
     let votes_before = state[places::votes(side, to)];
     let accepts_before = state[places::accepts(side, to)];

@@ -20,16 +20,17 @@ use Rattle.rules.proofs.SoundLaws.{fresh-sound}
 use Rattle.rules.proofs.State.{below-refl, below-trans, below-antisym, fresh-none, fresh-least}
 use Rattle.rules.proofs.Steps.{step-sound, step-adds, step-mono, taken-stays}
 use Rattle.rules.proofs.Taken.{taken-voted}
-use Rattle.rules.proofs.WorkWays.{table-rests}
+use Rattle.rules.proofs.WorkWays.{table-rests, rows-rests}
 use Rattle.rules.specs.Inner.{heard}
 use Rattle.rules.specs.Rules.{answer, against, taken}
 use Rattle.rules.specs.Sound.{Sound}
 use Rattle.rules.specs.State.{voted, width, get, Below}
 use Rattle.rules.specs.Theorems.{Rests}
-use Rattle.rules.specs.Vote.{vote, voteOf}
+use Rattle.rules.specs.Vote.{vote, voteOf, rowVote}
+use Rattle.sets.specs.Groups.{Groups, Checked}
 use Rattle.sets.specs.Paper.{Fbqs}
 use Rattle.sets.specs.Promises.{Questions}
-use Rattle.table.specs.Table.{Table}
+use Rattle.sets.specs.Rows.{Rows}
 use Rattle.votes.specs.Call.{Call}
 use Rattle.votes.specs.Inner.{Lawful, Fits}
 use Rattle.votes.specs.Vote.{Vote, fresh, step}
@@ -136,6 +137,9 @@ module _ {Σ : ℕ → Fbqs} {Q : Questions} {n : ℕ} (R : Rests Σ Q n) (F : �
     mono = mono;
   }
 
--- of a table in memory
-pub lawful : {t : List ℕ} {n : ℕ} → Table t n → (F : ℕ) → Lawful (voteOf t n F)
-lawful table F = vote-lawful (table-rests table) F
+-- of rows, and of a checked table
+pub rows-vote : {t : List ℕ} {n : ℕ} → Rows t n → (F : ℕ) → Lawful (rowVote t n F)
+rows-vote rows F = vote-lawful (rows-rests rows) F
+
+pub table-vote : (t : Groups) → Checked t → (F : ℕ) → Lawful (voteOf t F)
+table-vote t c F = vote-lawful (table-rests t c) F

@@ -2,10 +2,10 @@
 ghost use mathlib.Core.Path.{_≡_};
 ghost use Prim.Native.Nat.{_+_, _*_, _<_};
 ghost use lib.ListN.{length};
-ghost use Rattle.table.specs.Table.{Table};
-ghost use Rattle.rules.specs.Vote.{voteOf};
+ghost use Rattle.rules.specs.Vote.{rowVote};
 ghost use Rattle.pass.specs.Calls.{calls, callAt};
 ghost use Rattle.pass.specs.Inner.{Passed};
+ghost use Rattle.sets.specs.Rows.{Rows};
 ghost use Rattle.votes.specs.Inner.{Works};
 use refusals::Check;
 
@@ -18,10 +18,10 @@ pub fn work_at(
     i: usize,
     state: &mut [u64],
 ) -> taking::Worked
-    requires { ⌜ Table (now table) n ⌝ }
-    requires { ⌜ voteOf (now table) n faulty .Sound (now state) ⌝ }
+    requires { ⌜ Rows (now table) n ⌝ }
+    requires { ⌜ rowVote (now table) n faulty .Sound (now state) ⌝ }
     requires { ⌜ 4 * i + 3 < length (now list) ⌝ }
-    ensures { λ r. ⌜ Works (voteOf (now (table .entry)) n faulty) (callAt (now (list .entry)) i)
+    ensures { λ r. ⌜ Works (rowVote (now (table .entry)) n faulty) (callAt (now (list .entry)) i)
         (now (state .entry)) (r .answer) (r .changed) (now (state .exit)) ⌝ }
 {
     let at = 4 * i;
@@ -49,10 +49,10 @@ pub fn over_all(
     state: &mut [u64],
     answers: &mut [u8],
 ) -> bool
-    requires { ⌜ Table (now table) n ⌝ }
-    requires { ⌜ voteOf (now table) n faulty .Sound (now state) ⌝ }
+    requires { ⌜ Rows (now table) n ⌝ }
+    requires { ⌜ rowVote (now table) n faulty .Sound (now state) ⌝ }
     requires { ⌜ length (now list) ≡ 4 * length (now answers) ⌝ }
-    ensures { λ r. ⌜ Passed (voteOf (now (table .entry)) n faulty) (calls (now (list .entry)))
+    ensures { λ r. ⌜ Passed (rowVote (now (table .entry)) n faulty) (calls (now (list .entry)))
         (now (state .entry)) r (now (state .exit)) (now (answers .exit)) ⌝ }
 {
     let mut changed = false;

@@ -2,10 +2,10 @@
 ghost use mathlib.Core.Path.{_≡_};
 ghost use Prim.Native.Nat.{_+_, _*_, _<_};
 ghost use lib.ListN.{length, getD};
-ghost use Rattle.table.specs.Table.{Table};
-ghost use Rattle.rules.specs.Vote.{voteOf};
+ghost use Rattle.rules.specs.Vote.{rowVote};
 ghost use Rattle.pass.specs.Calls.{calls, callAt};
 ghost use Rattle.pass_again.specs.Inner.{Again, Waiting, PassedAgain};
+ghost use Rattle.sets.specs.Rows.{Rows};
 
 // Whether a call that has waited changed the state, and whether it waits still.
 struct Turn {
@@ -23,12 +23,12 @@ fn work_again(
     state: &mut [u64],
     answers: &mut [u8],
 ) -> Turn
-    requires { ⌜ Table (now table) n ⌝ }
-    requires { ⌜ voteOf (now table) n faulty .Sound (now state) ⌝ }
+    requires { ⌜ Rows (now table) n ⌝ }
+    requires { ⌜ rowVote (now table) n faulty .Sound (now state) ⌝ }
     requires { ⌜ 4 * i + 3 < length (now list) ⌝ }
     requires { ⌜ i < length (now answers) ⌝ }
     requires { ⌜ getD (now answers) i 0 ≡ 15 ⌝ }
-    ensures { λ r. ⌜ Again (voteOf (now (table .entry)) n faulty) (callAt (now (list .entry)) i) i
+    ensures { λ r. ⌜ Again (rowVote (now (table .entry)) n faulty) (callAt (now (list .entry)) i) i
         (now (state .entry)) (now (answers .entry)) (r .changed) (r .waits) (now (state .exit)) (now (answers .exit)) ⌝ }
 {
     let worked = pass::work_at(table, n, faulty, list, i, state);
@@ -64,9 +64,9 @@ pub fn over_waiting(
     waiting: &mut [u16],
     count: usize,
 ) -> Round
-    requires { ⌜ Table (now table) n ⌝ }
-    requires { ⌜ Waiting (voteOf (now table) n faulty) (now list) (now state) (now answers) count (now waiting) ⌝ }
-    ensures { λ r. ⌜ PassedAgain (voteOf (now (table .entry)) n faulty) (calls (now (list .entry)))
+    requires { ⌜ Rows (now table) n ⌝ }
+    requires { ⌜ Waiting (rowVote (now table) n faulty) (now list) (now state) (now answers) count (now waiting) ⌝ }
+    ensures { λ r. ⌜ PassedAgain (rowVote (now (table .entry)) n faulty) (calls (now (list .entry)))
         (now (state .entry)) count (r .changed) (r .count) (now (state .exit)) (now (answers .exit)) (now (waiting .exit)) ⌝ }
 {
     let mut changed = false;

@@ -2,10 +2,10 @@
 ghost use mathlib.Core.Path.{_≡_};
 ghost use Prim.Native.Nat.{_*_, _≤_};
 ghost use lib.ListN.{length, replicate};
-ghost use Rattle.table.specs.Table.{Table};
-ghost use Rattle.rules.specs.Vote.{voteOf};
+ghost use Rattle.rules.specs.Vote.{rowVote};
 ghost use Rattle.pass.specs.Calls.{calls};
 ghost use Rattle.passes.specs.Inner.{Begun, Whole};
+ghost use Rattle.sets.specs.Rows.{Rows};
 
 // Passes after a first one that changed the state, until one changes nothing: how many, the first and the last counted.
 fn run_on(
@@ -17,9 +17,9 @@ fn run_on(
     answers: &mut [u8],
     waiting: &mut [u16],
 ) -> u64
-    requires { ⌜ Table (now table) n ⌝ }
-    requires { ⌜ Begun (voteOf (now table) n faulty) (now list) (now state) (now answers) (now waiting) ⌝ }
-    ensures { λ r. ⌜ Whole (voteOf (now (table .entry)) n faulty) (calls (now (list .entry))) r (now (state .exit)) (now (answers .exit)) ⌝ }
+    requires { ⌜ Rows (now table) n ⌝ }
+    requires { ⌜ Begun (rowVote (now table) n faulty) (now list) (now state) (now answers) (now waiting) ⌝ }
+    ensures { λ r. ⌜ Whole (rowVote (now (table .entry)) n faulty) (calls (now (list .entry))) r (now (state .exit)) (now (answers .exit)) ⌝ }
 {
     let mut count = waiting::gather(answers, waiting);
     let mut passes = 1u64;
@@ -62,11 +62,11 @@ pub fn run_fresh(
     state: &mut [u64],
     answers: &mut [u8],
 ) -> u64
-    requires { ⌜ Table (now table) n ⌝ }
-    requires { ⌜ length (now state) ≡ voteOf (now table) n faulty .width ⌝ }
+    requires { ⌜ Rows (now table) n ⌝ }
+    requires { ⌜ length (now state) ≡ rowVote (now table) n faulty .width ⌝ }
     requires { ⌜ length (now list) ≡ 4 * length (now answers) ⌝ }
     requires { ⌜ length (now answers) ≤ 4096 ⌝ }
-    ensures { λ r. ⌜ Whole (voteOf (now (table .entry)) n faulty) (calls (now (list .entry))) r (now (state .exit)) (now (answers .exit)) ⌝ }
+    ensures { λ r. ⌜ Whole (rowVote (now (table .entry)) n faulty) (calls (now (list .entry))) r (now (state .exit)) (now (answers .exit)) ⌝ }
 {
     clear(state);
     let changed = pass::over_all(table, n, faulty, list, state, answers);

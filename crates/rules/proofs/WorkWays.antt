@@ -8,10 +8,8 @@ use Rattle.masks.proofs.Laws.AllBelow.{in-all}
 use Rattle.masks.proofs.Laws.Subsets.{mem}
 use Rattle.masks.specs.Mask.{has, single, minus, others, _∈_}
 use Rattle.refusals.specs.declared.Check.{Check}
-use Rattle.sets.proofs.Promises.{table-promises}
-use Rattle.sets.specs.Promises.{Questions, questions}
-use Rattle.sets.specs.Slices.{fbqsOf}
-use Rattle.table.specs.Table.{Table, sites}
+use Rattle.sets.proofs.Groups.{lawful, table-promises}
+use Rattle.sets.specs.Promises.{Questions}
 use Rattle.rules.specs.Rules.{only, accepting, confirming, nowAccepts, nowConfirms, hears, taken}
 use Rattle.rules.specs.State.{votes, accepts, voted, accepted, confirmed, get, add}
 use Rattle.rules.specs.Theorems.{Rests}
@@ -21,10 +19,16 @@ use Rattle.rules.proofs.RuleLaws.{others-found, by-blocked, unblocked}
 use Rattle.votes.specs.Call.{call, Call}
 use Rattle.votes.specs.Inner.{Works}
 use Rattle.rules.specs.Vote.{vote}
+use Rattle.sets.proofs.Rows.{rows-promises}
+use Rattle.sets.specs.Groups.{questions, Groups, sitesOf, fbqsIn, Checked}
+use Rattle.sets.specs.Rows.{Rows, rulesOf, rowQuestions, closure}
 
--- what the rules rest on, of a checked table
-pub table-rests : {t : List ℕ} {n : ℕ} → Table t n → Rests (λ v. fbqsOf t n) (questions t) n
-table-rests {t} {n} table = record { promises = table-promises t n table; sites = λ v l. in-all l }
+-- what the rules rest on, of a checked table and of rows
+pub table-rests : (t : Groups) → Checked t → Rests (λ v. fbqsIn t) (questions t) (sitesOf t)
+table-rests t c = record { promises = table-promises t c; sites = λ v l. subst (λ (x : ℕ). v ∈ x) (sym (lawful t c .all-sites)) (in-all l) }
+
+pub rows-rests : {t : List ℕ} {n : ℕ} → Rows t n → Rests (λ v. closure (rulesOf t) n) (rowQuestions t n) n
+rows-rests rows = record { promises = rows-promises rows; sites = λ v l. in-all l }
 
 -- the rule for accepting, with the accepts of the others in o, and whether those block in d
 module _ (Q : Questions) (v heardVotes heardAccepts : ℕ) {m o : ℕ} (em : m ≡ single v) (eo : o ≡ minus heardAccepts m) {d : Bool}

@@ -5,7 +5,9 @@ use Rattle.masks.specs.Mask.{_∈_}
 use Rattle.rules.specs.Rules.{answer, taken}
 use Rattle.rules.specs.Sound.{Sound}
 use Rattle.rules.specs.State.{width, Below}
-use Rattle.sets.specs.Promises.{Questions, questions}
+use Rattle.sets.specs.Groups.{questions, Groups, sitesOf}
+use Rattle.sets.specs.Promises.{Questions}
+use Rattle.sets.specs.Rows.{rowQuestions}
 use Rattle.votes.specs.Vote.{Vote}
 
 -- of n sites, those of F faulty; "the list proposes both sides to no correct site"
@@ -19,6 +21,10 @@ vote Q n F = record {
   OneSided = λ May. (v : ℕ) → v < n → (v ∈ F → ⊥) → May v 0 → May v 1 → ⊥;
 }
 
--- of a table in memory of n sites
-abbrev pub voteOf : List ℕ → ℕ → ℕ → Vote
-voteOf t n F = vote (questions t) n F
+-- of a table, the sites of F faulty
+abbrev pub voteOf : Groups → ℕ → Vote
+voteOf t F = vote (questions t) (sitesOf t) F
+
+-- of the rows of n sites, as the functions inside know it
+abbrev pub rowVote : List ℕ → ℕ → ℕ → Vote
+rowVote rows n F = vote (rowQuestions rows n) n F

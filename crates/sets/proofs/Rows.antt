@@ -13,7 +13,7 @@ use Rattle.masks.specs.Mask.{has, within, minus, others, allBelow}
 use Rattle.sets.specs.Forms.{Form}
 use Rattle.sets.specs.Promises.{Promises, questionsOf}
 use Rattle.sets.specs.Quorum.{largest}
-use Rattle.sets.specs.Rows.{Listed, Rows, rulesOf, rowQuestions, closure, Lawful}
+use Rattle.sets.specs.Rows.{ListedRow, Rows, rulesOf, rowQuestions, closure, Lawful}
 use Rattle.sets.specs.Slices.{slicesOf}
 use Rattle.sets.proofs.Forms.{form-lawful}
 use Rattle.sets.proofs.Promises.{promises}
@@ -22,7 +22,7 @@ use Rattle.table.specs.Table.{countOf, sliceOf}
 
 -- a row that lists its slices
 
-module _ {t : List ℕ} {n v : ℕ} (listed : Listed t n v) where
+module _ {t : List ℕ} {n v : ℕ} (listed : ListedRow t n v) where
   pub listed-inside : (u : ℕ) → rulesOf t .inside v u ≡ slicesOf t .inside v u
   unfolding rulesOf
   listed-inside u = refl

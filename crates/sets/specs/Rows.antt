@@ -13,7 +13,7 @@ use Rattle.sets.specs.Slices.{Slices, slicesOf}
 use Rattle.table.specs.Table.{countOf, sliceOf}
 
 -- site v of n sites has a row that lists its slices
-pub record Listed (rows : List ℕ) (n v : ℕ) : Type 0 where
+pub record ListedRow (rows : List ℕ) (n v : ℕ) : Type 0 where
   pub some-slice : 1 ≤ countOf rows v
   pub few-slices : countOf rows v ≤ 62
   pub owner : (i : ℕ) → i < countOf rows v → v ∈ sliceOf rows v i
@@ -25,7 +25,7 @@ pub record Rows (rows : List ℕ) (n : ℕ) : Type 0 where
   pub long : length rows ≡ 63 * n
   pub some-site : 1 ≤ n
   pub few-sites : n ≤ 64
-  pub listed : (v : ℕ) → v < n → Listed rows n v
+  pub listed : (v : ℕ) → v < n → ListedRow rows n v
 
 -- what rows answer of their slices
 unfoldable pub rulesOf : List ℕ → Slices

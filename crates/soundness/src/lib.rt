@@ -5,10 +5,9 @@ ghost use mathlib.Core.Bool.{not};
 ghost use lib.ListN.{length};
 ghost use Rattle.ground.specs.Search.{some};
 ghost use Rattle.masks.specs.Mask.{within, allBelow};
-ghost use Rattle.table.specs.Table.{Table};
-ghost use Rattle.sets.specs.Promises.{questions};
 ghost use Rattle.rules.specs.State.{get};
 ghost use Rattle.rules.specs.Sound.{unsound};
+ghost use Rattle.sets.specs.Rows.{Rows, rowQuestions};
 
 // A bit at or above n in one of the state's numbers.
 fn some_bit_above(n: usize, state: &[u64]) -> bool
@@ -28,8 +27,8 @@ fn some_bit_above(n: usize, state: &[u64]) -> bool
 
 // The state is unsound.
 pub fn is_unsound(table: &[u64], n: usize, faulty: u64, state: &[u64]) -> bool
-    requires { ⌜ Table (now table) n ⌝ }
-    ensures { λ r. ⌜ r ≡ unsound (questions (now (table .entry))) n faulty (now (state .entry)) ⌝ }
+    requires { ⌜ Rows (now table) n ⌝ }
+    ensures { λ r. ⌜ r ≡ unsound (rowQuestions (now (table .entry)) n) n faulty (now (state .entry)) ⌝ }
 {
     if state.len() != places::width(n) {
         return true;

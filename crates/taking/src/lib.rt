@@ -1,11 +1,10 @@
 // A call on a sound state: its answer, and whether the state changed.
 ghost use mathlib.Core.Path.{_≡_};
 ghost use Rattle.refusals.specs.declared.Check as Answer;
-ghost use Rattle.table.specs.Table.{Table};
-ghost use Rattle.sets.specs.Promises.{questions};
 ghost use Rattle.rules.specs.Rules.{answer};
 ghost use Rattle.rules.specs.Sound.{Sound};
-ghost use Rattle.rules.specs.Vote.{voteOf};
+ghost use Rattle.rules.specs.Vote.{rowVote};
+ghost use Rattle.sets.specs.Rows.{Rows, rowQuestions};
 ghost use Rattle.votes.specs.Call.{call};
 ghost use Rattle.votes.specs.Inner.{Works};
 use refusals::Check;
@@ -21,10 +20,10 @@ pub fn change(
     to: usize,
     side: usize,
 ) -> bool
-    requires { ⌜ Table (now table) n ⌝ }
-    requires { ⌜ Sound (questions (now table)) n faulty (now state) ⌝ }
+    requires { ⌜ Rows (now table) n ⌝ }
+    requires { ⌜ Sound (rowQuestions (now table) n) n faulty (now state) ⌝ }
     requires { ⌜ answer n faulty (call kind from to side) (now state) ≡ Answer.Check.Sound ⌝ }
-    ensures { λ r. ⌜ Works (voteOf (now (table .entry)) n faulty) (call kind from to side) (now (state .entry)) Answer.Check.Sound r (now (state .exit)) ⌝ }
+    ensures { λ r. ⌜ Works (rowVote (now (table .entry)) n faulty) (call kind from to side) (now (state .entry)) Answer.Check.Sound r (now (state .exit)) ⌝ }
 {
     if answers::is_heard(n, state, kind, from, to, side) {
         return false;
@@ -51,9 +50,9 @@ pub fn work(
     to: usize,
     side: usize,
 ) -> Worked
-    requires { ⌜ Table (now table) n ⌝ }
-    requires { ⌜ Sound (questions (now table)) n faulty (now state) ⌝ }
-    ensures { λ r. ⌜ Works (voteOf (now (table .entry)) n faulty) (call kind from to side) (now (state .entry)) (r .answer) (r .changed) (now (state .exit)) ⌝ }
+    requires { ⌜ Rows (now table) n ⌝ }
+    requires { ⌜ Sound (rowQuestions (now table) n) n faulty (now state) ⌝ }
+    ensures { λ r. ⌜ Works (rowVote (now (table .entry)) n faulty) (call kind from to side) (now (state .entry)) (r .answer) (r .changed) (now (state .exit)) ⌝ }
 {
     let a = answers::answer(n, faulty, state, kind, from, to, side);
     let Check::Sound = a else {

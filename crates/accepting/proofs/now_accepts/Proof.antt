@@ -4,15 +4,15 @@ use borrow.Author.Needs.{needs}
 use denote.Ref.{now}
 use Rattle.rules.proofs.Since.{unaccepted, new-read}
 use Rattle.rules.proofs.WorkWays.{accepted-way, accepts-way}
-use Rattle.sets.specs.Promises.{questions}
 use Rattle.accepting.proofs.now_accepts.Statement.{statement}
 use Rattle.accepting.proofs.now_accepts.Tie as tie
+use Rattle.sets.specs.Rows.{rowQuestions}
 
 returns : tie.Need-returns
 returns c =
     let b = c .before .before .before .before .before .before in
     let a = b .args in
-    accepted-way (questions (now (a .table))) (a .n) (a .receiver) (a .side) (now (a .state)) (c .before .has .ensures) (c .if1 .taken) (b .pre .1 .1 .1 .1 .1 .own-heard) (omega arith)
+    accepted-way (rowQuestions (now (a .table)) (a .n)) (a .n) (a .receiver) (a .side) (now (a .state)) (c .before .has .ensures) (c .if1 .taken) (b .pre .1 .1 .1 .1 .1 .own-heard) (omega arith)
 
 now-accepting-requires : tie.Need-now-accepting-requires
 now-accepting-requires c κs =
@@ -26,7 +26,7 @@ returns-2 : tie.Need-returns-2
 returns-2 c =
     let rule = c .before .before .before .before .before .before .before .before .before .before .before in
     let a = c .before .before .before .before .before .before .before .before .before .before .before .before .before .before .before .before .before .before .before .before .before .before .args in
-    accepts-way (questions (now (a .table))) (a .n) (a .receiver) (a .side) (now (a .state)) (c .before .before .before .before .before .before .before .before .before .before .only .ensures)
+    accepts-way (rowQuestions (now (a .table)) (a .n)) (a .n) (a .receiver) (a .side) (now (a .state)) (c .before .before .before .before .before .before .before .before .before .before .only .ensures)
     (rule .now-accepting .ensures) (c .before .before .before .before .before .before .before .put .ensures) (c .before .before .put2 .ensures)
     (rule .before .before .before .before .votes .ensures) (rule .before .before .accepts .ensures) (omega arith) (omega arith)
 

@@ -3,21 +3,21 @@ use mathlib.Core.Path.{sym, ap, _∙_}
 use borrow.Author.Needs.{needs}
 use denote.Ref.{now}
 use Rattle.rules.proofs.Since.{sender-without}
-use Rattle.rules.proofs.WorkWays.{table-rests}
-use Rattle.sets.specs.Promises.{questions}
+use Rattle.rules.proofs.WorkWays.{rows-rests}
 use Rattle.asking_since.proofs.now_in_quorum.Statement.{statement}
 use Rattle.asking_since.proofs.now_in_quorum.Tie as tie
+use Rattle.sets.specs.Rows.{rowQuestions}
 
 returns : tie.Need-returns
 returns c =
     let b = c .before .before in
     let a = b .args in
-    sym (ap (questions (now (a .table)) .inQuorum (a .receiver)) (c .if1 .taken) ∙ b .pre .1 .1 .1 .0)
+    sym (ap (rowQuestions (now (a .table)) (a .n) .inQuorum (a .receiver)) (c .if1 .taken) ∙ b .pre .1 .1 .1 .0)
 
 returns-3 : tie.Need-returns-3
 returns-3 c =
     let p = c .before .before .before .before .before .before .pre in
-    sender-without (table-rests (p .0) .promises) (p .1 .1 .1 .1) (p .1 .1 .1 .0) (c .before .before .before .has .ensures) (c .before .before .if2 .left)
+    sender-without (rows-rests (p .0) .promises) (p .1 .1 .1 .1) (p .1 .1 .1 .0) (c .before .before .before .has .ensures) (c .before .before .if2 .left)
     (c .before .has-slice .ensures) (c .if3 .taken)
 
 pub now-in-quorum-spec : {M : Type 1} → statement M

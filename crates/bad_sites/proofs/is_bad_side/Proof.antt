@@ -2,9 +2,9 @@
 use borrow.Author.Needs.{needs}
 use denote.Ref.{now}
 use Rattle.rules.proofs.Ways.{Read, side-faulty, side-own, side-sent, side-rule}
-use Rattle.sets.specs.Promises.{questions}
 use Rattle.bad_sites.proofs.is_bad_side.Statement.{statement}
 use Rattle.bad_sites.proofs.is_bad_side.Tie as tie
+use Rattle.sets.specs.Rows.{rowQuestions}
 
 -- the five places, once they are read
 read : (d : tie.After-shared-slice-known7) →
@@ -30,7 +30,7 @@ returns c =
     let d = c .before .before .before in
     let b = d .before .before .before .before .before .before .before .before .before .before .before .before in
     let a = b .args in
-    let e = side-faulty (questions (now (a .table))) (a .n) (a .faulty) (now (a .state)) (a .v) (a .side) (read d) (c .before .before .has .ensures) (c .before .if1 .taken)
+    let e = side-faulty (rowQuestions (now (a .table)) (a .n)) (a .n) (a .faulty) (now (a .state)) (a .v) (a .side) (read d) (c .before .before .has .ensures) (c .before .if1 .taken)
     (c .is-not-zero .ensures) in
     (e, b .pre .1 .1 .1 .1)
 
@@ -39,7 +39,7 @@ returns-2 c =
     let d = c .before .before .before .before in
     let b = d .before .before .before .before .before .before .before .before .before .before .before .before in
     let a = b .args in (
-      side-own (questions (now (a .table))) (a .n) (a .faulty) (now (a .state)) (a .v) (a .side) (read d) (c .before .before .before .has .ensures) (c .before .before .if1 .left)
+      side-own (rowQuestions (now (a .table)) (a .n)) (a .n) (a .faulty) (now (a .state)) (a .v) (a .side) (read d) (c .before .before .before .has .ensures) (c .before .before .if1 .left)
           (c .before .is-not-own .ensures) (c .if2 .taken),
       b .pre .1 .1 .1 .1,
     )
@@ -49,7 +49,7 @@ returns-3 c =
     let d = c .before .before .before .before .before .before in
     let b = d .before .before .before .before .before .before .before .before .before .before .before .before in
     let a = b .args in (
-      side-sent (questions (now (a .table))) (a .n) (a .faulty) (now (a .state)) (a .v) (a .side) (read d) (c .before .before .before .before .before .has .ensures) (c .before .before .before .before .if1 .left)
+      side-sent (rowQuestions (now (a .table)) (a .n)) (a .n) (a .faulty) (now (a .state)) (a .v) (a .side) (read d) (c .before .before .before .before .before .has .ensures) (c .before .before .before .before .if1 .left)
           (c .before .before .before .is-not-own .ensures) (c .before .before .if2 .left) (c .before .is-not-sent .ensures) (c .if3 .taken),
       b .pre .1 .1 .1 .1,
     )
@@ -60,7 +60,7 @@ returns-4 c =
     let a = d .before .before .before .before .before .before .before .before .before .before .before .before .args in
     let first = c .before .before .before .before .before .before in
     let r = c .is-not-rule .ensures in (
-      side-rule (questions (now (a .table))) (a .n) (a .faulty) (now (a .state)) (a .v) (a .side) (read d) (first .before .has .ensures) (first .if1 .left)
+      side-rule (rowQuestions (now (a .table)) (a .n)) (a .n) (a .faulty) (now (a .state)) (a .v) (a .side) (read d) (first .before .has .ensures) (first .if1 .left)
           (c .before .before .before .before .before .is-not-own .ensures) (c .before .before .before .before .if2 .left)
           (c .before .before .before .is-not-sent .ensures) (c .before .before .if3 .left) (r .0),
       r .1,

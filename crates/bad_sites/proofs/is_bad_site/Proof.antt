@@ -2,9 +2,9 @@
 use borrow.Author.Needs.{needs}
 use denote.Ref.{now}
 use Rattle.rules.proofs.Ways.{site-drill, site-live}
-use Rattle.sets.specs.Promises.{questions}
 use Rattle.bad_sites.proofs.is_bad_site.Statement.{statement}
 use Rattle.bad_sites.proofs.is_bad_site.Tie as tie
+use Rattle.sets.specs.Rows.{rowQuestions}
 
 is-bad-side-requires : tie.Need-is-bad-side-requires
 is-bad-side-requires c κs =
@@ -20,13 +20,13 @@ returns : tie.Need-returns
 returns c =
     let a = c .before .before .before .before .before .args in
     let r = c .before .is-bad-side .ensures in
-    (site-drill (questions (now (a .table))) (a .n) (a .faulty) (now (a .state)) (a .v) (r .0) (c .if1 .taken), r .1)
+    (site-drill (rowQuestions (now (a .table)) (a .n)) (a .n) (a .faulty) (now (a .state)) (a .v) (r .0) (c .if1 .taken), r .1)
 
 returns-2 : tie.Need-returns-2
 returns-2 c =
     let a = c .before .before .before .before .before .before .before .args in
     let r = c .is-bad-side2 .ensures in
-    (site-live (questions (now (a .table))) (a .n) (a .faulty) (now (a .state)) (a .v) (c .before .before .before .is-bad-side .ensures .0) (c .before .before .if1 .left) (r .0), r .1)
+    (site-live (rowQuestions (now (a .table)) (a .n)) (a .n) (a .faulty) (now (a .state)) (a .v) (c .before .before .before .is-bad-side .ensures .0) (c .before .before .if1 .left) (r .0), r .1)
 
 pub is-bad-site-spec : {M : Type 1} → statement M
 is-bad-site-spec =

@@ -10,15 +10,15 @@ use Rattle.asking.specs.Inner.{Asked}
 use Rattle.ground.proofs.Some.{some-none}
 use Rattle.ground.specs.Search.{some}
 use Rattle.rules.proofs.Ways.{sites-bad, sites-good}
-use Rattle.rules.proofs.WorkWays.{table-rests}
+use Rattle.rules.proofs.WorkWays.{rows-rests}
 use Rattle.rules.specs.Sound.{badSite}
-use Rattle.sets.specs.Promises.{questions}
 use Rattle.bad_sites.proofs.some_bad_site.Statement.{statement}
 use Rattle.bad_sites.proofs.some_bad_site.Tie as tie
+use Rattle.sets.specs.Rows.{rowQuestions}
 
 abbrev Inv-loop : tie.InvT-loop
 Inv-loop table n faulty state asked₀ v₀ asked v =
-    (v ≤ n) × (some v (badSite (questions table) n faulty state) ≡ false) × Asked (questions table) n asked
+    (v ≤ n) × (some v (badSite (rowQuestions table n) n faulty state) ≡ false) × Asked (rowQuestions table n) n asked
 
 abbrev μ-loop : tie.MeasureT-loop
 μ-loop table n faulty state asked₀ v₀ asked v = n - v
@@ -31,18 +31,18 @@ is-bad-site-requires c κs =
 loop-holds : tie.Need-loop-holds Inv-loop μ-loop
 loop-holds c =
     let b = c .before .before in
-    (search needs, some-none _, asked-none (table-rests (b .pre .0) .promises) (b .args .n))
+    (search needs, some-none _, asked-none (rows-rests (b .pre .0) .promises) (b .args .n))
 
 returns : tie.Need-returns Inv-loop μ-loop
 returns c =
     let a = c .before .before .before .before .before .before .before .args in
-    sites-bad (questions (now (a .table))) (a .n) (a .faulty) (now (a .state)) (c .before .before .before .before .loop .v) (c .before .is-bad-site .ensures .0) (c .before .before .before .loop-test .taken) (c .if1 .taken)
+    sites-bad (rowQuestions (now (a .table)) (a .n)) (a .n) (a .faulty) (now (a .state)) (c .before .before .before .before .loop .v) (c .before .is-bad-site .ensures .0) (c .before .before .before .loop-test .taken) (c .if1 .taken)
 
 loop-again : tie.Need-loop-again Inv-loop μ-loop
 loop-again c =
     let a = c .before .before .before .before .before .before .before .args in
     let r = c .before .is-bad-site .ensures in
-    (search needs, sites-good (questions (now (a .table))) (a .n) (a .faulty) (now (a .state)) (c .before .before .before .before .loop .v) (r .0) (c .before .before .before .before .loop .inv .1) (c .if1 .left), r .1)
+    (search needs, sites-good (rowQuestions (now (a .table)) (a .n)) (a .n) (a .faulty) (now (a .state)) (c .before .before .before .before .loop .v) (r .0) (c .before .before .before .before .loop .inv .1) (c .if1 .left), r .1)
 
 returns-2 : tie.Need-returns-2 Inv-loop μ-loop
 returns-2 c =

@@ -1,17 +1,17 @@
 -- `is_accepting` meets its contract: blocked, or else by a quorum.
 use borrow.Author.Needs.{needs}
 use denote.Ref.{now}
-use Rattle.sets.specs.Promises.{questions}
 use Rattle.rules.proofs.WorkWays.{accepts-by-blocking, accepts-by-quorum}
 use Rattle.clauses.proofs.is_accepting.Statement.{statement}
 use Rattle.clauses.proofs.is_accepting.Tie as tie
+use Rattle.sets.specs.Rows.{rowQuestions}
 
 returns : tie.Need-returns
 returns c =
     let b = c .before .before .before .before .before in
     let a = b .args in
     let o = c .before .before .minus in (
-      accepts-by-blocking (questions (now (a .table))) (a .v) (a .votes) (a .accepts) (c .before .before .before .single .ensures) (o .ensures)
+      accepts-by-blocking (rowQuestions (now (a .table)) (a .n)) (a .v) (a .votes) (a .accepts) (c .before .before .before .single .ensures) (o .ensures)
           (c .before .blocked .ensures) (c .if1 .taken),
       b .pre .1 .1,
     )
@@ -21,7 +21,7 @@ returns-2 c =
     let a = c .before .before .before .before .before .before .before .args in
     let o = c .before .before .before .before .minus in
     let r = c .belongs .ensures in (
-      accepts-by-quorum (questions (now (a .table))) (a .v) (a .votes) (a .accepts) (c .before .before .before .before .before .single .ensures) (o .ensures)
+      accepts-by-quorum (rowQuestions (now (a .table)) (a .n)) (a .v) (a .votes) (a .accepts) (c .before .before .before .before .before .single .ensures) (o .ensures)
           (c .before .before .before .blocked .ensures) (c .before .before .if1 .left) (r .0),
       r .1,
     )

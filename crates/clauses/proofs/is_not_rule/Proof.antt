@@ -2,22 +2,22 @@
 use borrow.Author.Needs.{needs}
 use denote.Ref.{now}
 use Rattle.rules.proofs.Ways.{rule-accepted, rule-confirmed}
-use Rattle.sets.specs.Promises.{questions}
 use Rattle.clauses.proofs.is_not_rule.Statement.{statement}
 use Rattle.clauses.proofs.is_not_rule.Tie as tie
+use Rattle.sets.specs.Rows.{rowQuestions}
 
 returns : tie.Need-returns
 returns c =
     let a = c .before .before .before .before .before .before .args in
     let r = c .before .before .is-accepting .ensures in
-    (rule-accepted (questions (now (a .table))) (a .v) (a .votes) (a .accepts) (a .accepted) (a .confirmed) (c .before .before .before .before .has .ensures) (r .0) (c .before .differ .ensures) (c .if1 .taken), r .1)
+    (rule-accepted (rowQuestions (now (a .table)) (a .n)) (a .v) (a .votes) (a .accepts) (a .accepted) (a .confirmed) (c .before .before .before .before .has .ensures) (r .0) (c .before .differ .ensures) (c .if1 .taken), r .1)
 
 returns-2 : tie.Need-returns-2
 returns-2 c =
     let first = c .before .before .before .before in
     let a = first .before .before .before .before .before .before .args in
     let r = c .before .belongs .ensures in (
-      rule-confirmed (questions (now (a .table))) (a .v) (a .votes) (a .accepts) (a .accepted) (a .confirmed) (first .before .before .before .before .has .ensures)
+      rule-confirmed (rowQuestions (now (a .table)) (a .n)) (a .v) (a .votes) (a .accepts) (a .accepted) (a .confirmed) (first .before .before .before .before .has .ensures)
           (first .before .before .is-accepting .ensures .0) (first .before .differ .ensures) (first .if1 .left) (c .before .before .before .has2 .ensures) (r .0)
           (c .differ2 .ensures),
       r .1,

@@ -4,28 +4,28 @@ use borrow.Author.Needs.{needs}
 use denote.Ref.{now}
 use Rattle.rules.proofs.Since.{unconfirmed, new-read}
 use Rattle.rules.proofs.WorkWays.{confirmed-way, confirms-way}
-use Rattle.sets.specs.Promises.{questions}
 use Rattle.confirming.proofs.now_confirms.Statement.{statement}
 use Rattle.confirming.proofs.now_confirms.Tie as tie
+use Rattle.sets.specs.Rows.{rowQuestions}
 
 returns : tie.Need-returns
 returns c =
     let a = c .before .before .before .before .before .before .args in
-    confirmed-way (questions (now (a .table))) (a .n) (a .receiver) (a .side) (now (a .state)) (c .before .has .ensures) (c .if1 .taken) (omega arith)
+    confirmed-way (rowQuestions (now (a .table)) (a .n)) (a .n) (a .receiver) (a .side) (now (a .state)) (c .before .has .ensures) (c .if1 .taken) (omega arith)
 
 now-in-quorum-requires : tie.Need-now-in-quorum-requires
 now-in-quorum-requires c κs =
     let b = c .before .before .before .before .before .before .before .before in
     let a = b .args in
     let p = b .pre in
-    let e = unconfirmed (questions (now (a .table))) (a .n) (a .receiver) (a .side) (a .accepts-before) (now (a .state)) (p .1 .1 .1 .1 .1 .1)
+    let e = unconfirmed (rowQuestions (now (a .table)) (a .n)) (a .n) (a .receiver) (a .side) (a .accepts-before) (now (a .state)) (p .1 .1 .1 .1 .1 .1)
     (c .before .before .before .has .ensures) (c .before .before .if1 .left) (omega arith) in
     (p .0, (p .1 .1 .0, (p .1 .1 .1 .0, (e, new-read (now (a .state)) (c .before .accepts .ensures) (p .1 .1 .1 .1 .1 .0)))))
 
 returns-2 : tie.Need-returns-2
 returns-2 c =
     let a = c .before .before .before .before .before .before .before .before .before .before .before .before .before .before .before .args in
-    confirms-way (questions (now (a .table))) (a .n) (a .receiver) (a .side) (now (a .state)) (c .before .before .before .before .before .only .ensures)
+    confirms-way (rowQuestions (now (a .table)) (a .n)) (a .n) (a .receiver) (a .side) (now (a .state)) (c .before .before .before .before .before .only .ensures)
     (c .before .before .before .before .before .before .now-in-quorum .ensures) (c .before .before .put .ensures) (c .before .before .before .before .before .before .before .before .accepts .ensures) (omega arith)
 
 pub now-confirms-spec : {M : Type 1} → statement M

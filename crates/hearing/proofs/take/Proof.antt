@@ -3,11 +3,10 @@ use borrow.Author.Needs.{needs}
 use denote.Ref.{now}
 use Rattle.rules.proofs.Since.{heard-since, worked-since}
 use Rattle.rules.proofs.WorkWays.{taken-way}
-use Rattle.sets.specs.Promises.{questions}
-use Rattle.table.specs.Table.{Table}
 use Rattle.votes.specs.Call.{call}
 use Rattle.hearing.proofs.take.Statement.{statement}
 use Rattle.hearing.proofs.take.Tie as tie
+use Rattle.sets.specs.Rows.{rowQuestions}
 
 hear-requires : tie.Need-hear-requires
 hear-requires c κs =
@@ -35,7 +34,7 @@ now-confirms-requires c κs =
 returns : tie.Need-returns
 returns c =
     let a = c .before .before .before .before .before .before .before .before .before .before .before .before .before .before .before .before .before .before .args in
-    taken-way (questions (now (a .table))) (a .n) (call (a .kind) (a .from) (a .to) (a .side)) (now (a .state))
+    taken-way (rowQuestions (now (a .table)) (a .n)) (a .n) (call (a .kind) (a .from) (a .to) (a .side)) (now (a .state))
     (c .before .before .before .before .before .before .before .before .before .before .hear .ensures) (c .before .before .before .before .before .before .now-accepts .ensures) (c .before .before .now-confirms .ensures)
 
 pub take-spec : {M : Type 1} → statement M

@@ -5,15 +5,15 @@ use native.Mathlib.Omega.{arith}
 use borrow.Author.Needs.{needs}
 use denote.Ref.{now}
 use lib.ListN.{length}
-use Rattle.pass.proofs.Lawful.{lawful}
+use Rattle.pass.proofs.Lawful.{rows-vote}
 use Rattle.pass.proofs.Turns.{after-none, after-more, after-all}
 use Rattle.pass.specs.Inner.{After}
-use Rattle.rules.specs.Vote.{voteOf}
+use Rattle.rules.specs.Vote.{rowVote}
 use Rattle.pass.proofs.over_all.Statement.{statement}
 use Rattle.pass.proofs.over_all.Tie as tie
 
 abbrev Inv-loop : tie.InvT-loop
-Inv-loop table n faulty list state₀ answers₀ changed₀ i₀ state answers changed i = After (voteOf table n faulty) list state₀ answers₀ i changed state answers
+Inv-loop table n faulty list state₀ answers₀ changed₀ i₀ state answers changed i = After (rowVote table n faulty) list state₀ answers₀ i changed state answers
 
 abbrev μ-loop : tie.MeasureT-loop
 μ-loop table n faulty list state₀ answers₀ changed₀ i₀ state answers changed i = length answers₀ - i
@@ -22,7 +22,7 @@ loop-holds : tie.Need-loop-holds Inv-loop μ-loop
 loop-holds c =
     let s = c .before .before .before .before in
     let a = s .args in
-    after-none (lawful (s .pre .0) (a .faulty)) (now (a .list)) (now (a .state)) (now (a .answers)) (s .pre .1 .1) (s .pre .1 .0)
+    after-none (rows-vote (s .pre .0) (a .faulty)) (now (a .list)) (now (a .state)) (now (a .answers)) (s .pre .1 .1) (s .pre .1 .0)
 
 work-at-requires : tie.Need-work-at-requires Inv-loop μ-loop
 work-at-requires c κs =
@@ -47,7 +47,7 @@ loop-again c =
     let s = t .before .before .before .before .before .before in
     let a = s .args in
     let L = t .before .loop in
-    after-more (lawful (s .pre .0) (a .faulty)) (now (a .list)) (now (a .state)) (now (a .answers)) (s .pre .1 .1) (L .i) (c .before .code .result) _
+    after-more (rows-vote (s .pre .0) (a .faulty)) (now (a .list)) (now (a .state)) (now (a .answers)) (s .pre .1 .1) (L .i) (c .before .code .result) _
     (L .state) (L .answers) (L .inv) (omega (arith, t .loop-test .taken, L .inv .long)) (w .work-at .ensures) (c .before .code .ensures) refl
 
 same-length : tie.Need-same-length Inv-loop μ-loop
@@ -62,7 +62,7 @@ returns c =
     let s = l .before .before .before .before .before in
     let a = s .args in
     let L = l .loop in
-    after-all (lawful (s .pre .0) (a .faulty)) (now (a .list)) (now (a .state)) (now (a .answers)) (s .pre .1 .1) (L .i) (L .state) (L .answers) (L .inv)
+    after-all (rows-vote (s .pre .0) (a .faulty)) (now (a .list)) (now (a .state)) (now (a .answers)) (s .pre .1 .1) (L .i) (L .state) (L .answers) (L .inv)
     (omega (arith, c .loop-test .left, L .inv .long))
 
 pub over-all-spec : {M : Type 1} → statement M

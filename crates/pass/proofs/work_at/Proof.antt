@@ -6,7 +6,7 @@ use Rattle.pass.proofs.Turns.{works-at}
 use Rattle.pass.proofs.work_at.Statement.{statement}
 use Rattle.pass.proofs.work_at.Tie as tie
 use Rattle.rules.proofs.Inner.{works-refused}
-use Rattle.rules.specs.Vote.{voteOf}
+use Rattle.rules.specs.Vote.{rowVote}
 use Rattle.taking.proofs.Handed.{same-answer}
 use Rattle.votes.specs.Call.{call}
 
@@ -18,7 +18,7 @@ returns c =
     let kind = from .before .before in
     let b = kind .before .before .before .before .before in
     let a = b .args in
-    works-at (voteOf (now (a .table)) (a .n) (a .faulty)) (a .i) (now (a .list)) (kind .wide .ensures .0) (from .wide2 .ensures .0) (to .wide3 .ensures .0) (side .wide4 .ensures .0)
+    works-at (rowVote (now (a .table)) (a .n) (a .faulty)) (a .i) (now (a .list)) (kind .wide .ensures .0) (from .wide2 .ensures .0) (to .wide3 .ensures .0) (side .wide4 .ensures .0)
     (works-refused (b .pre .1 .0) (call (kind .wide .result) (from .wide2 .result) (to .wide3 .result) (side .wide4 .result)) (c .before .before .answer .ensures)
     (c .enum-told2 .given .1))
 
@@ -34,7 +34,7 @@ returns-2 c =
     let from = to .before .before in
     let kind = from .before .before in
     let a = kind .before .before .before .before .before .args in
-    works-at (voteOf (now (a .table)) (a .n) (a .faulty)) (a .i) (now (a .list)) (kind .wide .ensures .0) (from .wide2 .ensures .0) (to .wide3 .ensures .0) (side .wide4 .ensures .0)
+    works-at (rowVote (now (a .table)) (a .n) (a .faulty)) (a .i) (now (a .list)) (kind .wide .ensures .0) (from .wide2 .ensures .0) (to .wide3 .ensures .0) (side .wide4 .ensures .0)
     (same-answer (c .before .before .before .before .enum-told .given .1) (c .before .before .change .ensures))
 
 pub work-at-spec : {M : Type 1} → statement M

@@ -5,16 +5,16 @@ use native.Mathlib.Omega.{arith}
 use borrow.Author.Needs.{needs}
 use denote.Ref.{now}
 use lib.ListN.{length, getD}
-use Rattle.pass.proofs.Lawful.{lawful}
+use Rattle.pass.proofs.Lawful.{rows-vote}
 use Rattle.pass_again.proofs.Rounds.{amid-none, amid-below, amid-waits, amid-more, amid-all}
 use Rattle.pass_again.specs.Inner.{Amid}
-use Rattle.rules.specs.Vote.{voteOf}
+use Rattle.rules.specs.Vote.{rowVote}
 use Rattle.pass_again.proofs.over_waiting.Statement.{statement}
 use Rattle.pass_again.proofs.over_waiting.Tie as tie
 
 abbrev Inv-loop : tie.InvT-loop
 Inv-loop table n faulty list state₀ answers₀ waiting₀ count changed₀ left₀ k₀ state answers waiting changed left k =
-    Amid (voteOf table n faulty) list state₀ answers₀ count k left changed state answers waiting × (length waiting ≡ length waiting₀)
+    Amid (rowVote table n faulty) list state₀ answers₀ count k left changed state answers waiting × (length waiting ≡ length waiting₀)
 
 abbrev μ-loop : tie.MeasureT-loop
 μ-loop table n faulty list state₀ answers₀ waiting₀ count changed₀ left₀ k₀ state answers waiting changed left k = count - k
@@ -23,7 +23,7 @@ loop-holds : tie.Need-loop-holds Inv-loop μ-loop
 loop-holds c =
     let s = c .before .before .before .before .before in
     let a = s .args in
-    (amid-none (lawful (s .pre .0) (a .faulty)) (now (a .list)) (now (a .state)) (now (a .answers)) (now (a .waiting)) (a .count) (s .pre .1), refl)
+    (amid-none (rows-vote (s .pre .0) (a .faulty)) (now (a .list)) (now (a .state)) (now (a .answers)) (now (a .waiting)) (a .count) (s .pre .1), refl)
 
 slice-read-place : tie.Need-slice-read-place Inv-loop μ-loop
 slice-read-place c = let l = c .before .before in omega (arith, c .before .loop-test .taken, l .loop .inv .1, l .before .before .before .before .before .before .pre .1 .few)
@@ -37,7 +37,7 @@ work-again-requires c κs =
     let p = s .pre in
     let L = t .before .loop in
     let h = t .loop-test .taken in
-    let law = lawful (p .0) (a .faulty) in
+    let law = rows-vote (p .0) (a .faulty) in
     let e = i .place .ensures in
     let b = amid-below law (now (a .list)) (now (a .state)) (now (a .answers)) (now (a .waiting)) (a .count) (p .1) (L .inv .0) h in
     let q = amid-waits law (now (a .list)) (now (a .state)) (now (a .answers)) (now (a .waiting)) (a .count) (p .1) (L .inv .0) h in (
@@ -60,7 +60,7 @@ keep-requires c κs =
     let p = s .pre in
     let L = t .before .loop in
     let h = t .loop-test .taken in
-    let b = amid-below (lawful (p .0) (a .faulty)) (now (a .list)) (now (a .state)) (now (a .answers)) (now (a .waiting)) (a .count) (p .1) (L .inv .0) h in
+    let b = amid-below (rows-vote (p .0) (a .faulty)) (now (a .list)) (now (a .state)) (now (a .answers)) (now (a .waiting)) (a .count) (p .1) (L .inv .0) h in
     (omega (arith, h, L .inv .0 .few, L .inv .1, p .1 .few), omega (arith, i .place .ensures, b, p .1 .short))
 
 loop-less : tie.Need-loop-less Inv-loop μ-loop
@@ -77,7 +77,7 @@ loop-again c =
     let p = s .pre in
     let L = t .before .loop in
     let h = t .loop-test .taken in (
-      amid-more (lawful (p .0) (a .faulty)) (now (a .list)) (now (a .state)) (now (a .answers)) (now (a .waiting)) (a .count) (p .1) (L .inv .0) h
+      amid-more (rows-vote (p .0) (a .faulty)) (now (a .list)) (now (a .state)) (now (a .answers)) (now (a .waiting)) (a .count) (p .1) (L .inv .0) h
           (i .place .result) (k .keep .result) _ (w .work-again .result .waits) _ (omega (arith, h, L .inv .1, p .1 .few)) (i .place .ensures)
           (w .work-again .ensures) refl (k .keep .ensures .0) (k .keep .ensures .1),
       k .keep .kept .0 ∙ L .inv .1,
@@ -97,7 +97,7 @@ returns c =
     let l = c .before in
     let s = l .before .before .before .before .before .before in
     let a = s .args in
-    amid-all (lawful (s .pre .0) (a .faulty)) (now (a .list)) (now (a .state)) (now (a .answers)) (now (a .waiting)) (a .count) (s .pre .1) (l .loop .inv .0)
+    amid-all (rows-vote (s .pre .0) (a .faulty)) (now (a .list)) (now (a .state)) (now (a .answers)) (now (a .waiting)) (a .count) (s .pre .1) (l .loop .inv .0)
     (omega (arith, c .loop-test .left))
 
 pub over-waiting-spec : {M : Type 1} → statement M

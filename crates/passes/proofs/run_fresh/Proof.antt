@@ -6,7 +6,7 @@ use borrow.Author.Needs.{needs}
 use borrow.Author.Tests.{not-true, not-false}
 use denote.Ref.{now}
 use lib.ListN.{length, replicate, length-replicate}
-use Rattle.pass.proofs.Lawful.{lawful}
+use Rattle.pass.proofs.Lawful.{rows-vote}
 use Rattle.pass.proofs.Turns.{passed-long}
 use Rattle.pass_again.proofs.Settled.{passed-told}
 use Rattle.pass.specs.Calls.{calls}
@@ -19,13 +19,13 @@ over-all-requires c κs =
     let d = c .before .before .before .before in
     let s = d .before .before .before .before .before .before in
     let p = s .pre in
-    (p .0, (going-none (lawful (p .0) (s .args .faulty)) (calls (now (s .args .list))) (now (s .args .state)) (p .1 .0) (d .clear .ensures) .sound, p .1 .1 .0))
+    (p .0, (going-none (rows-vote (p .0) (s .args .faulty)) (calls (now (s .args .list))) (now (s .args .state)) (p .1 .0) (d .clear .ensures) .sound, p .1 .1 .0))
 
 returns : tie.Need-returns
 returns c =
     let d = c .before .before .before .before .before .before .before .before .before .before in
     let s = d .before .before .before .before .before .before in
-    let law = lawful (s .pre .0) (s .args .faulty) in
+    let law = rows-vote (s .pre .0) (s .args .faulty) in
     let l = calls (now (s .args .list)) in
     going-done law l 0 (going-none law l (now (s .args .state)) (s .pre .1 .0) (d .clear .ensures)) (c .before .before .before .before .before .over-all .ensures) (not-true _ (c .if1 .taken))
 
@@ -35,7 +35,7 @@ run-on-requires c κs =
     let s = d .before .before .before .before .before .before in
     let p = s .pre in
     let list = now (s .args .list) in
-    let law = lawful (p .0) (s .args .faulty) in
+    let law = rows-vote (p .0) (s .args .faulty) in
     let G = going-none law (calls list) (now (s .args .state)) (p .1 .0) (d .clear .ensures) in
     let Z = c .before .before .before .before .before .before .before .before .over-all .ensures in
     let k = length (now (s .args .answers)) in

@@ -5,8 +5,8 @@ use native.Mathlib.Omega.{arith}
 use borrow.Author.Tests.{not-true, not-false}
 use denote.Ref.{now}
 use lib.ListN.{length}
-use Rattle.pass.proofs.Lawful.{lawful}
-use Rattle.rules.specs.Vote.{voteOf}
+use Rattle.pass.proofs.Lawful.{rows-vote}
+use Rattle.rules.specs.Vote.{rowVote}
 use Rattle.passes.proofs.Going.{begun-between, between-few, between-more, between-done}
 use Rattle.passes.specs.Inner.{Between}
 use Rattle.passes.proofs.run_on.Statement.{statement}
@@ -14,7 +14,7 @@ use Rattle.passes.proofs.run_on.Tie as tie
 
 abbrev Inv-loop : tie.InvT-loop
 Inv-loop table n faulty list state₀ answers₀ waiting₀ count₀ passes₀ state answers waiting count passes =
-    Between (voteOf table n faulty) list passes state answers count waiting
+    Between (rowVote table n faulty) list passes state answers count waiting
     × (length state ≡ length state₀) × (length answers ≡ length answers₀) × (length waiting ≡ length waiting₀)
 
 abbrev μ-loop : tie.MeasureT-loop
@@ -28,7 +28,7 @@ loop-holds c =
     let g = c .before .before in
     let s = g .before .before .before .before .before .before .before .before in
     let G = g .gather in
-    (begun-between (lawful (s .pre .0) (s .args .faulty)) (now (s .args .list)) (s .pre .1) (G .ensures .0) (G .ensures .1) (G .kept .1 .0), refl, refl, refl)
+    (begun-between (rows-vote (s .pre .0) (s .args .faulty)) (now (s .args .list)) (s .pre .1) (G .ensures .0) (G .ensures .1) (G .kept .1 .0), refl, refl, refl)
 
 over-waiting-requires : tie.Need-over-waiting-requires Inv-loop μ-loop
 over-waiting-requires c κs = let l = c .before .before .before in (l .before .before .before .before .before .before .before .before .before .before .before .pre .0, l .loop .inv .0 .waiting)
@@ -38,7 +38,7 @@ add-passes c =
     let l = c .before .before .before .before .before .before .before .before .before .before in
     let s = l .before .before .before .before .before .before .before .before .before .before .before in
     let I = l .loop .inv in
-    omega (arith, between-few (lawful (s .pre .0) (s .args .faulty)) (now (s .args .list)) (l .loop .passes) (I .0), I .0 .waiting .short)
+    omega (arith, between-few (rows-vote (s .pre .0) (s .args .faulty)) (now (s .args .list)) (l .loop .passes) (I .0), I .0 .waiting .short)
 
 same-length : tie.Need-same-length Inv-loop μ-loop
 same-length c = let r = c .before .before .before .before .before .before .before .before in r .over-waiting .kept .1 .1 .1 .1 .0 ∙ r .before .before .before .before .loop .inv .1
@@ -57,14 +57,14 @@ returns c =
     let r = c .before .before .before .before .before .before .before .before in
     let l = r .before .before .before .before in
     let s = l .before .before .before .before .before .before .before .before .before .before .before in
-    between-done (lawful (s .pre .0) (s .args .faulty)) (now (s .args .list)) (l .loop .passes) (l .loop .inv .0) (r .over-waiting .ensures)
+    between-done (rows-vote (s .pre .0) (s .args .faulty)) (now (s .args .list)) (l .loop .passes) (l .loop .inv .0) (r .over-waiting .ensures)
     (not-true _ (c .if1 .taken))
 
 loop-less : tie.Need-loop-less Inv-loop μ-loop
 loop-less c =
     let l = c .before .before .before .before .before .before .before .before .before .before .before .before in
     let s = l .before .before .before .before .before .before .before .before .before .before .before in
-    omega (arith, between-few (lawful (s .pre .0) (s .args .faulty)) (now (s .args .list)) (l .loop .passes) (l .loop .inv .0), l .loop .inv .2)
+    omega (arith, between-few (rows-vote (s .pre .0) (s .args .faulty)) (now (s .args .list)) (l .loop .passes) (l .loop .inv .0), l .loop .inv .2)
 
 loop-again : tie.Need-loop-again Inv-loop μ-loop
 loop-again c =
@@ -73,7 +73,7 @@ loop-again c =
     let s = l .before .before .before .before .before .before .before .before .before .before .before in
     let I = l .loop .inv in
     let K = r .over-waiting .kept .1 .1 .1 .1 in (
-      between-more (lawful (s .pre .0) (s .args .faulty)) (now (s .args .list)) (l .loop .passes) (I .0) (r .over-waiting .ensures) (K .1 .0) (K .1 .1 .0)
+      between-more (rows-vote (s .pre .0) (s .args .faulty)) (now (s .args .list)) (l .loop .passes) (I .0) (r .over-waiting .ensures) (K .1 .0) (K .1 .1 .0)
           (not-false _ (c .if1 .left)),
       K .0 ∙ I .1,
       K .1 .0 ∙ I .2,

@@ -3,25 +3,25 @@ use native.Mathlib.Omega.{arith}
 use borrow.Author.Needs.{needs}
 use denote.Ref.{now}
 use Rattle.rules.proofs.Ways.{unsound-length, unsound-bit, unsound-both, unsound-site}
-use Rattle.sets.specs.Promises.{questions}
+use Rattle.sets.specs.Rows.{rowQuestions}
 use Rattle.soundness.proofs.is_unsound.Statement.{statement}
 use Rattle.soundness.proofs.is_unsound.Tie as tie
 
 returns : tie.Need-returns
-returns c = let a = c .before .before .before .before .args in unsound-length (questions (now (a .table))) (a .n) (a .faulty) (now (a .state)) (c .before .width .ensures) (c .if1 .taken)
+returns c = let a = c .before .before .before .before .args in unsound-length (rowQuestions (now (a .table)) (a .n)) (a .n) (a .faulty) (now (a .state)) (c .before .width .ensures) (c .if1 .taken)
 
 returns-2 : tie.Need-returns-2
 returns-2 c =
     let first = c .before .before in
     let a = first .before .before .before .before .args in
-    unsound-bit (questions (now (a .table))) (a .n) (a .faulty) (now (a .state)) (first .before .width .ensures) (first .if1 .left) (c .before .some-bit-above .ensures) (c .if2 .taken)
+    unsound-bit (rowQuestions (now (a .table)) (a .n)) (a .n) (a .faulty) (now (a .state)) (first .before .width .ensures) (first .if1 .left) (c .before .some-bit-above .ensures) (c .if2 .taken)
 
 returns-3 : tie.Need-returns-3
 returns-3 c =
     let second = c .before .before .before .before .before in
     let first = second .before .before in
     let a = first .before .before .before .before .args in
-    unsound-both (questions (now (a .table))) (a .n) (a .faulty) (now (a .state)) (first .before .width .ensures) (first .if1 .left) (second .before .some-bit-above .ensures) (second .if2 .left)
+    unsound-both (rowQuestions (now (a .table)) (a .n)) (a .n) (a .faulty) (now (a .state)) (first .before .width .ensures) (first .if1 .left) (second .before .some-bit-above .ensures) (second .if2 .left)
     (c .if3 .taken) (omega arith) (omega arith)
 
 some-bad-site-requires : tie.Need-some-bad-site-requires
@@ -34,7 +34,7 @@ returns-4 c =
     let second = c .before .before .before .before .before .before in
     let first = second .before .before in
     let a = first .before .before .before .before .args in
-    unsound-site (questions (now (a .table))) (a .n) (a .faulty) (now (a .state)) (first .before .width .ensures) (first .if1 .left) (second .before .some-bit-above .ensures) (second .if2 .left)
+    unsound-site (rowQuestions (now (a .table)) (a .n)) (a .n) (a .faulty) (now (a .state)) (first .before .width .ensures) (first .if1 .left) (second .before .some-bit-above .ensures) (second .if2 .left)
     (c .before .if3 .left) (omega arith) (omega arith) (c .some-bad-site .ensures)
 
 pub is-unsound-spec : {M : Type 1} → statement M
