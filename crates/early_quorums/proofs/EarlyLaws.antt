@@ -10,7 +10,7 @@ use native.Mathlib.Omega.{arith}
 use lib.Bits.{bitAnd, bitOr, or-disjoint}
 use lib.Count.{trailingZeros, under, trailing-of-zero}
 use lib.Dec.{eqb, ltb}
-use lib.Pow.{pow-mono}
+use lib.Pow.{ones-lt, pow-mono}
 use borrow.Author.Tests.{ltb-true, ltb-false, eq-eqb, ne-eqb}
 use Rattle.ground.proofs.Every.{every-at, every-of, every-none, every-suc}
 use Rattle.ground.proofs.Least.{least-found, least-fails}
@@ -32,9 +32,11 @@ use Rattle.early_quorums.specs.Inner.{Without, Counted, Sets, Held}
 use Rattle.masks.proofs.Laws.First.{first-member}
 use Rattle.sets.specs.Quorum.{quorum}
 use Rattle.sets.specs.Slices.{slicesOf}
-use Rattle.sets.proofs.Quorum.{quorum-of, quorum-some, quorum-slice}
+use Rattle.sets.proofs.Quorum.{quorum-of, quorum-some, quorum-slice, quorum-below}
+use Rattle.sets.proofs.Rows.{listed-inside}
 use Rattle.sets.proofs.Slices.{inside-of, inside-ex, no-slice}
-use Rattle.table.specs.Table.{Table, countOf, sliceOf}
+use Rattle.sets.specs.Rows.{Rows, rulesOf}
+use Rattle.table.specs.Table.{countOf, sliceOf}
 
 -- the sets without a site, as words
 
@@ -104,9 +106,9 @@ module _ (t : List ℕ) (v : ℕ) where
   counted-all {word} m =
       record { right = m .right; full = λ u i lu li e. subst (λ (q : ℕ). q ∈ word) (sym (reaches-itself (sliceOf t v i) u e)) (m .each i li) }
 
-module _ {t : List ℕ} {n : ℕ} (table : Table t n) (v : ℕ) where
+module _ {t : List ℕ} {n : ℕ} (rows : Rows t n) (v : ℕ) where
   pub sets-none : n ≤ v → Sets t v 0 0
-  sets-none l = record { right = λ u lu h. absurd (not-in-zero h); full = λ u i lu li e. absurd (not-suc-le-zero (subst (λ (k : ℕ). i < k) (no-slice table v l) li)) }
+  sets-none l = record { right = λ u lu h. absurd (not-in-zero h); full = λ u i lu li e. absurd (not-suc-le-zero (subst (λ (k : ℕ). i < k) (no-slice rows v l) li)) }
 
   ascend-le : v < n → (i d : ℕ) → i + d < countOf t v → sliceOf t v i ≤ sliceOf t v (i + d)
   ascend-le lv i zero l = subst (λ (k : ℕ). sliceOf t v i ≤ sliceOf t v k) (plus-none i) (le-refl (sliceOf t v i))
@@ -115,7 +117,7 @@ module _ {t : List ℕ} {n : ℕ} (table : Table t n) (v : ℕ) where
       plus-none k = omega arith
   ascend-le lv i (suc d) l =
       subst (λ (k : ℕ). sliceOf t v i ≤ sliceOf t v k) (next i d)
-      (more (ascend-le lv i d (less l)) (table .ascend v (i + d) lv (subst (λ (k : ℕ). k < countOf t v) (sym (next i d)) l)))
+      (more (ascend-le lv i d (less l)) (rows .listed v lv .ascend (i + d) (subst (λ (k : ℕ). k < countOf t v) (sym (next i d)) l)))
     where
       next : (i d : ℕ) → suc (i + d) ≡ i + suc d
       next i d = omega arith
@@ -247,22 +249,22 @@ trailing-before (suc k) m v l = go (m % 2) refl v l (trailing-before k (m / 2))
     go zero e (suc v) l ih = has-suc m v ∙ ih v (le-of-suc-le-suc l)
     go (suc r) e v l ih = absurd (not-suc-le-zero l)
 
-module _ {t : List ℕ} {n : ℕ} (table : Table t n) {word : ℕ} (h : Held t 6 word) where
-  quorum-at : (u : ℕ) → u < 64 → has (minus word 1) u ≡ quorum (slicesOf t .inside) n u
+module _ {t : List ℕ} {n : ℕ} (rows : Rows t n) {word : ℕ} (h : Held t 6 word) where
+  quorum-at : (u : ℕ) → u < 64 → has (minus word 1) u ≡ quorum (rulesOf t .inside) n u
   quorum-at u l =
       has-minus word 1 u
-      ∙ iff (has word u && not (has 1 u)) (quorum (slicesOf t .inside) n u)
+      ∙ iff (has word u && not (has 1 u)) (quorum (rulesOf t .inside) n u)
       (λ e.
       let some = not-t (has 1 u) (and-r (has word u) (not (has 1 u)) e) in
       let all = sym (h .each u l) ∙ and-l (has word u) (not (has 1 u)) e in
-      quorum-of (slicesOf t .inside) n (λ z. clash (has-single 0 u ∙ eq-eqb u 0 z) some)
-      (record { each = λ v i. in-all (site v (member u l all v i)) }) (member u l all))
+      quorum-of (rulesOf t .inside) n (λ z. clash (has-single 0 u ∙ eq-eqb u 0 z) some)
+      (record { each = λ v i. in-all (site v (member u l all v i)) }) (λ v i. let h = member u l all v i in listed-inside (rows .listed v (site v h)) u ∙ h))
       (λ e.
       and-i
       (h .each u l
       ∙ every-of 6 (λ y. not (has u y) || slicesOf t .inside y u)
-      (λ y ly. ⊎-elim (λ k. or-i (not (has u y)) (slicesOf t .inside y u) (quorum-slice (slicesOf t .inside) n e (mem k))) (λ k. ap (λ (c : Bool). not c || slicesOf t .inside y u) k) (cases (has u y))))
-      (ap not (has-single 0 u ∙ ne-eqb u 0 (quorum-some (slicesOf t .inside) n e))))
+      (λ y ly. ⊎-elim (λ k. or-i (not (has u y)) (slicesOf t .inside y u) (sym (listed-inside (rows .listed y (∈-below (ones-lt n) (quorum-below (rulesOf t .inside) n e .each y (mem k)))) u) ∙ quorum-slice (rulesOf t .inside) n e (mem k))) (λ k. ap (λ (c : Bool). not c || slicesOf t .inside y u) k) (cases (has u y))))
+      (ap not (has-single 0 u ∙ ne-eqb u 0 (quorum-some (rulesOf t .inside) n e))))
     where
       member : (u : ℕ) → u < 64 → every 6 (λ y. not (has u y) || slicesOf t .inside y u) ≡ true → (v : ℕ) → v ∈ u → slicesOf t .inside v u ≡ true
       member u l all v i =
@@ -270,13 +272,13 @@ module _ {t : List ℕ} {n : ℕ} (table : Table t n) {word : ℕ} (h : Held t 6
           (or-e (not (has u v)) (slicesOf t .inside v u) (every-at 6 (λ y. not (has u y) || slicesOf t .inside y u) all v (∈-below l i)))
 
       site : (v : ℕ) → slicesOf t .inside v u ≡ true → v < n
-      site v e = ⊎-elim (λ b. ltb-true v n b) (λ b. let r = inside-ex t v u e in absurd (not-suc-le-zero (subst (λ (k : ℕ). r .0 < k) (no-slice table v (ltb-false v n b)) (r .1)))) (cases (ltb v n))
+      site v e = ⊎-elim (λ b. ltb-true v n b) (λ b. let r = inside-ex t v u e in absurd (not-suc-le-zero (subst (λ (k : ℕ). r .0 < k) (no-slice rows v (ltb-false v n b)) (r .1)))) (cases (ltb v n))
 
-  pub first-is : word < 2 ^ 64 → trailingZeros 64 (minus word 1) ≡ least 64 (quorum (slicesOf t .inside) n)
+  pub first-is : word < 2 ^ 64 → trailingZeros 64 (minus word 1) ≡ least 64 (quorum (rulesOf t .inside) n)
   first-is fits = ⊎-elim none some (same? (minus word 1) 0)
     where
       q : ℕ → Bool
-      q = quorum (slicesOf t .inside) n
+      q = quorum (rulesOf t .inside) n
 
       none : minus word 1 ≡ 0 → trailingZeros 64 (minus word 1) ≡ least 64 q
       none e =

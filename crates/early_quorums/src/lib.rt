@@ -3,9 +3,8 @@ ghost use mathlib.Core.Path.{_≡_};
 ghost use Prim.Native.Nat.{_<_};
 ghost use Rattle.ground.specs.Search.{least};
 ghost use Rattle.sets.specs.Quorum.{quorum};
-ghost use Rattle.sets.specs.Slices.{slicesOf};
-ghost use Rattle.table.specs.Table.{Table};
 ghost use Rattle.early_quorums.specs.Inner.{Without, Sets, Held};
+ghost use Rattle.sets.specs.Rows.{Rows, rulesOf};
 
 // The sets without site x.
 fn without(x: usize) -> u64
@@ -32,7 +31,7 @@ fn without(x: usize) -> u64
 
 // The sets that are a slice of site v. Slices ascend, so that behind one that is no such set there is none.
 fn slices(table: &[u64], n: usize, v: usize) -> u64
-    requires { ⌜ Table (now table) n ⌝ }
+    requires { ⌜ Rows (now table) n ⌝ }
     ensures { λ r. ⌜ Sets (now (table .entry)) v 0 r ⌝ }
 {
     if n <= v {
@@ -54,7 +53,7 @@ fn slices(table: &[u64], n: usize, v: usize) -> u64
 
 // The sets that have a slice of site v inside: a slice is inside each set that it reaches by one site more.
 fn inside(table: &[u64], n: usize, v: usize) -> u64
-    requires { ⌜ Table (now table) n ⌝ }
+    requires { ⌜ Rows (now table) n ⌝ }
     ensures { λ r. ⌜ Sets (now (table .entry)) v 6 r ⌝ }
 {
     let mut sets = slices(table, n, v);
@@ -68,7 +67,7 @@ fn inside(table: &[u64], n: usize, v: usize) -> u64
 
 // The sets in which each member has a slice.
 fn held(table: &[u64], n: usize) -> u64
-    requires { ⌜ Table (now table) n ⌝ }
+    requires { ⌜ Rows (now table) n ⌝ }
     ensures { λ r. ⌜ Held (now (table .entry)) 6 r ⌝ }
 {
     let mut sets = 18446744073709551615u64;
@@ -82,8 +81,8 @@ fn held(table: &[u64], n: usize) -> u64
 
 // The smallest quorum among them, 64 if there is none.
 pub fn first(table: &[u64], n: usize) -> u64
-    requires { ⌜ Table (now table) n ⌝ }
-    ensures { λ r. ⌜ r ≡ least 64 (quorum (slicesOf (now (table .entry)) .inside) n) ⌝ }
+    requires { ⌜ Rows (now table) n ⌝ }
+    ensures { λ r. ⌜ r ≡ least 64 (quorum (rulesOf (now (table .entry)) .inside) n) ⌝ }
 {
     u64::trailing_zeros(masks::minus(held(table, n), 1)) as u64
 }

@@ -22,10 +22,13 @@ use Rattle.masks.specs.Mask.{has, single, minus, _∈_, _⊆_}
 use Rattle.holders.specs.Inner.{reaches, Right, Full, Stands, Marked, Handed, Handing, Quarters, Spread, Holds}
 use Rattle.holders.proofs.Shifts.{has-shr}
 use Rattle.holders.proofs.Reaching.{reaches-of, reaches-is, reaches-itself, Quad, a-⊆-b, a-⊆-c, b-⊆-d, c-⊆-d, reach-a, reach-b, reach-c, reach-d, quad-of, quad-eq, next-part}
+use Rattle.sets.proofs.Lawful.{deleted-stays}
 use Rattle.sets.specs.Quorum.{round}
 use Rattle.sets.specs.Slices.{slicesOf}
 use Rattle.sets.proofs.Quorum.{round-⊆, round-slice, ∈-round, round-lt}
-use Rattle.sets.proofs.Slices.{inside-of, inside-ex, deleted-inside, deleted-stays}
+use Rattle.sets.proofs.Rows.{rows-lawful, listed-inside}
+use Rattle.sets.proofs.Slices.{inside-of, inside-ex}
+use Rattle.sets.specs.Rows.{Rows, rulesOf}
 use Rattle.table.specs.Table.{countOf, sliceOf}
 
 -- what holds of each place of a list, and of the value that one place gets
@@ -498,9 +501,10 @@ module _ (t : List ℕ) (n : ℕ) where
         pick w l (inr b) = quarter w (ltb-false w start b) l (cases (ltb w (start + many))) (cases (ltb w (start + 2 * many))) (cases (ltb w (start + 3 * many)))
 
   -- with the n sites handed on each set of them has its holders
-  pub handed-end : {words : List ℕ} (x : ℕ) → n ≤ 12 → n ≤ x → Handed t n x words → Holds t n words
-  handed-end {words} x few all h =
+  pub handed-end : {words : List ℕ} (x : ℕ) → Rows t n → n ≤ 12 → n ≤ x → Handed t n x words → Holds t n words
+  handed-end {words} x rows few all h =
       record {
+        rows = rows;
         few = few;
         each = λ u v lu lv.
             let l = lt-of-lt-of-le lu (pow-mono few) in
@@ -511,7 +515,8 @@ module _ (t : List ℕ) (n : ℕ) where
             h .full (u / 4) (word u l) .each (u % 4) v (r .0) (mod-lt u (omega arith)) lv (r .1)
             (subst (λ (y : ℕ). reaches x (sliceOf t v (r .0)) y ≡ true) (sym (back u))
             (reaches-of (record { inside = r .2; lacks = λ y k m. lt-of-lt-of-le (∈-below lu k) all })))
-            .holds);
+            .holds)
+            ∙ sym (listed-inside (rows .listed v lv) u);
       }
     where
       back : (u : ℕ) → 4 * (u / 4) + u % 4 ≡ u
@@ -555,9 +560,9 @@ held-at {n = n} holds b u hb hu = quarter (lt-of-lt-of-le (or-lt n u b hu hb) (p
 
 -- a round of the table with b deleted, from the holders
 pub held-round : {t words : List ℕ} {n : ℕ} → Holds t n words → (b u : ℕ) → b < 2 ^ n → u < 2 ^ n
-    → minus (bitAnd u (getD words (bitOr u b / 4) 0 / 2 ^ (16 * (bitOr u b % 4)))) b ≡ round (slicesOf t .deleted b) n u
+    → minus (bitAnd u (getD words (bitOr u b / 4) 0 / 2 ^ (16 * (bitOr u b % 4)))) b ≡ round (rulesOf t .deleted b) n u
 held-round {t} {words} {n} holds b u hb hu =
-    let s = slicesOf t .deleted b in
+    let s = rulesOf t .deleted b in
     ⊆-antisym
     (record {
       each = λ v h.
@@ -565,7 +570,7 @@ held-round {t} {words} {n} holds b u hb hu =
           let i = and-⊆-l u g .each v k in
           let l = ∈-below hu i in
           ∈-round s n l i
-          (deleted-inside t b v u
+          (rows-lawful (holds .rows) .deleted-or b v u
           ∙ and-i (ap not (is-false (has b v) (λ o. minus-not-in (bitAnd u g) h (mem o)))) (sym (at v l) ∙ and-⊆-r u g .each v k .holds));
     })
     (record {
@@ -573,8 +578,8 @@ held-round {t} {words} {n} holds b u hb hu =
           let d = round-slice s n h in
           ∈-minus
           (∈-and (round-⊆ s n u .each v h)
-          (mem (at v (∈-below (round-lt s n u) h) ∙ and-r (not (has b v)) (slicesOf t .inside v all) (sym (deleted-inside t b v u) ∙ d))))
-          (deleted-stays t b v u d);
+          (mem (at v (∈-below (round-lt s n u) h) ∙ and-r (not (has b v)) (rulesOf t .inside v all) (sym (rows-lawful (holds .rows) .deleted-or b v u) ∙ d))))
+          (deleted-stays (rows-lawful (holds .rows)) b v u d);
     })
   where
     all : ℕ
@@ -583,12 +588,12 @@ held-round {t} {words} {n} holds b u hb hu =
     g : ℕ
     g = getD words (all / 4) 0 / 2 ^ (16 * (all % 4))
 
-    at : (v : ℕ) → v < n → has g v ≡ slicesOf t .inside v all
+    at : (v : ℕ) → v < n → has g v ≡ rulesOf t .inside v all
     at v l = has-shr (getD words (all / 4) 0) (16 * (all % 4)) v ∙ holds .each all v (or-lt n u b hu hb) l
 
 -- where u has no member of b, nobody of b has to be dropped
 pub held-stay : {t words : List ℕ} {n : ℕ} → Holds t n words → (b u : ℕ) → b < 2 ^ n → u < 2 ^ n → bitAnd u b ≡ 0
-    → bitAnd u (getD words (bitOr u b / 4) 0 / 2 ^ (16 * (bitOr u b % 4))) ≡ round (slicesOf t .deleted b) n u
+    → bitAnd u (getD words (bitOr u b / 4) 0 / 2 ^ (16 * (bitOr u b % 4))) ≡ round (rulesOf t .deleted b) n u
 held-stay {t} {words} {n} holds b u hb hu apart = sym (minus-none apart) ∙ held-round holds b u hb hu
   where
     g : ℕ

@@ -8,6 +8,7 @@ use mathlib.Core.Path.{_≡_}
 use lib.Bits.{bitOr}
 use lib.ListN.{length, getD}
 use Rattle.masks.specs.Mask.{has, within, allBelow, _∈_}
+use Rattle.sets.specs.Rows.{Rows, rulesOf}
 use Rattle.sets.specs.Slices.{slicesOf}
 use Rattle.table.specs.Table.{countOf, sliceOf}
 
@@ -61,5 +62,6 @@ pub record Spread (word next : ℕ) : Type 0 where
 
 -- each set of the n sites has its holders, and there are at most 12 sites
 pub record Holds (t : List ℕ) (n : ℕ) (words : List ℕ) : Type 0 where
+  pub rows : Rows t n
   pub few : n ≤ 12
-  pub each : (u v : ℕ) → u < 2 ^ n → v < n → has (getD words (u / 4) 0) (16 * (u % 4) + v) ≡ slicesOf t .inside v u
+  pub each : (u v : ℕ) → u < 2 ^ n → v < n → has (getD words (u / 4) 0) (16 * (u % 4) + v) ≡ rulesOf t .inside v u

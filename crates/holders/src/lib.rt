@@ -3,14 +3,13 @@
 ghost use mathlib.Core.Path.{_≡_};
 ghost use lib.Bits.{bitAnd};
 ghost use Prim.Native.Nat.{_<_, _≤_, _+_, _*_, _^_};
-ghost use Rattle.table.specs.Table.{Table};
-ghost use Rattle.sets.specs.Slices.{slicesOf};
 ghost use Rattle.sets.specs.Quorum.{round};
 ghost use Rattle.holders.specs.Inner.{Marked, Handed, Handing, Spread, Holds};
+ghost use Rattle.sets.specs.Rows.{Rows, rulesOf};
 
 // Each slice of site v marks the set that it is.
 fn mark_site(table: &[u64], n: usize, v: usize, words: &mut [u64; 1024])
-    requires { ⌜ Table (now table) n ⌝ }
+    requires { ⌜ Rows (now table) n ⌝ }
     requires { ⌜ n ≤ 12 ⌝ }
     requires { ⌜ v < n ⌝ }
     requires { ⌜ Marked (now table) v 0 (now words) ⌝ }
@@ -28,7 +27,7 @@ fn mark_site(table: &[u64], n: usize, v: usize, words: &mut [u64; 1024])
 
 // The slices of all sites mark their sets.
 fn mark(table: &[u64], n: usize, words: &mut [u64; 1024])
-    requires { ⌜ Table (now table) n ⌝ }
+    requires { ⌜ Rows (now table) n ⌝ }
     requires { ⌜ n ≤ 12 ⌝ }
     requires { ⌜ Marked (now table) 0 0 (now words) ⌝ }
     ensures { λ r. ⌜ Marked (now (table .entry)) n 0 (now (words .exit)) ⌝ }
@@ -102,7 +101,7 @@ fn hand_on(table: &[u64], n: usize, x: usize, words: &mut [u64; 1024])
 
 // The holders of every set of the n sites, in a list of zeros.
 pub fn fill(table: &[u64], n: usize, words: &mut [u64; 1024])
-    requires { ⌜ Table (now table) n ⌝ }
+    requires { ⌜ Rows (now table) n ⌝ }
     requires { ⌜ n ≤ 12 ⌝ }
     requires { ⌜ Marked (now table) 0 0 (now words) ⌝ }
     ensures { λ r. ⌜ Holds (now (table .entry)) n (now (words .exit)) ⌝ }
@@ -121,7 +120,7 @@ pub fn round(table: &[u64], n: usize, words: &[u64; 1024], b: u64, u: u64) -> u6
     requires { ⌜ Holds (now table) n (now words) ⌝ }
     requires { ⌜ b < 2 ^ n ⌝ }
     requires { ⌜ u < 2 ^ n ⌝ }
-    ensures { λ r. ⌜ r ≡ round (slicesOf (now (table .entry)) .deleted b) n u ⌝ }
+    ensures { λ r. ⌜ r ≡ round (rulesOf (now (table .entry)) .deleted b) n u ⌝ }
 {
     let all = u | b;
     masks::minus(u & (words[(all / 4) as usize] >> (16 * (all % 4))), b)
@@ -133,7 +132,7 @@ pub fn stay(table: &[u64], n: usize, words: &[u64; 1024], b: u64, u: u64) -> u64
     requires { ⌜ b < 2 ^ n ⌝ }
     requires { ⌜ u < 2 ^ n ⌝ }
     requires { ⌜ bitAnd u b ≡ 0 ⌝ }
-    ensures { λ r. ⌜ r ≡ round (slicesOf (now (table .entry)) .deleted b) n u ⌝ }
+    ensures { λ r. ⌜ r ≡ round (rulesOf (now (table .entry)) .deleted b) n u ⌝ }
 {
     let all = u | b;
     u & (words[(all / 4) as usize] >> (16 * (all % 4)))

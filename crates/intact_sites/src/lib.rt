@@ -1,18 +1,17 @@
 // Intact sites of a checked table of at most 12 sites.
 ghost use mathlib.Core.Path.{_≡_};
 ghost use Prim.Native.Nat.{_≤_};
-ghost use Rattle.table.specs.Table.{Table};
-ghost use Rattle.sets.specs.Slices.{slicesOf};
 ghost use Rattle.verdicts.specs.Verdicts.{intact};
+ghost use Rattle.sets.specs.Rows.{Rows, rulesOf};
 
 mod search;
 
 // The sites that are intact when those of f are faulty. What f leaves has a largest quorum; if that is empty, nobody is intact, else all other sites count as
 // faulty.
 pub fn intact(table: &[u64], n: usize, f: u64) -> u64
-    requires { ⌜ Table (now table) n ⌝ }
+    requires { ⌜ Rows (now table) n ⌝ }
     requires { ⌜ n ≤ 12 ⌝ }
-    ensures { λ r. ⌜ r ≡ intact (slicesOf (now (table .entry))) n f ⌝ }
+    ensures { λ r. ⌜ r ≡ intact (rulesOf (now (table .entry))) n f ⌝ }
 {
     if !masks::within(f, masks::all_below(n as u64)) {
         return 0;

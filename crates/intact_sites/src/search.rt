@@ -4,17 +4,16 @@ ghost use mathlib.Core.Bool.{cond};
 ghost use Prim.Native.Nat.{_<_, _^_};
 ghost use lib.Bits.{bitOr};
 ghost use Rattle.masks.specs.Mask.{minus, allBelow};
-ghost use Rattle.table.specs.Table.{Table};
-ghost use Rattle.sets.specs.Slices.{slicesOf};
 ghost use Rattle.verdicts.specs.Verdicts.{dispensable, intact};
 ghost use Rattle.holders.specs.Inner.{Holds};
+ghost use Rattle.sets.specs.Rows.{Rows, rulesOf};
 
 // b is dispensable.
 fn is_dispensable(table: &[u64], n: usize, list: &[u64; 1024], b: u64) -> bool
-    requires { ⌜ Table (now table) n ⌝ }
+    requires { ⌜ Rows (now table) n ⌝ }
     requires { ⌜ Holds (now table) n (now list) ⌝ }
     requires { ⌜ b < 2 ^ n ⌝ }
-    ensures { λ r. ⌜ r ≡ dispensable (slicesOf (now (table .entry))) n b ⌝ }
+    ensures { λ r. ⌜ r ≡ dispensable (rulesOf (now (table .entry))) n b ⌝ }
 {
     let rest = masks::minus(masks::all_below(n as u64), b);
     if holders::round(table, n, list, 0, rest) != rest {
@@ -25,10 +24,10 @@ fn is_dispensable(table: &[u64], n: usize, list: &[u64; 1024], b: u64) -> bool
 
 // The sites outside b if b is dispensable, else none. Where those sites are known already, b is not asked.
 fn spared(table: &[u64], n: usize, list: &[u64; 1024], b: u64, known: u64) -> u64
-    requires { ⌜ Table (now table) n ⌝ }
+    requires { ⌜ Rows (now table) n ⌝ }
     requires { ⌜ Holds (now table) n (now list) ⌝ }
     requires { ⌜ b < 2 ^ n ⌝ }
-    ensures { λ r. ⌜ bitOr known r ≡ bitOr known (cond (dispensable (slicesOf (now (table .entry))) n b) (minus (allBelow n) b) 0) ⌝ }
+    ensures { λ r. ⌜ bitOr known r ≡ bitOr known (cond (dispensable (rulesOf (now (table .entry))) n b) (minus (allBelow n) b) 0) ⌝ }
 {
     let outside = masks::minus(masks::all_below(n as u64), b);
     if masks::within(outside, known) {
@@ -42,10 +41,10 @@ fn spared(table: &[u64], n: usize, list: &[u64; 1024], b: u64, known: u64) -> u6
 
 // The sites that are intact when those of f are faulty: b runs through the sets that contain f, until every site outside f is found.
 pub fn intact(table: &[u64], n: usize, list: &[u64; 1024], f: u64) -> u64
-    requires { ⌜ Table (now table) n ⌝ }
+    requires { ⌜ Rows (now table) n ⌝ }
     requires { ⌜ Holds (now table) n (now list) ⌝ }
     requires { ⌜ f < 2 ^ n ⌝ }
-    ensures { λ r. ⌜ r ≡ intact (slicesOf (now (table .entry))) n f ⌝ }
+    ensures { λ r. ⌜ r ≡ intact (rulesOf (now (table .entry))) n f ⌝ }
 {
     let end = masks::single(n as u64);
     let correct = masks::minus(masks::all_below(n as u64), f);

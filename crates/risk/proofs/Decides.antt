@@ -10,6 +10,7 @@ use Rattle.masks.proofs.Laws.Subsets.{not-in-zero, below-⊆, ∈-minus, minus-
 use Rattle.masks.specs.Mask.{single, minus, others, allBelow, _∈_, _⊆_}
 use Rattle.sets.specs.Paper.{Fbqs}
 use Rattle.sets.specs.Slices.{Slices}
+use Rattle.sets.proofs.Groups.{lawful}
 use Rattle.verdicts.proofs.Decides.{table-verdicts}
 use Rattle.verdicts.specs.Decides.{VerdictsDecide}
 use Rattle.verdicts.specs.Verdicts.{intact}
@@ -58,6 +59,7 @@ module _ {S : Fbqs} {r : Slices} {n : ℕ} (verdicts : VerdictsDecide S r n) (al
 
 -- of a checked table
 pub table-risk : TableRisk
-table-risk t n table =
-    let verdicts = table-verdicts t n table in
-    record { along = λ v h. along-is verdicts refl v; fewest-first = fewest-is verdicts refl }
+table-risk t c =
+    let verdicts = table-verdicts t c in
+    let all = lawful t c .all-sites in
+    record { along = λ v h. along-is verdicts all v; fewest-first = fewest-is verdicts all }

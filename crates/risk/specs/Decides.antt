@@ -5,9 +5,9 @@ use mathlib.Core.Logic.{_↔_}
 use mathlib.Core.Path.{_≡_}
 use Rattle.masks.specs.Mask.{single, size, _∈_, _⊆_}
 use Rattle.sets.specs.Paper.{Fbqs, Intact, Befouled}
-use Rattle.sets.specs.Slices.{Slices, fbqsOf, slicesOf}
-use Rattle.table.specs.Table.{Table}
+use Rattle.sets.specs.Slices.{Slices}
 use Rattle.risk.specs.Risk.{takenAlong, fewest, firstRuin}
+use Rattle.sets.specs.Groups.{Groups, fbqsIn, slicesIn, sitesOf, Checked}
 
 -- of a site v: so many others are befouled if it alone is faulty
 pub record Along (S : Fbqs) (v k : ℕ) : Type 0 where
@@ -32,4 +32,4 @@ pub record RiskDecides (S : Fbqs) (r : Slices) (n : ℕ) : Type 0 where
 
 -- of a checked table
 abbrev pub TableRisk : Type 0
-TableRisk = (t : List ℕ) (n : ℕ) → Table t n → RiskDecides (fbqsOf t n) (slicesOf t) n
+TableRisk = (t : Groups) → Checked t → RiskDecides (fbqsIn t) (slicesIn t) (sitesOf t)

@@ -44,8 +44,8 @@ module _ {S : Fbqs} {r : Slices} {n : ℕ} (lawful : Lawful S r n) where
 
   -- `deleted b` answers for S with b deleted
 
-  pub deleted-stays : (b : ℕ) {v u : ℕ} → r .deleted b v u ≡ true → v ∈ b → ⊥
-  deleted-stays b {v} {u} e h =
+  pub deleted-stays : (b v u : ℕ) → r .deleted b v u ≡ true → v ∈ b → ⊥
+  deleted-stays b v u e h =
       clash (h .holds) (not-t (has b v) (and-l (not (has b v)) (r .inside v (bitOr u b)) (sym (lawful .deleted-or b v u) ∙ e)))
 
   -- with nobody deleted
@@ -65,10 +65,10 @@ module _ {S : Fbqs} {r : Slices} {n : ℕ} (lawful : Lawful S r n) where
         of-sites = ⊆-trans (minus-⊆ (S .sites) b) (inside-answers .of-sites);
         rule = record {
           grows = λ v a c sub e.
-              deleted-of b v c (deleted-stays b e)
+              deleted-of b v c (deleted-stays b v a e)
               (inside-grows .grows v (bitOr a b) (bitOr c b) (or-⊆ (⊆-trans sub (or-⊆-l c b)) (or-⊆-r c b)) (deleted-slice b v a e));
         };
-        site = λ v u h e. ∈-minus (subst (λ (x : ℕ). v ∈ x) (sym (lawful .all-sites)) h) (deleted-stays b e);
+        site = λ v u h e. ∈-minus (subst (λ (x : ℕ). v ∈ x) (sym (lawful .all-sites)) h) (deleted-stays b v u e);
         slice = λ v u e.
             let x = lawful .slice-inside v (bitOr u b) (deleted-slice b v u e) in (minus (x .0) b, (x .0, x .1, refl), or-⊆-minus (x .0) b u (x .2));
         inside = λ v u p h x sub.

@@ -3,10 +3,9 @@ ghost use mathlib.Core.Path.{_≡_};
 ghost use mathlib.Core.Bool.{cond};
 ghost use Prim.Native.Nat.{_≤_};
 ghost use lib.Dec.{eqb};
-ghost use Rattle.table.specs.Table.{Table};
-ghost use Rattle.sets.specs.Slices.{slicesOf};
 ghost use Rattle.verdicts.specs.Verdicts.{beside, firstApart};
 ghost use Rattle.shared_sites.specs.Inner.{besideFirst};
+ghost use Rattle.sets.specs.Rows.{Rows, rulesOf};
 
 pub mod search;
 
@@ -18,17 +17,17 @@ pub struct Pair {
 
 // The largest quorum in the complement of p.
 pub fn beside(table: &[u64], n: usize, p: u64) -> u64
-    requires { ⌜ Table (now table) n ⌝ }
-    ensures { λ r. ⌜ r ≡ beside (slicesOf (now (table .entry)) .inside) n p ⌝ }
+    requires { ⌜ Rows (now table) n ⌝ }
+    ensures { λ r. ⌜ r ≡ beside (rulesOf (now (table .entry)) .inside) n p ⌝ }
 {
     rounds::largest_set(table, n, masks::minus(masks::all_below(n as u64), p))
 }
 
 // The quorum of the smallest mask that has a quorum in its complement; 2^n if there is none.
 pub fn first_apart(table: &[u64], n: usize) -> u64
-    requires { ⌜ Table (now table) n ⌝ }
+    requires { ⌜ Rows (now table) n ⌝ }
     requires { ⌜ n ≤ 12 ⌝ }
-    ensures { λ r. ⌜ r ≡ firstApart (slicesOf (now (table .entry)) .inside) n ⌝ }
+    ensures { λ r. ⌜ r ≡ firstApart (rulesOf (now (table .entry)) .inside) n ⌝ }
 {
     let mut list = [0u64; 1024];
     holders::fill(table, n, &mut list);
@@ -37,8 +36,8 @@ pub fn first_apart(table: &[u64], n: usize) -> u64
 
 // The largest quorum in the complement of a set of the first six sites; none for 64, which stands for no set.
 fn beside_early(table: &[u64], n: usize, p: u64) -> u64
-    requires { ⌜ Table (now table) n ⌝ }
-    ensures { λ r. ⌜ r ≡ cond (eqb p 64) 0 (beside (slicesOf (now (table .entry)) .inside) n p) ⌝ }
+    requires { ⌜ Rows (now table) n ⌝ }
+    ensures { λ r. ⌜ r ≡ cond (eqb p 64) 0 (beside (rulesOf (now (table .entry)) .inside) n p) ⌝ }
 {
     if p == 64 {
         return 0;
@@ -48,10 +47,10 @@ fn beside_early(table: &[u64], n: usize, p: u64) -> u64
 
 // That quorum, and the largest in its complement, none if it is 2^n. The smallest quorum of the first six sites is asked before all sets are looked at.
 pub fn two_apart(table: &[u64], n: usize) -> Pair
-    requires { ⌜ Table (now table) n ⌝ }
+    requires { ⌜ Rows (now table) n ⌝ }
     requires { ⌜ n ≤ 12 ⌝ }
-    ensures first { λ r. ⌜ r .first ≡ firstApart (slicesOf (now (table .entry)) .inside) n ⌝ }
-    ensures second { λ r. ⌜ r .second ≡ besideFirst (slicesOf (now (table .entry)) .inside) n ⌝ }
+    ensures first { λ r. ⌜ r .first ≡ firstApart (rulesOf (now (table .entry)) .inside) n ⌝ }
+    ensures second { λ r. ⌜ r .second ≡ besideFirst (rulesOf (now (table .entry)) .inside) n ⌝ }
 {
     let early = early_quorums::first(table, n);
     let second = beside_early(table, n, early);

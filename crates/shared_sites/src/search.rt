@@ -2,11 +2,10 @@
 ghost use mathlib.Core.Path.{_≡_};
 ghost use Prim.Native.Nat.{_<_, _^_};
 ghost use lib.Bits.{bitAnd};
-ghost use Rattle.table.specs.Table.{Table};
-ghost use Rattle.sets.specs.Slices.{slicesOf};
 ghost use Rattle.sets.specs.Quorum.{largest};
 ghost use Rattle.verdicts.specs.Verdicts.{apart, firstApart};
 ghost use Rattle.holders.specs.Inner.{Holds};
+ghost use Rattle.sets.specs.Rows.{Rows, rulesOf};
 
 // The largest quorum inside w, which has no member of b.
 fn largest(table: &[u64], n: usize, list: &[u64; 1024], b: u64, w: u64) -> u64
@@ -14,7 +13,7 @@ fn largest(table: &[u64], n: usize, list: &[u64; 1024], b: u64, w: u64) -> u64
     requires { ⌜ b < 2 ^ n ⌝ }
     requires { ⌜ w < 2 ^ n ⌝ }
     requires { ⌜ bitAnd w b ≡ 0 ⌝ }
-    ensures { λ r. ⌜ r ≡ largest (slicesOf (now (table .entry)) .deleted b) n w ⌝ }
+    ensures { λ r. ⌜ r ≡ largest (rulesOf (now (table .entry)) .deleted b) n w ⌝ }
 {
     let mut set = w;
     loop {
@@ -28,13 +27,13 @@ fn largest(table: &[u64], n: usize, list: &[u64; 1024], b: u64, w: u64) -> u64
 
 // The set p, which is not empty and has no member of b, is a quorum that has a quorum in its complement.
 fn is_apart(table: &[u64], n: usize, list: &[u64; 1024], b: u64, p: u64) -> bool
-    requires { ⌜ Table (now table) n ⌝ }
+    requires { ⌜ Rows (now table) n ⌝ }
     requires { ⌜ Holds (now table) n (now list) ⌝ }
     requires { ⌜ b < 2 ^ n ⌝ }
     requires { ⌜ p < 2 ^ n ⌝ }
     requires { ⌜ bitAnd p b ≡ 0 ⌝ }
     requires { ⌜ (p ≡ 0 → ⊥) ⌝ }
-    ensures { λ r. ⌜ r ≡ apart (slicesOf (now (table .entry)) .deleted b) n p ⌝ }
+    ensures { λ r. ⌜ r ≡ apart (rulesOf (now (table .entry)) .deleted b) n p ⌝ }
 {
     if holders::stay(table, n, list, b, p) != p {
         return false;
@@ -46,10 +45,10 @@ fn is_apart(table: &[u64], n: usize, list: &[u64; 1024], b: u64, p: u64) -> bool
 // The quorum of the smallest mask that has a quorum in its complement; 2^n if there is none. Of two quorums without a common site the smaller is no more
 // than half of all sites.
 pub fn first_apart(table: &[u64], n: usize, list: &[u64; 1024], b: u64) -> u64
-    requires { ⌜ Table (now table) n ⌝ }
+    requires { ⌜ Rows (now table) n ⌝ }
     requires { ⌜ Holds (now table) n (now list) ⌝ }
     requires { ⌜ b < 2 ^ n ⌝ }
-    ensures { λ r. ⌜ r ≡ firstApart (slicesOf (now (table .entry)) .deleted b) n ⌝ }
+    ensures { λ r. ⌜ r ≡ firstApart (rulesOf (now (table .entry)) .deleted b) n ⌝ }
 {
     let rest = masks::minus(masks::all_below(n as u64), b);
     let half = rest / 2;

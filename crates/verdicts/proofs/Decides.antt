@@ -12,7 +12,9 @@ use Rattle.masks.proofs.Laws.Gather.{∈-gather, gather-∈, gather-lt}
 use Rattle.masks.proofs.Laws.Subsets.{∈-below, below-⊆, minus-⊆, ∈-minus, minus-not-in}
 use Rattle.masks.specs.Mask.{minus, allBelow, _∈_, _⊆_}
 use Rattle.sets.proofs.Decides.{quorum-is, is-quorum}
-use Rattle.sets.proofs.Lawful.{Answers, Lawful, inside-answers, deleted-answers, table-lawful}
+use Rattle.sets.proofs.Lawful.{Answers, inside-answers, deleted-answers}
+use Rattle.sets.proofs.Groups.{lawful}
+use Rattle.sets.specs.Rows.{Lawful}
 use Rattle.sets.specs.Paper.{Fbqs, Quorum, Intersection, Dispensable, Intact, Befouled}
 use Rattle.sets.specs.Quorum.{quorum}
 use Rattle.sets.specs.Slices.{Slices}
@@ -111,4 +113,4 @@ module _ {S : Fbqs} {r : Slices} {n : ℕ} (lawful : Lawful S r n) where
 
 -- of a checked table
 pub table-verdicts : TableVerdicts
-table-verdicts t n table = verdicts-decide (table-lawful table)
+table-verdicts t c = verdicts-decide (lawful t c)

@@ -1,14 +1,13 @@
 -- The computed verdicts are the paper's: what is proved of a checked table, for every n.
 use Prim.Native.Nat.{ℕ, _≤_, _<_}
 use mathlib.Core.Bool.{true, false}
-use mathlib.Core.List.{List}
 use mathlib.Core.Logic.{_↔_}
 use mathlib.Core.Path.{_≡_}
 use lib.Bits.{bitAnd}
 use Rattle.masks.specs.Mask.{minus, allBelow, _∈_, _⊆_}
+use Rattle.sets.specs.Groups.{Groups, fbqsIn, slicesIn, sitesOf, Checked}
 use Rattle.sets.specs.Paper.{Fbqs, Quorum, Intersection, Dispensable, Intact, Befouled}
-use Rattle.sets.specs.Slices.{Slices, fbqsOf, slicesOf}
-use Rattle.table.specs.Table.{Table}
+use Rattle.sets.specs.Slices.{Slices}
 use Rattle.verdicts.specs.Verdicts.{beside, firstApart, meets, dispensable, isIntact, intact}
 
 -- of two quorums with no common site: p is the one of the smallest mask that has a quorum in its complement, q the largest quorum there
@@ -30,4 +29,4 @@ pub record VerdictsDecide (S : Fbqs) (r : Slices) (n : ℕ) : Type 0 where
 
 -- of a checked table
 abbrev pub TableVerdicts : Type 0
-TableVerdicts = (t : List ℕ) (n : ℕ) → Table t n → VerdictsDecide (fbqsOf t n) (slicesOf t) n
+TableVerdicts = (t : Groups) → Checked t → VerdictsDecide (fbqsIn t) (slicesIn t) (sitesOf t)

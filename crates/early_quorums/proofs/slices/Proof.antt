@@ -27,7 +27,7 @@ loop-holds c =
     let s = c .before .before .before in
     let t = now (s .args .table) in (
       search needs,
-      subst (λ (k : ℕ). k ≤ 62) (count-at t (s .args .v)) (s .pre .few-slices (s .args .v) (c .before .if1 .left)),
+      subst (λ (k : ℕ). k ≤ 62) (count-at t (s .args .v)) (s .pre .listed (s .args .v) (c .before .if1 .left) .few-slices),
       counted-none t (s .args .v),
     )
 

@@ -33,7 +33,7 @@ returns : tie.Need-returns Inv-loop μ-loop
 returns c =
     let s = c .before .before .before .before .before .before .before in
     let l = c .before .loop in
-    handed-end (now (s .args .table)) (s .args .n) (l .x) (s .pre .1 .0) (c .loop-test .left) (l .inv .3)
+    handed-end (now (s .args .table)) (s .args .n) (l .x) (s .pre .0) (s .pre .1 .0) (c .loop-test .left) (l .inv .3)
 
 pub fill-spec : {M : Type 1} → statement M
 fill-spec =

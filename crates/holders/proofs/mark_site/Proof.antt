@@ -6,16 +6,18 @@ use native.Mathlib.Omega.{arith}
 use mathlib.Core.List.{List}
 use lib.Bits.{bitOr}
 use lib.ListN.{getD, set}
-use lib.Pow.{pow-mono}
+use lib.Pow.{ones-lt, pow-mono}
 use borrow.Author.Needs.{needs}
 use denote.Ref.{now}
 use Rattle.masks.specs.Mask.{single}
 use Rattle.holders.specs.Inner.{Marked}
 use Rattle.holders.proofs.HolderLaws.{marked-slice, marked-site}
 use Rattle.holders.proofs.mark_site.Statement.{statement}
-use Rattle.table.proofs.Table.{count-at, slice-at, slice-lt}
-use Rattle.table.specs.Table.{Table, countOf}
+use Rattle.table.proofs.Table.{count-at, slice-at}
+use Rattle.table.specs.Table.{countOf}
 use Rattle.holders.proofs.mark_site.Tie as tie
+use Rattle.masks.proofs.Laws.Subsets.{below-⊆}
+use Rattle.sets.specs.Rows.{ListedRow}
 
 abbrev Inv-loop : tie.InvT-loop
 Inv-loop table n v words₀ many i₀ words i = (i ≤ many) × (many ≤ 62) × Marked table v i words
@@ -26,31 +28,33 @@ abbrev μ-loop : tie.MeasureT-loop
 loop-holds : tie.Need-loop-holds Inv-loop μ-loop
 loop-holds c =
     let s = c .before .before in
-    (search needs, subst (λ (k : ℕ). k ≤ 62) (count-at (now (s .args .table)) (s .args .v)) (s .pre .0 .few-slices (s .args .v) (s .pre .1 .1 .0)), search needs)
+    (search needs, subst (λ (k : ℕ). k ≤ 62) (count-at (now (s .args .table)) (s .args .v)) (s .pre .0 .listed (s .args .v) (s .pre .1 .1 .0) .few-slices), search needs)
 
 -- a slice is the number of a set in the list
-slice-few : {t : List ℕ} {n : ℕ} → Table t n → n ≤ 12 → (v i : ℕ) → i < 62 → getD t (63 * v + 1 + i) 0 < 4096
-slice-few {t} table few v i l = subst (λ (q : ℕ). q < 4096) (slice-at t v i l) (lt-of-lt-of-le (slice-lt table v i) (pow-mono few))
+slice-few : {t : List ℕ} {n v : ℕ} → ListedRow t n v → n ≤ 12 → (i : ℕ) → i < 62 → i < getD t (63 * v) 0 → getD t (63 * v + 1 + i) 0 < 4096
+slice-few {t} {n} {v} row few i l h =
+    subst (λ (q : ℕ). q < 4096) (slice-at t v i l)
+    (lt-of-lt-of-le (below-⊆ n (row .below i (subst (λ (k : ℕ). i < k) (sym (count-at t v)) h)) (ones-lt n)) (pow-mono few))
 
 mul-words : tie.Need-mul-words Inv-loop μ-loop
 mul-words c =
     let s = c .before .before .before .before .before in
-    omega (arith, slice-few (s .pre .0) (s .pre .1 .0) (s .args .v) (c .before .before .loop .i) (omega arith))
+    omega (arith, slice-few (s .pre .0 .listed (s .args .v) (s .pre .1 .1 .0)) (s .pre .1 .0) (c .before .before .loop .i) (omega arith) (c .before .loop-test .taken))
 
 element-copy-out-words : tie.Need-element-copy-out-words Inv-loop μ-loop
 element-copy-out-words c =
     let s = c .before .before .before .before .before in
-    omega (arith, slice-few (s .pre .0) (s .pre .1 .0) (s .args .v) (c .before .before .loop .i) (omega arith))
+    omega (arith, slice-few (s .pre .0 .listed (s .args .v) (s .pre .1 .1 .0)) (s .pre .1 .0) (c .before .before .loop .i) (omega arith) (c .before .loop-test .taken))
 
 mul-words-2 : tie.Need-mul-words-2 Inv-loop μ-loop
 mul-words-2 c =
     let s = c .before .before .before .before .before .before .before in
-    omega (arith, slice-few (s .pre .0) (s .pre .1 .0) (s .args .v) (c .before .before .before .before .loop .i) (omega arith))
+    omega (arith, slice-few (s .pre .0 .listed (s .args .v) (s .pre .1 .1 .0)) (s .pre .1 .0) (c .before .before .before .before .loop .i) (omega arith) (c .before .before .before .loop-test .taken))
 
 element-write-words : tie.Need-element-write-words Inv-loop μ-loop
 element-write-words c =
     let s = c .before .before .before .before .before .before .before in
-    omega (arith, slice-few (s .pre .0) (s .pre .1 .0) (s .args .v) (c .before .before .before .before .loop .i) (omega arith))
+    omega (arith, slice-few (s .pre .0 .listed (s .args .v) (s .pre .1 .1 .0)) (s .pre .1 .0) (c .before .before .before .before .loop .i) (omega arith) (c .before .before .before .loop-test .taken))
 
 loop-again : tie.Need-loop-again Inv-loop μ-loop
 loop-again c =
@@ -68,7 +72,7 @@ loop-again c =
           (subst
           (λ (q : ℕ). Marked t (a .v) (l .i + 1) (set (l .words) (q / 4) (bitOr (getD (l .words) (q / 4) 0) (single (16 * (q % 4) + a .v)))))
           (slice-at t (a .v) (l .i) few)
-          (marked-slice t (a .v) (l .i) site own (lt-of-lt-of-le (slice-lt (s .pre .0) (a .v) (l .i)) (pow-mono (s .pre .1 .0))) (l .inv .2))),
+          (marked-slice t (a .v) (l .i) site own (lt-of-lt-of-le (below-⊆ (a .n) (s .pre .0 .listed (a .v) (s .pre .1 .1 .0) .below (l .i) own) (ones-lt (a .n))) (pow-mono (s .pre .1 .0))) (l .inv .2))),
     )
 
 returns : tie.Need-returns Inv-loop μ-loop

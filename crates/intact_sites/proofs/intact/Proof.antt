@@ -8,13 +8,14 @@ use borrow.Author.Tests.{not-true, not-false}
 use denote.Ref.{now}
 use Rattle.masks.proofs.Laws.Subsets.{within-⊆, minus-lt}
 use Rattle.masks.specs.Mask.{within, minus, allBelow, _⊆_}
-use Rattle.sets.specs.Slices.{slicesOf}
-use Rattle.sets.proofs.Lawful.{inside-grows, table-lawful}
+use Rattle.sets.proofs.Lawful.{inside-grows}
 use Rattle.holders.proofs.HolderLaws.{marked-none}
 use Rattle.verdicts.specs.Verdicts.{intact}
 use Rattle.verdicts.proofs.VerdictLaws.{intact-outside, intact-left, intact-nothing}
 use Rattle.intact_sites.proofs.intact.Statement.{statement}
 use Rattle.intact_sites.proofs.intact.Tie as tie
+use Rattle.sets.proofs.Rows.{rows-lawful}
+use Rattle.sets.specs.Rows.{rulesOf}
 
 -- f is a set of the sites, as it was asked
 sites : (f n : ℕ) {all : ℕ} {r : Bool} → all ≡ allBelow n → r ≡ within f all → r ≡ true → f ⊆ allBelow n
@@ -25,14 +26,14 @@ returns c =
     let a = c .before .before .before .before .args in
     let e : within (a .f) (allBelow (a .n)) ≡ false =
     ap (within (a .f)) (sym (c .before .before .all-below .ensures)) ∙ sym (c .before .within .ensures) ∙ not-true _ (c .if1 .taken) in
-    sym (intact-outside (slicesOf (now (a .table))) (a .n) (a .f) e)
+    sym (intact-outside (rulesOf (now (a .table))) (a .n) (a .f) e)
 
 returns-2 : tie.Need-returns-2
 returns-2 c =
     let s = c .before .before .before .before .before .before in
     let a = s .args in
     let f = sites (a .f) (a .n) (c .before .before .before .before .all-below .ensures) (c .before .before .before .within .ensures) (not-false _ (c .before .before .if1 .left)) in
-    sym (intact-nothing (slicesOf (now (a .table))) (a .n) (inside-grows (table-lawful (s .pre .0))) (a .f) f (sym (c .before .beside .ensures) ∙ c .if2 .taken))
+    sym (intact-nothing (rulesOf (now (a .table))) (a .n) (inside-grows (rows-lawful (s .pre .0))) (a .f) f (sym (c .before .beside .ensures) ∙ c .if2 .taken))
 
 fill-requires : tie.Need-fill-requires
 fill-requires c κs =
@@ -51,14 +52,14 @@ returns-3 : tie.Need-returns-3
 returns-3 c =
     let s = c .before .before .before .before .before .before .before .before .before .before .before .before in
     let a = s .args in
-    let r = slicesOf (now (a .table)) in
+    let r = rulesOf (now (a .table)) in
     let before = c .before .before .before .before .before .before .before in
     let left = before .beside .result in
     let e : c .before .minus .result ≡ minus (allBelow (a .n)) left = c .before .minus .ensures ∙ ap (λ (x : ℕ). minus x left) (c .before .before .all-below2 .ensures) in
     let f = sites (a .f) (a .n) (before .before .before .before .all-below .ensures) (before .before .before .within .ensures) (not-false _ (before .before .if1 .left)) in
     c .intact .ensures
     ∙ ap (intact r (a .n)) (e ∙ ap (minus (allBelow (a .n))) (before .beside .ensures))
-    ∙ intact-left r (a .n) (inside-grows (table-lawful (s .pre .0))) (a .f) f
+    ∙ intact-left r (a .n) (inside-grows (rows-lawful (s .pre .0))) (a .f) f
 
 pub intact-spec : {M : Type 1} → statement M
 intact-spec =

@@ -6,12 +6,12 @@ use borrow.Author.Needs.{needs}
 use denote.Ref.{now}
 use Rattle.risk.specs.Inner.{Best}
 use Rattle.risk.proofs.RiskLaws.{best-none, best-taken, best-passed, best-end}
-use Rattle.sets.specs.Slices.{slicesOf}
 use Rattle.risk_search.proofs.first_ruin.Statement.{statement}
 use Rattle.risk_search.proofs.first_ruin.Tie as tie
+use Rattle.sets.specs.Rows.{rulesOf}
 
 abbrev Inv-loop : tie.InvT-loop
-Inv-loop table n end best₀ f₀ best f = Best (slicesOf table) n f best
+Inv-loop table n end best₀ f₀ best f = Best (rulesOf table) n f best
 
 abbrev μ-loop : tie.MeasureT-loop
 μ-loop table n end best₀ f₀ best f = end - f
@@ -19,12 +19,12 @@ abbrev μ-loop : tie.MeasureT-loop
 loop-holds : tie.Need-loop-holds Inv-loop μ-loop
 loop-holds c =
     let a = c .before .before .before .args in
-    subst (λ (x : ℕ). Best (slicesOf (now (a .table))) (a .n) 0 x) (sym (c .all-below .ensures)) (best-none (slicesOf (now (a .table))) (a .n))
+    subst (λ (x : ℕ). Best (rulesOf (now (a .table))) (a .n) 0 x) (sym (c .all-below .ensures)) (best-none (rulesOf (now (a .table))) (a .n))
 
 loop-again : tie.Need-loop-again Inv-loop μ-loop
 loop-again c =
     let a = c .before .before .before .before .before .before .before .args in
-    let r = slicesOf (now (a .table)) in
+    let r = rulesOf (now (a .table)) in
     let l = c .before .before .before .loop in
     ⊎-elim
     (λ w.
@@ -37,7 +37,7 @@ loop-again c =
 returns : tie.Need-returns Inv-loop μ-loop
 returns c =
     let a = c .before .before .before .before .before .args in
-    best-end (slicesOf (now (a .table))) (a .n) (subst (λ (k : ℕ). k ≤ c .before .loop .f) (c .before .before .before .single .ensures) (c .loop-test .left)) (c .before .loop .inv)
+    best-end (rulesOf (now (a .table))) (a .n) (subst (λ (k : ℕ). k ≤ c .before .loop .f) (c .before .before .before .single .ensures) (c .loop-test .left)) (c .before .loop .inv)
 
 pub first-ruin-spec : {M : Type 1} → statement M
 first-ruin-spec =

@@ -4,17 +4,17 @@ use borrow.Author.Needs.{needs}
 use denote.Ref.{now}
 use Rattle.masks.specs.Mask.{minus, size}
 use Rattle.risk.specs.Risk.{takenAlong}
-use Rattle.sets.specs.Slices.{slicesOf}
 use Rattle.verdicts.specs.Verdicts.{intact}
 use Rattle.risk_search.proofs.taken_along.Statement.{statement}
 use Rattle.risk_search.proofs.taken_along.Tie as tie
+use Rattle.sets.specs.Rows.{rulesOf}
 
 returns : tie.Need-returns
 unfolding takenAlong
 returns c =
     let a = c .before .before .before .before .before .before .before .args in
     let alone = c .before .before .before .before .before .single .ensures in
-    let spared = c .before .before .before .before .intact .ensures ∙ ap (intact (slicesOf (now (a .table))) (a .n)) alone in
+    let spared = c .before .before .before .before .intact .ensures ∙ ap (intact (rulesOf (now (a .table))) (a .n)) alone in
     c .size .ensures ∙ ap size (c .before .minus2 .ensures ∙ ap₂ minus (c .before .before .minus .ensures ∙ ap₂ minus (c .before .before .before .all-below .ensures) spared) alone)
 
 pub taken-along-spec : {M : Type 1} → statement M

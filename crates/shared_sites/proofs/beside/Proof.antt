@@ -5,7 +5,7 @@ use borrow.Author.Needs.{needs}
 use denote.Ref.{now}
 use Rattle.masks.specs.Mask.{minus}
 use Rattle.sets.specs.Quorum.{largest}
-use Rattle.sets.specs.Slices.{slicesOf}
+use Rattle.sets.specs.Rows.{rulesOf}
 use Rattle.verdicts.specs.Verdicts.{beside}
 use Rattle.shared_sites.proofs.beside.Statement.{statement}
 use Rattle.shared_sites.proofs.beside.Tie as tie
@@ -15,7 +15,7 @@ unfolding beside
 returns c =
     let a = c .before .before .before .before .args in
     c .largest-set .ensures
-    ∙ ap (largest (slicesOf (now (a .table)) .inside) (a .n)) (c .before .minus .ensures ∙ ap (λ (x : ℕ). minus x (a .p)) (c .before .before .all-below .ensures))
+    ∙ ap (largest (rulesOf (now (a .table)) .inside) (a .n)) (c .before .minus .ensures ∙ ap (λ (x : ℕ). minus x (a .p)) (c .before .before .all-below .ensures))
 
 pub beside-spec : {M : Type 1} → statement M
 beside-spec =

@@ -6,7 +6,8 @@ use lib.Pow.{pow-pos}
 use denote.Ref.{now}
 use Rattle.verdicts.specs.Verdicts.{firstApart}
 use Rattle.holders.proofs.HolderLaws.{marked-none}
-use Rattle.sets.proofs.Slices.{deleted-none}
+use Rattle.sets.proofs.Lawful.{deleted-none}
+use Rattle.sets.proofs.Rows.{rows-lawful}
 use Rattle.shared_sites.proofs.first_apart.Statement.{statement}
 use Rattle.shared_sites.proofs.first_apart.Tie as tie
 
@@ -18,8 +19,9 @@ first-apart-requires c κs = let s = c .before .before .before .before in (s .pr
 
 returns : tie.Need-returns
 returns c =
-    let a = c .before .before .before .before .before .args in
-    c .first-apart .ensures ∙ ap (λ (s : ℕ → ℕ → Bool). firstApart s (a .n)) (deleted-none (now (a .table)))
+    let s = c .before .before .before .before .before in
+    let a = s .args in
+    c .first-apart .ensures ∙ ap (λ (s : ℕ → ℕ → Bool). firstApart s (a .n)) (deleted-none (rows-lawful (s .pre .0)))
 
 pub first-apart-spec : {M : Type 1} → statement M
 first-apart-spec = tie.close (tie.spec fill-requires first-apart-requires returns)

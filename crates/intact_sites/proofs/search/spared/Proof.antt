@@ -6,10 +6,10 @@ use lib.Bits.{bitOr}
 use borrow.Author.Needs.{needs}
 use denote.Ref.{now}
 use Rattle.masks.specs.Mask.{within, minus, allBelow}
-use Rattle.sets.specs.Slices.{slicesOf}
 use Rattle.verdicts.proofs.VerdictLaws.{spared-known}
 use Rattle.intact_sites.proofs.search.spared.Statement.{statement}
 use Rattle.intact_sites.proofs.search.spared.Tie as tie
+use Rattle.sets.specs.Rows.{rulesOf}
 
 returns : tie.Need-returns
 returns c =
@@ -17,7 +17,7 @@ returns c =
     let e : within (minus (allBelow (a .n)) (a .b)) (a .known) ≡ true =
     ap (λ (x : ℕ). within x (a .known)) (sym (c .before .before .minus .ensures ∙ ap (λ (x : ℕ). minus x (a .b)) (c .before .before .before .all-below .ensures)))
     ∙ sym (c .before .within .ensures) ∙ c .if1 .taken in
-    spared-known (slicesOf (now (a .table))) (a .n) (a .b) (a .known) e
+    spared-known (rulesOf (now (a .table))) (a .n) (a .b) (a .known) e
 
 returns-2 : tie.Need-returns-2
 returns-2 c =

@@ -11,17 +11,17 @@ use denote.Ref.{now}
 use Rattle.masks.proofs.Laws.Step.{next-apart, next-above, next-le}
 use Rattle.masks.proofs.Laws.Subsets.{minus-lt}
 use Rattle.masks.specs.Mask.{minus, allBelow}
-use Rattle.sets.specs.Slices.{slicesOf}
 use Rattle.verdicts.specs.Verdicts.{apart}
-use Rattle.sets.proofs.Lawful.{deleted-answers, table-lawful}
-use Rattle.sets.proofs.Slices.{deleted-stays}
+use Rattle.sets.proofs.Lawful.{deleted-stays, deleted-answers}
+use Rattle.sets.proofs.Rows.{rows-lawful}
+use Rattle.sets.specs.Rows.{rulesOf}
 use Rattle.verdicts.proofs.VerdictLaws.{apart-empty, first-apart-found, first-apart-half, none-apart-next}
 use Rattle.shared_sites.proofs.search.first_apart.Statement.{statement}
 use Rattle.shared_sites.proofs.search.first_apart.Tie as tie
 
 abbrev Inv-loop : tie.InvT-loop
 Inv-loop table n list b rest half p₀ p =
-    (0 < p) × (p ≤ 2 ^ n) × (rest < 2 ^ n) × (bitAnd p b ≡ 0) × ((q : ℕ) → q < p → apart (slicesOf table .deleted b) n q ≡ false)
+    (0 < p) × (p ≤ 2 ^ n) × (rest < 2 ^ n) × (bitAnd p b ≡ 0) × ((q : ℕ) → q < p → apart (rulesOf table .deleted b) n q ≡ false)
 
 abbrev μ-loop : tie.MeasureT-loop
 μ-loop table n list b rest half p₀ p = 2 ^ n - p
@@ -42,8 +42,8 @@ loop-holds c =
       subst (λ (k : ℕ). k ≤ 2 ^ a .n) (sym f) (next-le (a .n) 0 (a .b) (pow-pos (a .n)) (s .pre .1 .1)),
       subst (λ (k : ℕ). k < 2 ^ a .n) (sym e) (minus-lt (a .n) (allBelow (a .n)) (a .b) (ones-lt (a .n))),
       ap (λ (x : ℕ). bitAnd x (a .b)) f ∙ next-apart 0 (a .b),
-      λ q h. none-apart-next (slicesOf t .deleted (a .b)) (a .n) (a .b) (deleted-stays t (a .b)) 0 refl (λ q l. absurd (not-suc-le-zero l))
-          (apart-empty (slicesOf t .deleted (a .b)) (a .n)) q (subst (λ (k : ℕ). q < k) f h),
+      λ q h. none-apart-next (rulesOf t .deleted (a .b)) (a .n) (a .b) (deleted-stays (rows-lawful (s .pre .0)) (a .b)) 0 refl (λ q l. absurd (not-suc-le-zero l))
+          (apart-empty (rulesOf t .deleted (a .b)) (a .n)) q (subst (λ (k : ℕ). q < k) f h),
     )
 
 -- p is a set of the sites, and not empty
@@ -63,7 +63,7 @@ returns : tie.Need-returns Inv-loop μ-loop
 returns c =
     let a = c .before .before .before .before .before .before .before .before .args in
     let l = c .before .before .before .loop in
-    sym (first-apart-found (slicesOf (now (a .table)) .deleted (a .b)) (a .n) (l .p) (below (c .before .before .loop-test .taken) (l .inv .2)) (l .inv .4)
+    sym (first-apart-found (rulesOf (now (a .table)) .deleted (a .b)) (a .n) (l .p) (below (c .before .before .loop-test .taken) (l .inv .2)) (l .inv .4)
     (sym (c .before .is-apart .ensures) ∙ c .if1 .taken))
 
 add-minus-2 : tie.Need-add-minus-2 Inv-loop μ-loop
@@ -91,7 +91,7 @@ loop-again c =
       subst (λ (k : ℕ). k ≤ 2 ^ a .n) (sym e) (next-le (a .n) (l .p) (a .b) (below (c .before .before .before .loop-test .taken) (l .inv .2)) (s .pre .1 .1)),
       l .inv .2,
       ap (λ (x : ℕ). bitAnd x (a .b)) e ∙ next-apart (l .p) (a .b),
-      λ q h. none-apart-next (slicesOf t .deleted (a .b)) (a .n) (a .b) (deleted-stays t (a .b)) (l .p) (l .inv .3) (l .inv .4)
+      λ q h. none-apart-next (rulesOf t .deleted (a .b)) (a .n) (a .b) (deleted-stays (rows-lawful (s .pre .0)) (a .b)) (l .p) (l .inv .3) (l .inv .4)
           (sym (c .before .before .is-apart .ensures) ∙ c .before .if1 .left) q (subst (λ (k : ℕ). q < k) e h),
     )
 
@@ -108,7 +108,7 @@ returns-2 c =
     let m = c .before .before .before .before .minus in
     let e : m .result ≡ minus (allBelow (a .n)) (a .b) = m .ensures ∙ ap (λ (x : ℕ). minus x (a .b)) (c .before .before .before .before .before .all-below .ensures) in
     c .single .ensures
-    ∙ sym (first-apart-half (slicesOf t .deleted (a .b)) (a .n) (a .b) (deleted-stays t (a .b)) (deleted-answers (table-lawful (s .pre .0)) (a .b) .rule) (l .p) (l .inv .4)
+    ∙ sym (first-apart-half (rulesOf t .deleted (a .b)) (a .n) (a .b) (deleted-stays (rows-lawful (s .pre .0)) (a .b)) (deleted-answers (rows-lawful (s .pre .0)) (a .b) .rule) (l .p) (l .inv .4)
     (subst (λ (k : ℕ). k < l .p + l .p) e (above (c .before .loop-test .left))))
 
 pub first-apart-spec : {M : Type 1} → statement M

@@ -11,9 +11,9 @@ use Rattle.masks.proofs.Laws.Apart.{apart-⊆, minus-apart}
 use Rattle.masks.proofs.Laws.Subsets.{⊆-refl, minus-⊆, minus-lt}
 use Rattle.masks.specs.Mask.{minus, allBelow}
 use Rattle.sets.specs.Quorum.{largest}
-use Rattle.sets.specs.Slices.{slicesOf}
-use Rattle.sets.proofs.Lawful.{deleted-answers, table-lawful}
-use Rattle.sets.proofs.Slices.{deleted-stays}
+use Rattle.sets.proofs.Lawful.{deleted-stays, deleted-answers}
+use Rattle.sets.proofs.Rows.{rows-lawful}
+use Rattle.sets.specs.Rows.{rulesOf}
 use Rattle.verdicts.proofs.VerdictLaws.{apart-moved, apart-still, beside-rest}
 use Rattle.shared_sites.proofs.search.is_apart.Statement.{statement}
 use Rattle.shared_sites.proofs.search.is_apart.Tie as tie
@@ -21,7 +21,7 @@ use Rattle.shared_sites.proofs.search.is_apart.Tie as tie
 returns : tie.Need-returns
 returns c =
     let a = c .before .before .before .args in
-    sym (apart-moved (slicesOf (now (a .table)) .deleted (a .b)) (a .n) (a .p) (λ q. c .if1 .taken (c .before .stay .ensures ∙ q)))
+    sym (apart-moved (rulesOf (now (a .table)) .deleted (a .b)) (a .n) (a .p) (λ q. c .if1 .taken (c .before .stay .ensures ∙ q)))
 
 largest-requires : tie.Need-largest-requires
 largest-requires c κs =
@@ -44,11 +44,11 @@ returns-2 c =
     let p = c .before .before .before .before .before .before .before in
     let a = p .args in
     let t = now (a .table) in
-    let s = slicesOf t .deleted (a .b) in
+    let s = rulesOf t .deleted (a .b) in
     let e = c .before .minus2 .ensures ∙ ap (λ (x : ℕ). minus x (a .p)) (c .before .before .minus .ensures ∙ ap (λ (x : ℕ). minus x (a .b)) (c .before .before .before .all-below .ensures)) in
     ap (λ (x : ℕ). not (eqb x 0))
     (c .largest .ensures ∙ ap (largest s (a .n)) e
-    ∙ sym (beside-rest s (a .n) (a .b) (deleted-stays t (a .b)) (deleted-answers (table-lawful (p .pre .0)) (a .b) .rule) (a .p)))
+    ∙ sym (beside-rest s (a .n) (a .b) (deleted-stays (rows-lawful (p .pre .0)) (a .b)) (deleted-answers (rows-lawful (p .pre .0)) (a .b) .rule) (a .p)))
     ∙ sym (apart-still s (a .n) (a .p) (sym (c .before .before .before .before .before .stay .ensures) ∙ c .before .before .before .before .if1 .left) (p .pre .1 .1 .1 .1 .1))
 
 pub is-apart-spec : {M : Type 1} → statement M

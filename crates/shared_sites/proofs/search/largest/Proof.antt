@@ -6,14 +6,14 @@ use denote.Ref.{now}
 use Rattle.masks.proofs.Laws.Apart.{apart-⊆}
 use Rattle.masks.proofs.Laws.Subsets.{⊆-refl}
 use Rattle.sets.specs.Quorum.{largest}
-use Rattle.sets.specs.Slices.{slicesOf}
 use Rattle.sets.proofs.Quorum.{round-⊆, round-lt, smaller, largest-stop, largest-step}
+use Rattle.sets.specs.Rows.{rulesOf}
 use Rattle.shared_sites.proofs.search.largest.Statement.{statement}
 use Rattle.shared_sites.proofs.search.largest.Tie as tie
 
 abbrev Inv-loop : tie.InvT-loop
 Inv-loop table n list b w set₀ set =
-    (set < 2 ^ n) × (bitAnd set b ≡ 0) × (largest (slicesOf table .deleted b) n set ≡ largest (slicesOf table .deleted b) n w)
+    (set < 2 ^ n) × (bitAnd set b ≡ 0) × (largest (rulesOf table .deleted b) n set ≡ largest (rulesOf table .deleted b) n w)
 
 abbrev μ-loop : tie.MeasureT-loop
 μ-loop table n list b w set₀ set = set
@@ -28,19 +28,19 @@ returns : tie.Need-returns Inv-loop μ-loop
 returns c =
     let a = c .before .before .before .before .args in
     let l = c .before .before .loop in
-    sym (largest-stop (slicesOf (now (a .table)) .deleted (a .b)) (a .n) (l .set) (sym (c .before .stay .ensures) ∙ c .if1 .taken)) ∙ l .inv .2
+    sym (largest-stop (rulesOf (now (a .table)) .deleted (a .b)) (a .n) (l .set) (sym (c .before .stay .ensures) ∙ c .if1 .taken)) ∙ l .inv .2
 
 loop-less : tie.Need-loop-less Inv-loop μ-loop
 loop-less c =
     let a = c .before .before .before .before .args in
     let u = c .before .before .loop .set in
     let e = c .before .stay .ensures in
-    subst (λ (k : ℕ). k < u) (sym e) (smaller (slicesOf (now (a .table)) .deleted (a .b)) (a .n) u (λ q. c .if1 .left (e ∙ q)))
+    subst (λ (k : ℕ). k < u) (sym e) (smaller (rulesOf (now (a .table)) .deleted (a .b)) (a .n) u (λ q. c .if1 .left (e ∙ q)))
 
 loop-again : tie.Need-loop-again Inv-loop μ-loop
 loop-again c =
     let a = c .before .before .before .before .args in
-    let s = slicesOf (now (a .table)) .deleted (a .b) in
+    let s = rulesOf (now (a .table)) .deleted (a .b) in
     let l = c .before .before .loop in
     let e = c .before .stay .ensures in (
       subst (λ (k : ℕ). k < 2 ^ a .n) (sym e) (round-lt s (a .n) (l .set)),
