@@ -6,9 +6,8 @@ use lib.ListN.{length}
 use Rattle.masks.specs.Mask.{_∈_}
 use Rattle.rules.specs.State.{confirmed, width, get}
 use Rattle.run.specs.Theorems.{Taken, endState}
+use Rattle.sets.specs.Groups.{Groups, fbqsIn, sitesOf}
 use Rattle.sets.specs.Paper.{Fbqs, Intersection, Intact}
-use Rattle.sets.specs.Slices.{fbqsOf}
-use Rattle.table.specs.Table.{sites}
 use Rattle.votes.specs.Call.{Call}
 use Rattle.votes.specs.Vote.{fresh}
 use Rattle.voting.specs.Step.{stepInto}
@@ -25,18 +24,18 @@ pub record Agreed (n F : ℕ) (s : List ℕ) : Type 0 where
   pub none-both : (v : ℕ) → (v ∈ F → ⊥) → v ∈ get s (confirmed n 0) → v ∈ get s (confirmed n 1) → ⊥
 
 -- what the public step leaves of a state, call after call, "refused calls among them"
-abbrev pub stepsInto : List ℕ → ℕ → List Call → List ℕ → List ℕ
+abbrev pub stepsInto : Groups → ℕ → List Call → List ℕ → List ℕ
 stepsInto t F [] s = s
 stepsInto t F (c ∷ l) s = stepsInto t F l (stepInto t F c s)
 
 -- "of every sequence of steps .. from a fresh state": a table or a set that is refused leaves the fresh state as it is, which is agreed too
 abbrev pub StepsAgree : Type 0
 StepsAgree =
-    (t : List ℕ) (F : ℕ) (l : List Call) → Premises (fbqsOf t (sites (length t))) F →
-    Agreed (sites (length t)) F (stepsInto t F l (fresh (width (sites (length t)))))
+    (t : Groups) (F : ℕ) (l : List Call) → Premises (fbqsIn t) F →
+    Agreed (sitesOf t) F (stepsInto t F l (fresh (width (sitesOf t))))
 
 -- "and of every run"
 abbrev pub RunAgrees : Type 0
 RunAgrees =
-    (t : List ℕ) (F : ℕ) (list state answers : List ℕ) (p : ℕ) → Taken t F list state answers p → Premises (fbqsOf t (sites (length t))) F →
-    Agreed (sites (length t)) F (endState t F list state p)
+    (t : Groups) (F : ℕ) (list state answers : List ℕ) (p : ℕ) → Taken t F list state answers p → Premises (fbqsIn t) F →
+    Agreed (sitesOf t) F (endState t F list state p)

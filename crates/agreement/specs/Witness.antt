@@ -12,7 +12,8 @@ use Rattle.rules.specs.Sound.{notZero, notOwn, notRule, notSent, badSide, badSi
 use Rattle.rules.specs.State.{confirmed, get, add}
 use Rattle.rules.specs.Vote.{voteOf}
 use Rattle.run.specs.Examples.{tableB, tableApart, all}
-use Rattle.sets.specs.Promises.{questionsOf, questions}
+use Rattle.sets.specs.Groups.{slicesIn, questions}
+use Rattle.sets.specs.Promises.{questionsOf}
 use Rattle.sets.specs.Quorum.{quorum, round, left, dropping, largest}
 use Rattle.sets.specs.Slices.{slicesOf}
 use Rattle.verdicts.specs.Verdicts.{beside, apart, firstApart, meets, dispensable, isIntact, intact}
@@ -39,21 +40,21 @@ unfolding some every least has within minus gather quorum round left dropping la
     intact accepting confirming nowAccepts nowConfirms hears taken outOfRange crooked against unsent answer fresh add passes run runOf notZero notOwn notRule
     notSent badSide badSite unsound
 premisesNeeded =
-    let parted = runOf (voteOf tableApart 4 0) (paired 0 1 0 ++ paired 2 3 1) .state in
-    let befouled = runOf (voteOf tableB 4 12) (pushed 0 0 ++ pushed 1 1) .state in
+    let parted = runOf (voteOf tableApart 0) (paired 0 1 0 ++ paired 2 3 1) .state in
+    let befouled = runOf (voteOf tableB 12) (pushed 0 0 ++ pushed 1 1) .state in
     -- slices 3; 3; 12; 12, nobody faulty: all four sites are intact, but the table does not meet; 0 and 1 confirm drill, 2 and 3 live
-    eqb (intact (slicesOf tableApart) 4 0) 15
-    ∷ not (meets (slicesOf tableApart .inside) 4)
+    eqb (intact (slicesIn tableApart) 4 0) 15
+    ∷ not (meets (slicesIn tableApart .inside) 4)
     ∷ eqb (get parted (confirmed 4 0)) 3
     ∷ eqb (get parted (confirmed 4 1)) 12
     -- table B meets, sites 2 and 3 are faulty, and nobody is intact: they tell 0 drill and 1 live, and each confirms it
-    ∷ meets (slicesOf tableB .inside) 4
-    ∷ eqb (intact (slicesOf tableB) 4 12) 0
+    ∷ meets (slicesIn tableB .inside) 4
+    ∷ eqb (intact (slicesIn tableB) 4 12) 0
     ∷ eqb (get befouled (confirmed 4 0)) 1
     ∷ eqb (get befouled (confirmed 4 1)) 2
     -- table B, nobody faulty: it meets, all are intact, and 18 does not refuse a state in which three sites have confirmed both sides. So the promise is of
     -- the states that steps and runs reach from the fresh one, and not of every sound state
-    ∷ eqb (intact (slicesOf tableB) 4 0) 15
+    ∷ eqb (intact (slicesIn tableB) 4 0) 15
     ∷ not (unsound (questions tableB) 4 0 circular)
     ∷ eqb (get circular (confirmed 4 0)) 7
     ∷ eqb (get circular (confirmed 4 1)) 7

@@ -9,14 +9,19 @@ use Rattle.refusal_lines.specs.Refused.{explained}
 use Rattle.refusals.specs.declared.Check.{Check}
 use Rattle.refusals.specs.declared.Check.the-variants.{Sound, Refused}
 use Rattle.refusals.specs.declared.Refusal.{Refusal}
+use Rattle.sets.specs.Groups.{Groups, lists}
 use Rattle.text.specs.Text.{ascii, decimal}
 
 -- one block a site
 abbrev pub sitesOn : List ℕ → ℕ
 sitesOn image = length image / 512
 
-abbrev pub tableOn : List ℕ → List ℕ
-tableOn image = loads (sitesOn image) image
+-- the rows that are read of it, and the table that they are
+abbrev pub rowsOn : List ℕ → List ℕ
+rowsOn image = loads (sitesOn image) image
+
+abbrev pub tableOn : List ℕ → Groups
+tableOn image = lists (rowsOn image)
 
 -- what refuses an image: the reader, which is lent room for 64 sites
 unfoldable pub imageCheck : List ℕ → Check

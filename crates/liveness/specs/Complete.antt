@@ -14,9 +14,8 @@ use Rattle.rules.specs.State.{accepts, get}
 use Rattle.run.specs.Run.{listMisshapen}
 use Rattle.run.specs.Theorems.{Taken, endState}
 use Rattle.same_calls.specs.Same.{hasCall}
+use Rattle.sets.specs.Groups.{Groups, fbqsIn, slicesIn, sitesOf, Checked}
 use Rattle.sets.specs.Paper.{Intact}
-use Rattle.sets.specs.Slices.{fbqsOf, slicesOf}
-use Rattle.table.specs.Table.{sites, Table}
 use Rattle.verdicts.specs.Verdicts.{intact}
 use Rattle.votes.specs.Call.{Call}
 
@@ -27,13 +26,13 @@ AllAccepts n F side l =
 
 abbrev pub AllSuffice : Type 0
 AllSuffice =
-    (t : List ℕ) (n F side : ℕ) (l : List Call) (accepters : ℕ) → AllAccepts n F side l → Complete (Intact (fbqsOf t n) F) side l accepters
+    (t : Groups) (F side : ℕ) (l : List Call) (accepters : ℕ) → AllAccepts (sitesOf t) F side l → Complete (Intact (fbqsIn t) F) side l accepters
 
 -- It asks for no call in vain: where site u has accepted, site v has heard it exactly if that call stands in the list.
 abbrev pub HeardIsListed : Type 0
 HeardIsListed =
-    (t : List ℕ) (F : ℕ) (list state answers : List ℕ) (p side u v : ℕ) → side < 2 → Taken t F list state answers p →
-    v < sites (length t) → (v ∈ F → ⊥) → (u ≡ v → ⊥) → u ∈ accepters t F list state p side →
+    (t : Groups) (F : ℕ) (list state answers : List ℕ) (p side u v : ℕ) → side < 2 → Taken t F list state answers p →
+    v < sitesOf t → (v ∈ F → ⊥) → (u ≡ v → ⊥) → u ∈ accepters t F list state p side →
     (u ∈ get (endState t F list state p) (accepts side v)) ↔ List·Memᴰ (accept u v side) (calls list)
 
 -- And it is computed, from the intact mask that the verdict prints, the accepted mask that the run leaves, and the list: the accept call of the side
@@ -51,5 +50,5 @@ isComplete n among side list accepters = every n (λ u. every n (λ v. not (lack
 -- of every list that is not refused with 17
 abbrev pub CompleteDecided : Type 0
 CompleteDecided =
-    (t : List ℕ) (n F side : ℕ) (list : List ℕ) (accepters : ℕ) → Table t n → listMisshapen (length list) ≡ false →
-    (isComplete n (intact (slicesOf t) n F) side list accepters ≡ true) ↔ Complete (Intact (fbqsOf t n) F) side (calls list) accepters
+    (t : Groups) (F side : ℕ) (list : List ℕ) (accepters : ℕ) → Checked t → listMisshapen (length list) ≡ false →
+    (isComplete (sitesOf t) (intact (slicesIn t) (sitesOf t) F) side list accepters ≡ true) ↔ Complete (Intact (fbqsIn t) F) side (calls list) accepters

@@ -15,11 +15,11 @@ use Rattle.run.specs.Examples.{tableA, tableB, tableApart, all}
 use Rattle.run.specs.Run.{theRun}
 use Rattle.run.specs.Theorems.{Taken}
 use Rattle.same_calls.specs.Same.{isCall, hasCall}
+use Rattle.sets.specs.Groups.{fbqsIn}
 use Rattle.sets.specs.Paper.{Intersection, Intact}
 use Rattle.sets.specs.Promises.{questionsOf}
 use Rattle.sets.specs.Quorum.{quorum, round, left, dropping, largest}
-use Rattle.sets.specs.Slices.{fbqsOf, slicesOf}
-use Rattle.table.specs.Table.{sites}
+use Rattle.sets.specs.Slices.{slicesOf}
 use Rattle.verdicts.specs.Verdicts.{beside, apart, firstApart, meets, dispensable, isIntact, intact}
 use Rattle.votes.specs.Passes.{passes, run}
 use Rattle.votes.specs.Vote.{fresh, runOf}
@@ -46,8 +46,8 @@ room k = replicate k 0
 -- of a run of one of the two lists: it is taken, the table meets, sites 0, 1 and 2 are intact, and site 0 has confirmed drill
 pub record Shown (list : List ℕ) (k : ℕ) : Type 0 where
   pub took : Taken tableB 8 list (room 22) (room k) 2
-  pub shared : Intersection (fbqsOf tableB (sites (length tableB)))
-  pub intact : (v : ℕ) → v < 3 → Intact (fbqsOf tableB (sites (length tableB))) 8 v
+  pub shared : Intersection (fbqsIn tableB)
+  pub intact : (v : ℕ) → v < 3 → Intact (fbqsIn tableB) 8 v
   pub confirms : Confirmed tableB 8 list (room 22) 2 0 0
 
 -- the full list meets every premise

@@ -3,7 +3,7 @@ use Prim.Native.Nat.{ℕ}
 use mathlib.Core.Bool.{Bool, cond}
 use mathlib.Core.List.{List, [], _++_}
 use lib.ListN.{length}
-use Rattle.check_text.specs.Table.{tableOn, imageCheck, unless}
+use Rattle.check_text.specs.Table.{imageCheck, unless, tableOn}
 use Rattle.lines.specs.Lines.{line}
 use Rattle.missing_lines.specs.Missing.{sideLines}
 use Rattle.questions.specs.Answers.{verdictCheck}
@@ -12,8 +12,7 @@ use Rattle.refusals.specs.First.{orElse}
 use Rattle.refusals.specs.declared.Check.{Check}
 use Rattle.rules.specs.State.{accepted, width, get}
 use Rattle.run.specs.Run.{runCheck, theRun}
-use Rattle.sets.specs.Slices.{slicesOf}
-use Rattle.table.specs.Table.{sites, setCheck}
+use Rattle.sets.specs.Groups.{Groups, slicesIn, sitesOf, setCheck}
 use Rattle.text.specs.Text.{ascii}
 use Rattle.verdicts.specs.Verdicts.{meets, intact}
 
@@ -22,17 +21,17 @@ abbrev pub unmet : Bool → List ℕ
 unmet meet = cond meet [] (line (ascii "meet ") (ascii "no"))
 
 -- the accept calls between intact sites that the list lacks, for drill, then for live: those whose sender has accepted the side at the end of the run
-unfoldable pub lackingLines : ℕ → List ℕ → List ℕ → List ℕ
+unfoldable pub lackingLines : ℕ → Groups → List ℕ → List ℕ
 unfolding line sideLines meets intact
 lackingLines F t list =
-    let n = sites (length t) in
+    let n = sitesOf t in
     let end = theRun t F list .state in
-    let whole = intact (slicesOf t) n F in
-    unmet (meets (slicesOf t .inside) n)
+    let whole = intact (slicesIn t) n F in
+    unmet (meets (slicesIn t .inside) n)
     ++ (sideLines n whole 0 list (get end (accepted n 0)) ++ sideLines n whole 1 list (get end (accepted n 1)))
 
 -- of a table in memory: 10, then 16, as for a verdict; then 17, as for a run. The rooms are for 64 sites and 4,096 calls, so that 9 does not arise.
-unfoldable pub missingCheck : ℕ → List ℕ → ℕ → Check
+unfoldable pub missingCheck : ℕ → Groups → ℕ → Check
 unfolding setCheck runCheck
 missingCheck F t bytes = orElse (verdictCheck t (setCheck t F)) (runCheck t F bytes (width 64) 4096)
 

@@ -11,9 +11,10 @@ use Rattle.masks.specs.Mask.{single, others}
 use Rattle.rules.specs.Rules.{accepting, confirming}
 use Rattle.rules.specs.Sound.{unsound}
 use Rattle.rules.specs.Vote.{vote}
-use Rattle.sets.specs.Promises.{Questions, questionsOf, questions}
+use Rattle.sets.specs.Groups.{lists, questions}
+use Rattle.sets.specs.Promises.{Questions, questionsOf}
 use Rattle.sets.specs.Slices.{Slices, slicesOf}
-use Rattle.table.specs.Table.{sites, countOf, sliceOf}
+use Rattle.table.specs.Table.{countOf, sliceOf, sites}
 use Rattle.votes.specs.Call.{Call}
 use Rattle.votes.specs.Vote.{step, runOf}
 
@@ -32,11 +33,11 @@ questionsBefore t = questionsOf (ownerCounted t) (sites (length t))
 
 -- what changes: "the owner's bit is taken out of the set before it is compared"
 abbrev pub OthersAsBefore : Type 0
-OthersAsBefore = (t : List ℕ) (v w : ℕ) → questions t .blocked v w ≡ questionsBefore t .blocked v (others w v)
+OthersAsBefore = (t : List ℕ) (v w : ℕ) → questions (lists t) .blocked v w ≡ questionsBefore t .blocked v (others w v)
 
 -- "A site with a slice of itself alone is then blocked by nobody."
 abbrev pub AloneUnblocked : Type 0
-AloneUnblocked = (t : List ℕ) (v i w : ℕ) → i < countOf t v → sliceOf t v i ≡ single v → questions t .blocked v w ≡ false
+AloneUnblocked = (t : List ℕ) (v i w : ℕ) → i < countOf t v → sliceOf t v i ≡ single v → questions (lists t) .blocked v w ≡ false
 
 -- "no accept, confirm or run answer changes", of n sites, those of F faulty: nor does a step, nor what number 18 says of a state
 pub record NothingChanges (old new : Questions) (n F : ℕ) : Type 0 where
@@ -47,4 +48,4 @@ pub record NothingChanges (old new : Questions) (n F : ℕ) : Type 0 where
   pub runs : (l : List Call) → runOf (vote new n F) l ≡ runOf (vote old n F) l
 
 abbrev pub OwnerLeftOut : Type 0
-OwnerLeftOut = (t : List ℕ) (n F : ℕ) → NothingChanges (questionsBefore t) (questions t) n F
+OwnerLeftOut = (t : List ℕ) (n F : ℕ) → NothingChanges (questionsBefore t) (questions (lists t)) n F

@@ -5,7 +5,7 @@ use mathlib.Core.List.{List, _++_}
 use mathlib.Core.Logic.{_↔_}
 use mathlib.Core.Path.{_≡_}
 use lib.ListN.{length}
-use Rattle.check_text.specs.Table.{sitesOn, tableOn, imageCheck}
+use Rattle.check_text.specs.Table.{sitesOn, imageCheck, tableOn}
 use Rattle.ground.specs.Pieces.{part}
 use Rattle.image.specs.Read.{read}
 use Rattle.image.specs.declared.Reading as Reading
@@ -19,15 +19,14 @@ use Rattle.rules.specs.State.{accepts, confirmed, width, get}
 use Rattle.run.specs.Run.{runCheck, theRun}
 use Rattle.run_text.specs.Run.{runText}
 use Rattle.sets.specs.Paper.{Fbqs, Intersection, Intact, Befouled}
-use Rattle.sets.specs.Slices.{fbqsOf, slicesOf}
 use Rattle.site_block.specs.Block.{countField, sliceField}
-use Rattle.table.specs.Table.{Table}
 use Rattle.text.specs.Text.{ascii, decimal}
 use Rattle.verdict_lines.specs.Verdict.{sevenLines}
 use Rattle.verdict_text.specs.Verdict.{verdictText}
 use Rattle.verdicts.specs.Verdicts as Verdicts
 use Rattle.published.specs.Sets.{LargestInside, IntactSites}
 use Rattle.published.specs.Voting.{Confirms}
+use Rattle.sets.specs.Groups.{Groups, fbqsIn, slicesIn, sitesOf, SoundTable}
 
 -- the pair that the bytes of an image name: "Blocks of 512 bytes, one a site, in site order", each with its count and its slices
 abbrev pub fbqsOn : List ℕ → Fbqs
@@ -38,13 +37,13 @@ fbqsOn image = record {
 
 -- the pair of the table that was read
 abbrev pub fbqsRead : List ℕ → Fbqs
-fbqsRead image = fbqsOf (tableOn image) (sitesOn image)
+fbqsRead image = fbqsIn (tableOn image)
 
 -- what is read is a sound table, of as many sites as there are blocks, and each site has the slices that its block names
 abbrev pub ReadAsFiled : Type 0
 ReadAsFiled =
     (image : List ℕ) → imageCheck image ≡ Sound →
-    Table (tableOn image) (sitesOn image) × ((v q : ℕ) → v < sitesOn image → fbqsOn image .Slice v q ↔ fbqsRead image .Slice v q)
+    SoundTable (tableOn image) × (sitesOf (tableOn image) ≡ sitesOn image) × ((v q : ℕ) → v < sitesOn image → fbqsOn image .Slice v q ↔ fbqsRead image .Slice v q)
 
 -- the seven lines of a verdict, of n sites over S, those of F faulty: "n; F; `yes` or `no` for shared sites; intact set; befouled set; largest quorum
 -- outside F; its rounds"
@@ -66,7 +65,7 @@ VerdictAsPublished =
 
 -- who is intact on the table that was read, when the sites of F are faulty
 abbrev pub wholeOn : ℕ → List ℕ → ℕ
-wholeOn F image = Verdicts.intact (slicesOf (tableOn image)) (sitesOn image) F
+wholeOn F image = Verdicts.intact (slicesIn (tableOn image)) (sitesOn image) F
 
 -- the register: a correct site's line says drill exactly if the site has confirmed drill and not live, by the published rule, from the accepts that it
 -- heard in the run of the list
@@ -100,4 +99,4 @@ SevenNever = (image : List ℕ) (room : ℕ) → read image room ≡ Reading.Rea
 abbrev pub NineNever : Type 0
 NineNever =
     ((image : List ℕ) → imageCheck image ≡ Refused Room → ⊥)
-    × ((t : List ℕ) (F : ℕ) (list : List ℕ) → runCheck t F (length list) (width 64) 4096 ≡ Refused Room → ⊥)
+    × ((t : Groups) (F : ℕ) (list : List ℕ) → runCheck t F (length list) (width 64) 4096 ≡ Refused Room → ⊥)

@@ -4,28 +4,27 @@ use mathlib.Core.List.{List}
 use mathlib.Core.Logic.{_⊎_, _↔_}
 use mathlib.Core.Path.{_≡_}
 use Rattle.masks.specs.Mask.{minus, others, allBelow, _∈_, _⊆_}
-use Rattle.questions.specs.Answers.{sitesOf, quorum, largest, blocks, shared, intact}
+use Rattle.questions.specs.Answers.{quorum, largest, blocks, shared, intact}
 use Rattle.questions.specs.declared.Greatest.the-variants.{Set}
 use Rattle.questions.specs.declared.Holds.the-variants.{Yes, No}
 use Rattle.questions.specs.declared.Sharing as Sharing
 use Rattle.questions.specs.declared.Standing as Standing
+use Rattle.sets.specs.Groups.{Groups, fbqsIn, sitesOf, SoundTable}
 use Rattle.sets.specs.Paper.{Fbqs, Quorum, Intersection, Intact, Befouled, Blocking}
-use Rattle.sets.specs.Slices.{fbqsOf}
-use Rattle.table.specs.Table.{Table}
 use Rattle.verdicts.specs.Decides.{Apart}
 
 -- the table that was handed over, as the paper's pair
-abbrev pub named : List ℕ → Fbqs
-named t = fbqsOf t (sitesOf t)
+abbrev pub named : Groups → Fbqs
+named t = fbqsIn t
 
 -- it is a sound table, and the set names sites of it alone
-abbrev pub Proper : List ℕ → ℕ → Type 0
-Proper t set = Table t (sitesOf t) × (set ⊆ allBelow (sitesOf t))
+abbrev pub Proper : Groups → ℕ → Type 0
+Proper t set = SoundTable t × (set ⊆ allBelow (sitesOf t))
 
 -- "A set of servers U ⊆ V in FBQS ⟨V, Q⟩ is a quorum iff U ≠ ∅ and U contains a slice for each member"
 abbrev pub QuorumAsPublished : Type 0
 QuorumAsPublished =
-    (t : List ℕ) (set : ℕ) →
+    (t : Groups) (set : ℕ) →
     ((quorum t set ≡ Yes) ↔ (Proper t set × Quorum (named t) set))
     × ((quorum t set ≡ No) ↔ (Proper t set × (Quorum (named t) set → ⊥)))
 
@@ -33,7 +32,7 @@ QuorumAsPublished =
 -- taken out".
 abbrev pub BlocksAsPublished : Type 0
 BlocksAsPublished =
-    (t : List ℕ) (set site : ℕ) →
+    (t : Groups) (set site : ℕ) →
     ((blocks t set site ≡ Yes) ↔ (Proper t set × (site < sitesOf t) × Blocking (named t) site (others set site)))
     × ((blocks t set site ≡ No) ↔ (Proper t set × (site < sitesOf t) × (Blocking (named t) site (others set site) → ⊥)))
 
@@ -60,14 +59,14 @@ pub record LargestInside (S : Fbqs) (w q k : ℕ) : Type 0 where
 
 abbrev pub LargestAsPublished : Type 0
 LargestAsPublished =
-    (t : List ℕ) (set q k : ℕ) → (largest t set ≡ Set q k) ↔ (Proper t set × LargestInside (named t) set q k)
+    (t : Groups) (set q k : ℕ) → (largest t set ≡ Set q k) ↔ (Proper t set × LargestInside (named t) set q k)
 
 -- "quorum intersection, which states that any two quorums share a server"; if not, the two quorums that 01 names
 abbrev pub SharedAsPublished : Type 0
 SharedAsPublished =
-    (t : List ℕ) →
-    ((shared t ≡ Sharing.Sharing.Meet) ↔ (Table t (sitesOf t) × (sitesOf t ≤ 12) × Intersection (named t)))
-    × ((p q : ℕ) → (shared t ≡ Sharing.Sharing.Apart p q) ↔ (Table t (sitesOf t) × (sitesOf t ≤ 12) × Apart (named t) p q))
+    (t : Groups) →
+    ((shared t ≡ Sharing.Sharing.Meet) ↔ (SoundTable t × (sitesOf t ≤ 12) × Intersection (named t)))
+    × ((p q : ℕ) → (shared t ≡ Sharing.Sharing.Apart p q) ↔ (SoundTable t × (sitesOf t ≤ 12) × Apart (named t) p q))
 
 -- "a server v is intact iff there exists a DSet B containing all faulty servers and such that v ∉ B. Otherwise, v is befouled."
 pub record IntactSites (S : Fbqs) (n F m : ℕ) : Type 0 where
@@ -76,5 +75,5 @@ pub record IntactSites (S : Fbqs) (n F m : ℕ) : Type 0 where
 
 abbrev pub IntactAsPublished : Type 0
 IntactAsPublished =
-    (t : List ℕ) (F m : ℕ) →
+    (t : Groups) (F m : ℕ) →
     (intact t F ≡ Standing.Standing.Intact m) ↔ (Proper t F × (sitesOf t ≤ 12) × IntactSites (named t) (sitesOf t) F m)

@@ -4,13 +4,13 @@ use mathlib.Core.List.{List, _++_}
 use mathlib.Core.Path.{_≡_}
 use lib.ListN.{length}
 use Rattle.agreement.specs.Agreement.{Premises, Agreed, stepsInto, StepsAgree, RunAgrees}
-use Rattle.check_text.specs.Table.{sitesOn, tableOn, imageCheck}
+use Rattle.check_text.specs.Table.{sitesOn, imageCheck, tableOn}
 use Rattle.lines.specs.Lines.{line}
 use Rattle.liveness.specs.Liveness.{RunSpreads, OneMark}
 use Rattle.mark.specs.Mark.{mark}
 use Rattle.masks.specs.Mask.{_∈_}
 use Rattle.missing_text.specs.MissingText.{missingCheck, missingText}
-use Rattle.questions.specs.Answers.{sitesOf, shared, intact}
+use Rattle.questions.specs.Answers.{shared, intact}
 use Rattle.questions.specs.declared.Sharing as Sharing
 use Rattle.questions.specs.declared.Standing as Standing
 use Rattle.refusals.specs.declared.Check.the-variants.{Sound}
@@ -24,6 +24,7 @@ use Rattle.votes.specs.Call.{Call}
 use Rattle.votes.specs.Vote.{fresh}
 use Rattle.published.specs.Files.{fbqsRead, wholeOn}
 use Rattle.published.specs.Voting.{Confirms}
+use Rattle.sets.specs.Groups.{Groups, sitesOf}
 
 -- The promise, of every sequence of steps and of every run: 004, theorem 5. And that a vote ends: theorem 6, and the mark of all intact sites.
 pub record UnionPromise : Type 0 where
@@ -33,7 +34,7 @@ pub record UnionPromise : Type 0 where
   pub one-mark : OneMark
 
 -- The premises in the words of a verdict, for up to 12 sites: `meet yes`, and `intact` is not empty
-pub record Relied (t : List ℕ) (F m : ℕ) : Type 0 where
+pub record Relied (t : Groups) (F m : ℕ) : Type 0 where
   pub meet : shared t ≡ Sharing.Sharing.Meet
   pub whole : intact t F ≡ Standing.Standing.Intact m
   pub somebody : m ≡ 0 → ⊥
@@ -41,7 +42,7 @@ pub record Relied (t : List ℕ) (F m : ℕ) : Type 0 where
 -- then no two correct sites confirm different sides, and none both
 abbrev pub AgreedByVerdict : Type 0
 AgreedByVerdict =
-    (t : List ℕ) (F m : ℕ) → Relied t F m →
+    (t : Groups) (F m : ℕ) → Relied t F m →
     ((l : List Call) → Agreed (sitesOf t) F (stepsInto t F l (fresh (width (sitesOf t)))))
     × ((list state answers : List ℕ) (p : ℕ) → Taken t F list state answers p → Agreed (sitesOf t) F (endState t F list state p))
 

@@ -11,10 +11,9 @@ use Rattle.rules.specs.Rules.{accepting, confirming}
 use Rattle.rules.specs.State.{votes, accepts, accepted, confirmed, width, get}
 use Rattle.rules.specs.Theorems.{Rests}
 use Rattle.run.specs.Theorems.{Taken, endState}
+use Rattle.sets.specs.Groups.{Groups, fbqsIn, sitesOf, setCheck}
 use Rattle.sets.specs.Paper.{Fbqs, Quorum, Blocking}
 use Rattle.sets.specs.Promises.{Questions}
-use Rattle.sets.specs.Slices.{fbqsOf}
-use Rattle.table.specs.Table.{sites, setCheck}
 use Rattle.votes.specs.Call.{Call}
 use Rattle.votes.specs.Vote.{fresh}
 use Rattle.voting.specs.Step.{soundCheck, stepInto}
@@ -50,17 +49,17 @@ Published S n F s =
 -- every state that is not refused with 18
 abbrev pub StateAsPublished : Type 0
 StateAsPublished =
-    (t : List ℕ) (F : ℕ) (s : List ℕ) → soundCheck t F s ≡ Sound → Published (fbqsOf t (sites (length t))) (sites (length t)) F s
+    (t : Groups) (F : ℕ) (s : List ℕ) → soundCheck t F s ≡ Sound → Published (fbqsIn t) (sitesOf t) F s
 
 -- the state that the public run ends in
 abbrev pub EndAsPublished : Type 0
 EndAsPublished =
-    (t : List ℕ) (F : ℕ) (list state answers : List ℕ) (p : ℕ) → Taken t F list state answers p →
-    Published (fbqsOf t (sites (length t))) (sites (length t)) F (endState t F list state p)
+    (t : Groups) (F : ℕ) (list state answers : List ℕ) (p : ℕ) → Taken t F list state answers p →
+    Published (fbqsIn t) (sitesOf t) F (endState t F list state p)
 
 -- no public call refuses with 18 what a public call left: the fresh state, the state after a step, the state that a run ends in
 abbrev pub NeverUnsound : Type 0
 NeverUnsound =
-    ((t : List ℕ) (F : ℕ) → setCheck t F ≡ Sound → soundCheck t F (fresh (width (sites (length t)))) ≡ Sound)
-    × ((t : List ℕ) (F : ℕ) (c : Call) (s : List ℕ) → soundCheck t F s ≡ Sound → soundCheck t F (stepInto t F c s) ≡ Sound)
-    × ((t : List ℕ) (F : ℕ) (list state answers : List ℕ) (p : ℕ) → Taken t F list state answers p → soundCheck t F (endState t F list state p) ≡ Sound)
+    ((t : Groups) (F : ℕ) → setCheck t F ≡ Sound → soundCheck t F (fresh (width (sitesOf t))) ≡ Sound)
+    × ((t : Groups) (F : ℕ) (c : Call) (s : List ℕ) → soundCheck t F s ≡ Sound → soundCheck t F (stepInto t F c s) ≡ Sound)
+    × ((t : Groups) (F : ℕ) (list state answers : List ℕ) (p : ℕ) → Taken t F list state answers p → soundCheck t F (endState t F list state p) ≡ Sound)

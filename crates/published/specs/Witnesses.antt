@@ -3,7 +3,7 @@ use Prim.Native.Nat.{ℕ, _*_}
 use mathlib.Core.List.{List, [], _∷_}
 use mathlib.Core.Path.{_≡_}
 use lib.ListN.{length, take, replicate}
-use Rattle.check_text.specs.Table.{tableOn, imageCheck}
+use Rattle.check_text.specs.Table.{imageCheck, tableOn}
 use Rattle.image_write.specs.Write.{writeInto}
 use Rattle.image_write.specs.declared.Writing as Writing
 use Rattle.questions.specs.Answers.{quorum, largest, blocks, shared, intact}
@@ -13,13 +13,13 @@ use Rattle.questions.specs.declared.Sharing as Sharing
 use Rattle.questions.specs.declared.Standing as Standing
 use Rattle.refusals.specs.declared.Check.the-variants.{Sound}
 use Rattle.rules.specs.State.{width}
-use Rattle.run.specs.Examples.{tableA, tableB, tableApart}
+use Rattle.run.specs.Examples.{tableA, rowsB, tableB, tableApart}
 use Rattle.run.specs.Run.{runCheck}
 use Rattle.run.specs.Theorems.{Taken}
-use Rattle.table.specs.Table.{check}
 use Rattle.votes.specs.Vote.{fresh}
 use Rattle.voting.specs.Step.{soundCheck}
 use Rattle.published.specs.Union.{Relied}
+use Rattle.sets.specs.Groups.{Checked}
 
 -- "vote 0 to 1 drill, propose 0 drill"
 abbrev pub late : List ℕ
@@ -27,12 +27,12 @@ late = 1 ∷ 0 ∷ 1 ∷ 0 ∷ 0 ∷ 0 ∷ 0 ∷ 0 ∷ []
 
 -- what writing table B leaves in a room of four blocks
 abbrev pub imageB : List ℕ
-imageB = take (512 * 4) (writeInto (Writing.Writing.Sites 4) tableB (replicate 2048 0))
+imageB = take (512 * 4) (writeInto (Writing.Writing.Sites 4) rowsB (replicate 2048 0))
 
 pub record Witnesses : Type 0 where
   -- tables A and B are sound
-  pub a-sound : check tableA ≡ Sound
-  pub b-sound : check tableB ≡ Sound
+  pub a-sound : Checked tableA
+  pub b-sound : Checked tableB
   -- each answer of the set questions is given
   pub a-quorum : quorum tableB 7 ≡ Yes
   pub no-quorum : quorum tableB 3 ≡ No

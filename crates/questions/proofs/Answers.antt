@@ -1,11 +1,12 @@
--- Laws of the public answers: one for each way out of a question.
+-- Laws of the public answers: one for each way out of a question that is asked of rows; and the question asked of a table, by its check.
 use Prim.Native.Nat.{ℕ, _^_, _≤_, _<_}
-use mathlib.Core.Bool.{true, false, not}
+use mathlib.Core.Bool.{Bool, true, false, not}
 use mathlib.Core.List.{List}
-use mathlib.Core.Path.{_≡_, refl, sym, ap, ap₂, _∙_}
+use mathlib.Core.Path.{_≡_, refl, ap, ap₂, _∙_}
 use lib.Dec.{ltb}
+use lib.ListN.{length}
 use borrow.Author.Tests.{eq-eqb, ne-eqb, lt-ltb, le-ltb}
-use Rattle.questions.specs.Answers.{sitesOf, setSiteCheck, toHolds, quorum, largest, blocks, shared, intact}
+use Rattle.questions.specs.Answers.{toHolds, quorum, toGreatest, largest, setSiteCheck, blocks, toSharing, shared, toStanding, intact}
 use Rattle.questions.specs.declared.Greatest.{Greatest}
 use Rattle.questions.specs.declared.Holds.{Holds}
 use Rattle.questions.specs.declared.Sharing.{Sharing}
@@ -14,85 +15,119 @@ use Rattle.refusals.specs.First.{orElse, refuse}
 use Rattle.refusals.specs.declared.Check.{Check}
 use Rattle.refusals.specs.declared.Check.the-variants.{Sound, Refused}
 use Rattle.refusals.specs.declared.Refusal.{Refusal}
-use Rattle.refusals.specs.declared.Refusal.the-variants.{Set, Range, Large}
+use Rattle.refusals.specs.declared.Refusal.the-variants.{Range, Large}
+use Rattle.sets.proofs.Groups.{same-rules}
+use Rattle.sets.specs.Groups.{Groups, lists, sitesOf, groupsCheck, Checked, outsider, setCheck}
 use Rattle.sets.specs.Quorum as Quorum
-use Rattle.sets.specs.Slices.{slicesOf}
+use Rattle.sets.specs.Rows.{rulesOf}
+use Rattle.table.specs.Table.{sites}
 use Rattle.verdicts.specs.Verdicts as Verdicts
-use Rattle.table.specs.Table.{check, setCheck}
 
-module _ (t : List ℕ) (set : ℕ) where
-  -- is the set a quorum
-  pub quorum-refused : (r : Refusal) → setCheck t set ≡ Refused r → Holds.Refused r ≡ quorum t set
-  unfolding quorum
-  quorum-refused r e = rw e refl
+-- whatever is checked before
 
-  pub quorum-yes : setCheck t set ≡ Sound → Quorum.quorum (slicesOf t .inside) (sitesOf t) set ≡ true → Holds.Yes ≡ quorum t set
-  unfolding quorum
-  quorum-yes e f = rw (e, f) refl
+module _ {c : Check} where
+  pub holds-refused : (b : Bool) {r : Refusal} → c ≡ Refused r → Holds.Refused r ≡ toHolds c b
+  holds-refused b e = rw e refl
 
-  pub quorum-no : setCheck t set ≡ Sound → Quorum.quorum (slicesOf t .inside) (sitesOf t) set ≡ false → Holds.No ≡ quorum t set
-  unfolding quorum
-  quorum-no e f = rw (e, f) refl
+  pub holds-yes : {b : Bool} → c ≡ Sound → b ≡ true → Holds.Yes ≡ toHolds c b
+  holds-yes e f = rw (e, f) refl
 
-  -- the largest quorum inside the set
-  pub largest-refused : (r : Refusal) → setCheck t set ≡ Refused r → Greatest.Refused r ≡ largest t set
-  unfolding largest
-  largest-refused r e = rw e refl
+  pub holds-no : {b : Bool} → c ≡ Sound → b ≡ false → Holds.No ≡ toHolds c b
+  holds-no e f = rw (e, f) refl
 
-  pub largest-set : (q k : ℕ) → setCheck t set ≡ Sound → q ≡ Quorum.largest (slicesOf t .inside) (sitesOf t) set →
-      k ≡ Quorum.rounds (slicesOf t .inside) (sitesOf t) set → Greatest.Set q k ≡ largest t set
-  unfolding largest
-  largest-set q k e f g = rw e (ap₂ Greatest.Set f g)
+  pub greatest-refused : (set rounds : ℕ) {r : Refusal} → c ≡ Refused r → Greatest.Refused r ≡ toGreatest c set rounds
+  greatest-refused set rounds e = rw e refl
 
-  -- does the set block the site
-  module _ (site : ℕ) where
-    pub blocks-refused : (r : Refusal) → setCheck t set ≡ Refused r → Holds.Refused r ≡ blocks t set site
-    unfolding blocks setSiteCheck
-    blocks-refused r e =
-        ap (λ (q : Check). toHolds (orElse q (refuse (not (ltb site (sitesOf t))) Range)) (slicesOf t .blocked site set)) (sym e)
+  pub greatest-set : {q k set rounds : ℕ} → c ≡ Sound → q ≡ set → k ≡ rounds → Greatest.Set q k ≡ toGreatest c set rounds
+  greatest-set e f g = rw e (ap₂ Greatest.Set f g)
 
-    pub blocks-range : setCheck t set ≡ Sound → sitesOf t ≤ site → Holds.Refused Range ≡ blocks t set site
-    unfolding blocks setSiteCheck
-    blocks-range e l = rw (e, le-ltb site (sitesOf t) l) refl
+  -- 11
+  module _ (n site : ℕ) where
+    pub site-refused : {r : Refusal} → c ≡ Refused r → orElse c (refuse (not (ltb site n)) Range) ≡ Refused r
+    site-refused e = rw e refl
 
-    pub blocks-yes : setCheck t set ≡ Sound → site < sitesOf t → slicesOf t .blocked site set ≡ true → Holds.Yes ≡ blocks t set site
-    unfolding blocks setSiteCheck
-    blocks-yes e l f = rw (e, lt-ltb site (sitesOf t) l, f) refl
+    pub site-outside : c ≡ Sound → n ≤ site → orElse c (refuse (not (ltb site n)) Range) ≡ Refused Range
+    site-outside e l = rw (e, le-ltb site n l) refl
 
-    pub blocks-no : setCheck t set ≡ Sound → site < sitesOf t → slicesOf t .blocked site set ≡ false → Holds.No ≡ blocks t set site
-    unfolding blocks setSiteCheck
-    blocks-no e l f = rw (e, lt-ltb site (sitesOf t) l, f) refl
+    pub site-below : c ≡ Sound → site < n → orElse c (refuse (not (ltb site n)) Range) ≡ Sound
+    site-below e l = rw (e, lt-ltb site n l) refl
 
-  -- which sites are intact
-  pub intact-refused : (r : Refusal) → setCheck t set ≡ Refused r → Standing.Refused r ≡ intact t set
-  unfolding intact
-  intact-refused r e = rw e refl
+  -- 16
+  module _ (n set : ℕ) where
+    pub standing-refused : {r : Refusal} → c ≡ Refused r → Standing.Refused r ≡ toStanding (orElse c (refuse (ltb 12 n) Large)) set
+    standing-refused e = rw e refl
 
-  pub intact-large : setCheck t set ≡ Sound → 12 < sitesOf t → Standing.Refused Large ≡ intact t set
-  unfolding intact
-  intact-large e l = rw (e, lt-ltb 12 (sitesOf t) l) refl
+    pub standing-large : c ≡ Sound → 12 < n → Standing.Refused Large ≡ toStanding (orElse c (refuse (ltb 12 n) Large)) set
+    standing-large e l = rw (e, lt-ltb 12 n l) refl
 
-  pub intact-is : (q : ℕ) → setCheck t set ≡ Sound → sitesOf t ≤ 12 → q ≡ Verdicts.intact (slicesOf t) (sitesOf t) set → Standing.Intact q ≡ intact t set
-  unfolding intact
-  intact-is q e l f = rw (e, le-ltb 12 (sitesOf t) l) (ap Standing.Intact f)
+    pub standing-is : {q : ℕ} → c ≡ Sound → n ≤ 12 → q ≡ set → Standing.Intact q ≡ toStanding (orElse c (refuse (ltb 12 n) Large)) set
+    standing-is e l f = rw (e, le-ltb 12 n l) (ap Standing.Intact f)
 
--- do every two quorums meet
-module _ (t : List ℕ) where
-  pub shared-refused : (r : Refusal) → check t ≡ Refused r → Sharing.Refused r ≡ shared t
+-- do every two quorums meet, by a rule s of n sites
+module _ (s : ℕ → ℕ → Bool) (n : ℕ) where
+  abbrev said : Sharing
+  said =
+      let p = Verdicts.firstApart s n in
+      toSharing (refuse (ltb 12 n) Large) (Verdicts.meets s n) p (Verdicts.beside s n p)
+
+  pub shared-large : 12 < n → Sharing.Refused Large ≡ said
+  shared-large l = rw (lt-ltb 12 n l) refl
+
+  pub shared-meet : n ≤ 12 → Verdicts.firstApart s n ≡ 2 ^ n → Sharing.Meet ≡ said
+  unfolding Verdicts.meets
+  shared-meet l f = rw (le-ltb 12 n l, eq-eqb (Verdicts.firstApart s n) (2 ^ n) f) refl
+
+  pub shared-apart : (p q : ℕ) → n ≤ 12 → p ≡ Verdicts.firstApart s n → (p ≡ 2 ^ n → ⊥) → q ≡ Verdicts.beside s n p → Sharing.Apart p q ≡ said
+  unfolding Verdicts.meets
+  shared-apart p q l f g h =
+      rw (le-ltb 12 n l, ne-eqb (Verdicts.firstApart s n) (2 ^ n) (λ x. g (f ∙ x))) (ap₂ Sharing.Apart f (h ∙ ap (Verdicts.beside s n) f))
+
+-- of a table that is refused
+
+module _ (t : Groups) {r : Refusal} (e : groupsCheck t ≡ Refused r) where
+  pub quorum-refused : (set : ℕ) → Holds.Refused r ≡ quorum t set
+  unfolding quorum setCheck
+  quorum-refused set = rw e refl
+
+  pub largest-refused : (set : ℕ) → Greatest.Refused r ≡ largest t set
+  unfolding largest setCheck
+  largest-refused set = rw e refl
+
+  pub blocks-refused : (set site : ℕ) → Holds.Refused r ≡ blocks t set site
+  unfolding blocks setSiteCheck setCheck
+  blocks-refused set site = rw e refl
+
+  pub shared-refused : Sharing.Refused r ≡ shared t
   unfolding shared
-  shared-refused r e = rw e refl
+  shared-refused = rw e refl
 
-  pub shared-large : check t ≡ Sound → 12 < sitesOf t → Sharing.Refused Large ≡ shared t
+  pub intact-refused : (F : ℕ) → Standing.Refused r ≡ intact t F
+  unfolding intact setCheck
+  intact-refused F = rw e refl
+
+-- of a table in memory that is not: what its rows answer
+
+module _ (t : List ℕ) (e : Checked (lists t)) where
+  pub quorum-rows : (set : ℕ) → toHolds (outsider (sites (length t)) set) (Quorum.quorum (rulesOf t .inside) (sites (length t)) set) ≡ quorum (lists t) set
+  unfolding quorum setCheck
+  quorum-rows set = rw (e, same-rules t e) refl
+
+  pub largest-rows : (set : ℕ) →
+      toGreatest (outsider (sites (length t)) set) (Quorum.largest (rulesOf t .inside) (sites (length t)) set) (Quorum.rounds (rulesOf t .inside) (sites (length t)) set)
+      ≡ largest (lists t) set
+  unfolding largest setCheck
+  largest-rows set = rw (e, same-rules t e) refl
+
+  pub blocks-rows : (set site : ℕ) →
+      toHolds (orElse (outsider (sites (length t)) set) (refuse (not (ltb site (sites (length t)))) Range)) (rulesOf t .blocked site set) ≡ blocks (lists t) set site
+  unfolding blocks setSiteCheck setCheck
+  blocks-rows set site = rw (e, same-rules t e) refl
+
+  pub shared-rows : said (rulesOf t .inside) (sites (length t)) ≡ shared (lists t)
   unfolding shared
-  shared-large e l = rw (e, lt-ltb 12 (sitesOf t) l) refl
+  shared-rows = rw (e, same-rules t e) refl
 
-  pub shared-meet : check t ≡ Sound → sitesOf t ≤ 12 → Verdicts.firstApart (slicesOf t .inside) (sitesOf t) ≡ 2 ^ sitesOf t → Sharing.Meet ≡ shared t
-  unfolding shared Verdicts.meets
-  shared-meet e l f = rw (e, le-ltb 12 (sitesOf t) l, eq-eqb (Verdicts.firstApart (slicesOf t .inside) (sitesOf t)) (2 ^ sitesOf t) f) refl
-
-  pub shared-apart : (p q : ℕ) → check t ≡ Sound → sitesOf t ≤ 12 → p ≡ Verdicts.firstApart (slicesOf t .inside) (sitesOf t) →
-      (p ≡ 2 ^ sitesOf t → ⊥) → q ≡ Verdicts.beside (slicesOf t .inside) (sitesOf t) p → Sharing.Apart p q ≡ shared t
-  unfolding shared Verdicts.meets
-  shared-apart p q e l f g h =
-      rw (e, le-ltb 12 (sitesOf t) l, ne-eqb (Verdicts.firstApart (slicesOf t .inside) (sitesOf t)) (2 ^ sitesOf t) (λ x. g (f ∙ x)))
-      (ap₂ Sharing.Apart f (h ∙ ap (Verdicts.beside (slicesOf t .inside) (sitesOf t)) f))
+  pub intact-rows : (F : ℕ) →
+      toStanding (orElse (outsider (sites (length t)) F) (refuse (ltb 12 (sites (length t))) Large)) (Verdicts.intact (rulesOf t) (sites (length t)) F) ≡ intact (lists t) F
+  unfolding intact setCheck
+  intact-rows F = rw (e, same-rules t e) refl

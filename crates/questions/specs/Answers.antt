@@ -15,22 +15,17 @@ use Rattle.refusals.specs.First.{orElse, refuse}
 use Rattle.refusals.specs.declared.Check.{Check}
 use Rattle.refusals.specs.declared.Check.the-variants.{Sound}
 use Rattle.refusals.specs.declared.Refusal.the-variants.{Range, Large}
+use Rattle.sets.specs.Groups.{Groups, slicesIn, sitesOf, groupsCheck, setCheck}
 use Rattle.sets.specs.Quorum as Quorum
-use Rattle.sets.specs.Slices.{slicesOf}
 use Rattle.verdicts.specs.Verdicts as Verdicts
-use Rattle.table.specs.Table.{sites, check, setCheck}
-
--- the number of sites of a table
-abbrev pub sitesOf : List ℕ → ℕ
-sitesOf t = sites (length t)
 
 -- the table, 10, then 11: "site at or above n"
-unfoldable pub setSiteCheck : List ℕ → ℕ → ℕ → Check
+unfoldable pub setSiteCheck : Groups → ℕ → ℕ → Check
 unfolding setCheck
 setSiteCheck t set site = orElse (setCheck t set) (refuse (not (ltb site (sitesOf t))) Range)
 
 -- 16: "n over 12 where a verdict needs at most 12"
-abbrev pub verdictCheck : List ℕ → Check → Check
+abbrev pub verdictCheck : Groups → Check → Check
 verdictCheck t before = orElse before (refuse (ltb 12 (sitesOf t)) Large)
 
 abbrev pub holds : Bool → Holds
@@ -42,23 +37,23 @@ abbrev pub toHolds : Check → Bool → Holds
 toHolds Sound b = holds b
 toHolds (Check.Refused r) b = Holds.Refused r
 
-unfoldable pub quorum : List ℕ → ℕ → Holds
+unfoldable pub quorum : Groups → ℕ → Holds
 unfolding setCheck
-quorum t set = toHolds (setCheck t set) (Quorum.quorum (slicesOf t .inside) (sitesOf t) set)
+quorum t set = toHolds (setCheck t set) (Quorum.quorum (slicesIn t .inside) (sitesOf t) set)
 
 -- the largest quorum inside the set, and its rounds
 abbrev pub toGreatest : Check → ℕ → ℕ → Greatest
 toGreatest Sound set rounds = Greatest.Set set rounds
 toGreatest (Check.Refused r) set rounds = Greatest.Refused r
 
-unfoldable pub largest : List ℕ → ℕ → Greatest
+unfoldable pub largest : Groups → ℕ → Greatest
 unfolding setCheck
-largest t set = toGreatest (setCheck t set) (Quorum.largest (slicesOf t .inside) (sitesOf t) set) (Quorum.rounds (slicesOf t .inside) (sitesOf t) set)
+largest t set = toGreatest (setCheck t set) (Quorum.largest (slicesIn t .inside) (sitesOf t) set) (Quorum.rounds (slicesIn t .inside) (sitesOf t) set)
 
 -- does the set block the site
-unfoldable pub blocks : List ℕ → ℕ → ℕ → Holds
+unfoldable pub blocks : Groups → ℕ → ℕ → Holds
 unfolding setSiteCheck
-blocks t set site = toHolds (setSiteCheck t set site) (slicesOf t .blocked site set)
+blocks t set site = toHolds (setSiteCheck t set site) (slicesIn t .blocked site set)
 
 -- do every two quorums have a common site; if not, the quorum of the smallest mask that has one in its complement, and the largest there
 abbrev pub toSharing : Check → Bool → ℕ → ℕ → Sharing
@@ -66,19 +61,18 @@ toSharing Sound true p q = Meet
 toSharing Sound false p q = Apart p q
 toSharing (Check.Refused r) b p q = Sharing.Refused r
 
-unfoldable pub shared : List ℕ → Sharing
-unfolding check
+unfoldable pub shared : Groups → Sharing
 shared t =
-    let s = slicesOf t .inside in
+    let s = slicesIn t .inside in
     let n = sitesOf t in
     let p = Verdicts.firstApart s n in
-    toSharing (verdictCheck t (check t)) (Verdicts.meets s n) p (Verdicts.beside s n p)
+    toSharing (verdictCheck t (groupsCheck t)) (Verdicts.meets s n) p (Verdicts.beside s n p)
 
 -- the sites that are intact when those of the set are faulty
 abbrev pub toStanding : Check → ℕ → Standing
 toStanding Sound set = Intact set
 toStanding (Check.Refused r) set = Standing.Refused r
 
-unfoldable pub intact : List ℕ → ℕ → Standing
+unfoldable pub intact : Groups → ℕ → Standing
 unfolding setCheck
-intact t faulty = toStanding (verdictCheck t (setCheck t faulty)) (Verdicts.intact (slicesOf t) (sitesOf t) faulty)
+intact t faulty = toStanding (verdictCheck t (setCheck t faulty)) (Verdicts.intact (slicesIn t) (sitesOf t) faulty)

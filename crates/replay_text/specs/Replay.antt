@@ -1,14 +1,14 @@
 -- The run of a journal's list on an image.
 use Prim.Native.Nat.{ℕ}
 use mathlib.Core.List.{List}
-use Rattle.check_text.specs.Table.{tableOn, imageCheck, unless}
+use Rattle.check_text.specs.Table.{imageCheck, unless, tableOn}
 use Rattle.journal.specs.Journal.{journalCheck}
 use Rattle.journal_blocks.specs.Journal.{listOf}
 use Rattle.refusal_lines.specs.Refused.{explained}
 use Rattle.refusals.specs.First.{orElse}
 use Rattle.refusals.specs.declared.Check.{Check}
 use Rattle.run_text.specs.Run.{runText}
-use Rattle.table.specs.Table.{setCheck}
+use Rattle.sets.specs.Groups.{setCheck}
 
 -- the table as in reading, then 10
 unfoldable pub askedCheck : ℕ → List ℕ → Check

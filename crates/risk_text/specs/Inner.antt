@@ -7,10 +7,10 @@ use Rattle.lines.specs.Lines.{line}
 use Rattle.members.specs.Members.{members}
 use Rattle.questions.specs.Answers.{verdictCheck}
 use Rattle.refusal_lines.specs.Refused.{explained}
-use Rattle.sets.specs.Slices.{slicesOf}
-use Rattle.table.specs.Table.{sites, check}
+use Rattle.table.specs.Table.{check}
 use Rattle.text.specs.Text.{ascii, decimal, mask}
 use Rattle.risk_text.specs.RiskText.{riskLines}
+use Rattle.sets.specs.Groups.{Groups, slicesIn, sitesOf, groupsCheck}
 
 -- the lines of a smallest set: how many members it has, and the set itself
 unfoldable pub firstLines : ℕ → ℕ → List ℕ
@@ -18,6 +18,6 @@ unfolding line decimal mask members
 firstLines fewest first = line (ascii "fewest ") (decimal fewest) ++ (line (ascii "first ") (mask first) ++ line (ascii "first sites") (members first))
 
 -- of a table in memory: the table, 16, then the lines
-unfoldable pub riskRead : List ℕ → List ℕ
-unfolding explained check riskLines
-riskRead t = unless (verdictCheck t (check t)) explained (riskLines (sites (length t)) (slicesOf t))
+unfoldable pub riskRead : Groups → List ℕ
+unfolding explained riskLines
+riskRead t = unless (verdictCheck t (groupsCheck t)) explained (riskLines (sitesOf t) (slicesIn t))

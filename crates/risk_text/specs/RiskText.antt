@@ -2,15 +2,16 @@
 use Prim.Native.Nat.{ℕ}
 use mathlib.Core.List.{List, _++_}
 use lib.ListN.{length}
-use Rattle.check_text.specs.Table.{tableOn, imageCheck, unless}
+use Rattle.check_text.specs.Table.{imageCheck, unless, tableOn}
 use Rattle.ground.specs.Pieces.{cat}
 use Rattle.lines.specs.Lines.{line}
 use Rattle.members.specs.Members.{members}
 use Rattle.questions.specs.Answers.{verdictCheck}
 use Rattle.refusal_lines.specs.Refused.{explained}
 use Rattle.risk.specs.Risk.{takenAlong, fewest, firstRuin}
-use Rattle.sets.specs.Slices.{Slices, slicesOf}
-use Rattle.table.specs.Table.{sites, check}
+use Rattle.sets.specs.Groups.{slicesIn, sitesOf, groupsCheck}
+use Rattle.sets.specs.Slices.{Slices}
+use Rattle.table.specs.Table.{check}
 use Rattle.text.specs.Text.{ascii, decimal, mask}
 
 -- "`site V K` for each site: how many other sites are befouled if it alone is faulty"
@@ -29,7 +30,7 @@ riskLines n r =
 
 -- the table as in reading, then 16; then the lines
 unfoldable pub riskText : List ℕ → List ℕ
-unfolding imageCheck explained check riskLines
+unfolding imageCheck explained riskLines
 riskText image =
     let t = tableOn image in
-    unless (imageCheck image) explained (unless (verdictCheck t (check t)) explained (riskLines (sites (length t)) (slicesOf t)))
+    unless (imageCheck image) explained (unless (verdictCheck t (groupsCheck t)) explained (riskLines (sitesOf t) (slicesIn t)))

@@ -19,17 +19,17 @@ use Rattle.votes.proofs.Loops.{iter-more}
 use Rattle.pass.proofs.Lawful.{vote-lawful}
 use Rattle.votes.proofs.AnyVote.{spends, is-run}
 use Rattle.votes.proofs.Passes.{pass-up, pass-inv}
-use Rattle.run.proofs.Public.{fit, passes-are-run}
+use Rattle.run.proofs.Public.{is-checked, passes-are-run}
 use Rattle.run.proofs.Spent.{OfSide, Voted, proposals, of-side, Spent, proposals-spent, pass-kept, quiet-spends, both-still}
 use Rattle.sets.specs.Paper.{Fbqs}
 use Rattle.sets.specs.Promises.{Questions}
-use Rattle.table.specs.Table.{sites}
 use Rattle.rules.proofs.SoundLaws.{fresh-sound, accepted-correct}
 use Rattle.rules.proofs.WorkWays.{table-rests}
 use Rattle.rules.specs.Sound.{Sound}
 use Rattle.rules.specs.State.{voted, accepted, width, get}
 use Rattle.rules.specs.Theorems.{Rests}
 use Rattle.rules.specs.Vote.{vote}
+use Rattle.sets.specs.Groups.{sitesOf}
 use Rattle.votes.specs.Passes.{pass, iter}
 use Rattle.votes.specs.Call.{Call}
 use Rattle.votes.specs.Vote.{step, fresh, runOf}
@@ -93,4 +93,4 @@ module _ {Σ : ℕ → Fbqs} {Q : Questions} {n : ℕ} (R : Rests Σ Q n) (F : �
 
 pub sharp : SharpBound
 sharp t F list state answers p T =
-    subst (λ (k : ℕ). k ≤ count (minus (allBelow (sites (length t))) F) + 3) (passes-are-run T) (few (table-rests (fit T .table)) F (calls list))
+    subst (λ (k : ℕ). k ≤ count (minus (allBelow (sitesOf t)) F) + 3) (passes-are-run T) (few (table-rests t (is-checked T)) F (calls list))

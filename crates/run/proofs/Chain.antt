@@ -4,7 +4,7 @@ use Prim.Native.Nat.{ℕ, zero, suc, _+_, _*_, _≤_, _<_}
 use mathlib.Core.Bool.{true}
 use mathlib.Core.List.{List, _∷_}
 use mathlib.Core.Logic.{_⊎_, inl, inr, ⊎-elim}
-use mathlib.Core.Path.{_≡_, sym, ap, _∙_}
+use mathlib.Core.Path.{_≡_, sym, ap, _∙_, subst}
 use native.Mathlib.Omega.{arith}
 use lib.Bits.{bitOr}
 use lib.ListN.{length, getD, replicate, length-replicate, getD-replicate}
@@ -17,11 +17,14 @@ use Rattle.masks.proofs.Laws.Single.{∈-eq, ∈-or, ∈-single, single-∈, si
 use Rattle.masks.proofs.Laws.Subsets.{or-⊆, or-⊆-l, or-⊆-r, not-in-zero, ∈-minus}
 use Rattle.masks.specs.Mask.{single, _∈_, _⊆_}
 use Rattle.rules.proofs.WorkWays.{table-rests}
+use Rattle.table.proofs.Exact.{sound}
+use Rattle.table.proofs.Table.{sites-of}
 use Rattle.sets.specs.Paper.{Quorum}
-use Rattle.sets.specs.Promises.{Questions, Promises, questions}
+use Rattle.sets.specs.Promises.{Questions, Promises}
 use Rattle.sets.specs.Slices.{fbqsOf}
 use Rattle.table.specs.Table.{siteOf, countOf, sliceOf, Table}
 use Rattle.rules.specs.Theorems.{Rests}
+use Rattle.sets.specs.Groups.{lists, questions}
 
 -- the other site of a site's slice, and the slice
 abbrev pub other : ℕ → ℕ
@@ -116,10 +119,12 @@ pub record Chained (Q : Questions) (n : ℕ) : Type 0 where
 
 module _ {n : ℕ} (two : 2 ≤ n) (few : n ≤ 64) where
   abbrev Q : Questions
-  Q = questions (chain n)
+  Q = questions (lists (chain n))
 
   pub chain-rests : Rests (λ v. fbqsOf (chain n) n) Q n
-  chain-rests = table-rests (chain-table n two few)
+  chain-rests =
+      let T = chain-table n two few in
+      subst (λ (m : ℕ). Rests (λ v. fbqsOf (chain n) m) Q m) (sites-of T) (table-rests (lists (chain n)) (sound T))
 
   pub chained : Chained Q n
   chained = record {

@@ -6,7 +6,7 @@ use native.Mathlib.Omega.{arith}
 use lib.ListN.{length, getD, drop}
 use lib.Seq.{take-at}
 use Rattle.pass.proofs.Calls.{calls-at, calls-length}
-use Rattle.pass.proofs.Lawful.{lawful}
+use Rattle.pass.proofs.Lawful.{table-vote}
 use Rattle.pass.proofs.Turns.{length-answers}
 use Rattle.pass.specs.Calls.{calls, callAt}
 use Rattle.refusals.specs.declared.Check.{Check}
@@ -14,12 +14,11 @@ use Rattle.refusals.specs.declared.Check.the-variants.{Sound, Refused}
 use Rattle.rules.specs.Sound.{Sound as SoundState}
 use Rattle.rules.specs.State.{width}
 use Rattle.rules.specs.Vote.{voteOf}
-use Rattle.run.proofs.RunWays.{Fits, fits}
+use Rattle.run.proofs.RunWays.{Fits, run-checked, run-fits}
 use Rattle.run.specs.Run.{runCheck, theRun, toRan, ran, stateInto, answersInto}
 use Rattle.run.specs.Theorems.{Taken, endState, endAnswers, OrderFree, FewPasses, TheRun, FewerBelow}
 use Rattle.run.specs.declared.Ran.the-variants.{Passes}
-use Rattle.sets.specs.Promises.{questions}
-use Rattle.table.specs.Table.{sites}
+use Rattle.sets.specs.Groups.{Groups, sitesOf, Checked, questions}
 use Rattle.votes.proofs.AnyVote.{is-run, order-free, few-passes, fewer-below}
 use Rattle.votes.specs.Call.{Call}
 use Rattle.votes.specs.Inner.{Lawful}
@@ -31,19 +30,22 @@ taken-inv Sound k p e = (refl, cc)
 taken-inv (Refused r) k p e = let z : _≡_ {A = ℕ} 0 1 = cc in absurd (omega arith)
 
 -- what a taken run has shown of its table and its list
-module _ {t : List ℕ} {F : ℕ} {list state answers : List ℕ} {p : ℕ} (T : Taken t F list state answers p) where
+module _ {t : Groups} {F : ℕ} {list state answers : List ℕ} {p : ℕ} (T : Taken t F list state answers p) where
   abbrev X : Vote
-  X = voteOf t (sites (length t)) F
+  X = voteOf t F
 
   checks : (runCheck t F (length list) (length state) (length answers) ≡ Sound) × (theRun t F list .passes ≡ p)
   unfolding ran
   checks = taken-inv (runCheck t F (length list) (length state) (length answers)) (theRun t F list .passes) p (T .took)
 
-  pub fit : Fits t (length list) (length state) (length answers)
-  fit = fits t F (length list) (length state) (length answers) (checks .0)
+  pub is-checked : Checked t
+  is-checked = run-checked t F (length list) (length state) (length answers) (checks .0)
+
+  pub fit : Fits (sitesOf t) (length list) (length state) (length answers)
+  fit = run-fits t F (length list) (length state) (length answers) (checks .0)
 
   law : Lawful X
-  law = lawful (fit .table) F
+  law = table-vote t is-checked F
 
   call-count : length (calls list) ≡ length list / 4
   call-count = calls-length list (length list / 4) (fit .four)
@@ -52,12 +54,12 @@ module _ {t : List ℕ} {F : ℕ} {list state answers : List ℕ} {p : ℕ} (T :
   pub state-is-run : endState t F list state p ≡ theRun t F list .state
   unfolding stateInto
   state-is-run =
-      take-at (theRun t F list .state) (drop (width (sites (length t))) state) (width (sites (length t)))
+      take-at (theRun t F list .state) (drop (width (sitesOf t)) state) (width (sitesOf t))
       (law .long (theRun t F list .state) (is-run X law (calls list) .1))
 
   -- a run ends in a sound state
-  pub end-sound : SoundState (questions t) (sites (length t)) F (endState t F list state p)
-  end-sound = subst (SoundState (questions t) (sites (length t)) F) (sym state-is-run) (is-run X law (calls list) .1)
+  pub end-sound : SoundState (questions t) (sitesOf t) F (endState t F list state p)
+  end-sound = subst (SoundState (questions t) (sitesOf t) F) (sym state-is-run) (is-run X law (calls list) .1)
 
   answers-are-run : endAnswers t F list answers p ≡ theRun t F list .answers
   unfolding answersInto

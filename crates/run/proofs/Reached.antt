@@ -37,6 +37,9 @@ use Rattle.rules.specs.Sound.{Sound}
 use Rattle.rules.specs.State.{votes, accepts, voted, accepted, width, get}
 use Rattle.rules.specs.Theorems.{Rests}
 use Rattle.rules.specs.Vote.{vote}
+use Rattle.sets.specs.Groups.{lists, questions}
+use Rattle.table.proofs.Exact.{sound}
+use Rattle.table.proofs.Table.{sites-of}
 use Rattle.votes.specs.Passes.{pass}
 use Rattle.votes.specs.Call.{propose, call, Call}
 use Rattle.votes.specs.Vote.{step, fresh, runOf}
@@ -178,10 +181,14 @@ module _ {Σ : ℕ → Fbqs} {Q : Questions} (j : ℕ) (more : 1 ≤ j) (R : Res
 
 pub reached : Reached
 reached zero two few = absurd (omega arith)
-reached (suc j) two few = (
-  chain (suc j),
-  longest j,
-  chain-table (suc j) two few,
-  ap suc (links-length (suc j)) ∙ omega arith,
-  longest-passes j (omega arith) (chain-rests two few) (chained two few),
-)
+reached (suc j) two few =
+    let T = chain-table (suc j) two few in
+    let t = lists (chain (suc j)) in (
+      t,
+      longest j,
+      sound T,
+      sites-of T,
+      ap suc (links-length (suc j)) ∙ omega arith,
+      subst (λ (m : ℕ). runOf (vote (questions t) m 0) (longest j) .passes ≡ suc j + 3) (sym (sites-of T))
+          (longest-passes j (omega arith) (chain-rests two few) (chained two few)),
+    )

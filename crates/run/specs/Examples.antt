@@ -15,6 +15,7 @@ use Rattle.verdicts.specs.Verdicts.{beside, apart, firstApart, meets, dispensab
 use Rattle.rules.specs.Rules.{accepting, confirming, nowAccepts, nowConfirms, hears, taken, outOfRange, crooked, against, unsent, answer}
 use Rattle.rules.specs.State.{accepted, confirmed, width, get, add}
 use Rattle.rules.specs.Vote.{voteOf}
+use Rattle.sets.specs.Groups.{Groups, lists, slicesIn}
 use Rattle.votes.specs.Call.{call, propose}
 use Rattle.votes.specs.Passes.{pass, passes, run}
 use Rattle.votes.specs.Vote.{step, fresh, runOf}
@@ -24,20 +25,23 @@ abbrev pub site : List ℕ → List ℕ
 site q = length q ∷ (q ++ replicate (62 - length q) 0)
 
 -- "Table A, slices as masks: 3; 3; 7; 11; 24."
-abbrev pub tableA : List ℕ
-tableA = site (3 ∷ []) ++ site (3 ∷ []) ++ site (7 ∷ []) ++ site (11 ∷ []) ++ site (24 ∷ [])
+abbrev pub tableA : Groups
+tableA = lists (site (3 ∷ []) ++ site (3 ∷ []) ++ site (7 ∷ []) ++ site (11 ∷ []) ++ site (24 ∷ []))
 
 -- "Table B, four sites, all three-site sets with the owner: 7 11 13; 7 11 14; 7 13 14; 11 13 14."
-abbrev pub tableB : List ℕ
-tableB = site (7 ∷ 11 ∷ 13 ∷ []) ++ site (7 ∷ 11 ∷ 14 ∷ []) ++ site (7 ∷ 13 ∷ 14 ∷ []) ++ site (11 ∷ 13 ∷ 14 ∷ [])
+abbrev pub rowsB : List ℕ
+rowsB = site (7 ∷ 11 ∷ 13 ∷ []) ++ site (7 ∷ 11 ∷ 14 ∷ []) ++ site (7 ∷ 13 ∷ 14 ∷ []) ++ site (11 ∷ 13 ∷ 14 ∷ [])
+
+abbrev pub tableB : Groups
+tableB = lists rowsB
 
 -- "slices 3; 3; 12; 12"
-abbrev pub tableApart : List ℕ
-tableApart = site (3 ∷ []) ++ site (3 ∷ []) ++ site (12 ∷ []) ++ site (12 ∷ [])
+abbrev pub tableApart : Groups
+tableApart = lists (site (3 ∷ []) ++ site (3 ∷ []) ++ site (12 ∷ []) ++ site (12 ∷ []))
 
 -- "one site with slice 1"
-abbrev pub tableOne : List ℕ
-tableOne = site (1 ∷ [])
+abbrev pub tableOne : Groups
+tableOne = lists (site (1 ∷ []))
 
 abbrev pub all : List Bool → Bool
 all [] = true
@@ -47,11 +51,11 @@ unfoldable pub examples : List Bool
 unfolding some every least those has within minus gather quorum round left dropping largest rounds slicesOf questionsOf beside apart firstApart meets
     dispensable isIntact intact mark accepting confirming nowAccepts nowConfirms hears taken outOfRange crooked against unsent answer fresh add passes run runOf
 examples =
-    let A = slicesOf tableA in
-    let B = slicesOf tableB in
-    let C = slicesOf tableApart in
-    let oneEnd = runOf (voteOf tableOne 1 0) (propose 0 0 ∷ []) .state in
-    let heardEnd = pass (step (voteOf tableB 4 8)) (propose 0 0 ∷ propose 1 0 ∷ propose 2 0 ∷ call 1 1 0 0 ∷ call 1 2 0 0 ∷ []) (fresh (width 4)) in
+    let A = slicesIn tableA in
+    let B = slicesIn tableB in
+    let C = slicesIn tableApart in
+    let oneEnd = runOf (voteOf tableOne 0) (propose 0 0 ∷ []) .state in
+    let heardEnd = pass (step (voteOf tableB 8)) (propose 0 0 ∷ propose 1 0 ∷ propose 2 0 ∷ call 1 1 0 0 ∷ call 1 2 0 0 ∷ []) (fresh (width 4)) in
     -- A's quorums are 3, 7, 11, 15, 27, 31
     alike (those 32 (quorum (A .inside) 5)) (3 ∷ 7 ∷ 11 ∷ 15 ∷ 27 ∷ 31 ∷ [])
     -- A's dispensable sets are 0, 4, 16, 20, 24, 28, 31
@@ -77,6 +81,6 @@ examples =
     ∷ eqb (get heardEnd (accepted 4 0)) 1
     ∷ eqb (get heardEnd (confirmed 4 0)) 0
     -- list "vote 0 to 1 drill, propose 0 drill" in B, F = 0: 3 passes. Empty list: 1 pass
-    ∷ eqb (runOf (voteOf tableB 4 0) (call 1 0 1 0 ∷ propose 0 0 ∷ []) .passes) 3
-    ∷ eqb (runOf (voteOf tableB 4 0) [] .passes) 1
+    ∷ eqb (runOf (voteOf tableB 0) (call 1 0 1 0 ∷ propose 0 0 ∷ []) .passes) 3
+    ∷ eqb (runOf (voteOf tableB 0) [] .passes) 1
     ∷ []

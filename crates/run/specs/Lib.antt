@@ -1,3 +1,4 @@
 pub mod Run
+pub mod Inner
 pub mod Theorems
 pub mod Examples

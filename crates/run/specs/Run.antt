@@ -11,10 +11,10 @@ use Rattle.refusals.specs.declared.Refusal.the-variants.{Room}
 use Rattle.refusals.specs.declared.Refusal as Refusal
 use Rattle.run.specs.declared.Ran.{Ran}
 use Rattle.run.specs.declared.Ran.the-variants.{Passes}
-use Rattle.table.specs.Table.{sites, setCheck}
 use Rattle.pass.specs.Calls.{calls}
 use Rattle.rules.specs.State.{width}
 use Rattle.rules.specs.Vote.{voteOf}
+use Rattle.sets.specs.Groups.{Groups, sitesOf, setCheck}
 use Rattle.votes.specs.Passes.{Run}
 use Rattle.votes.specs.Vote.{runOf}
 
@@ -27,23 +27,23 @@ unfoldable pub roomless : ℕ → ℕ → ℕ → ℕ → Bool
 roomless n bytes state answers = ltb state (width n) || ltb answers (bytes / 4)
 
 -- table, 10 ("a set names a site at or above n"), 17, 9, for a list of so many bytes, and rooms of so many numbers and bytes
-unfoldable pub runCheck : List ℕ → ℕ → ℕ → ℕ → ℕ → Check
+unfoldable pub runCheck : Groups → ℕ → ℕ → ℕ → ℕ → Check
 unfolding setCheck listMisshapen roomless
 runCheck t F bytes state answers =
     orElse (setCheck t F)
     (orElse (refuse (listMisshapen bytes) Refusal.Refusal.List)
-    (refuse (roomless (sites (length t)) bytes state answers) Room))
+    (refuse (roomless (sitesOf t) bytes state answers) Room))
 
 -- the run of this table, faulty set and list
-abbrev pub theRun : List ℕ → ℕ → List ℕ → Run (List ℕ)
-theRun t F list = runOf (voteOf t (sites (length t)) F) (calls list)
+abbrev pub theRun : Groups → ℕ → List ℕ → Run (List ℕ)
+theRun t F list = runOf (voteOf t F) (calls list)
 
 abbrev pub toRan : Check → ℕ → Ran
 toRan Sound passes = Passes passes
 toRan (Check.Refused r) passes = Ran.Refused r
 
 -- the answer: the number of passes, or the refusal
-unfoldable pub ran : List ℕ → ℕ → List ℕ → ℕ → ℕ → Ran
+unfoldable pub ran : Groups → ℕ → List ℕ → ℕ → ℕ → Ran
 unfolding runCheck runOf
 ran t F list state answers = toRan (runCheck t F (length list) state answers) (theRun t F list .passes)
 
@@ -52,10 +52,10 @@ abbrev pub front : Ran → List ℕ → ℕ → List ℕ → List ℕ
 front (Passes p) result n room = result ++ drop n room
 front (Ran.Refused r) result n room = room
 
-unfoldable pub stateInto : Ran → List ℕ → ℕ → List ℕ → List ℕ → List ℕ
+unfoldable pub stateInto : Ran → Groups → ℕ → List ℕ → List ℕ → List ℕ
 unfolding runOf
-stateInto r t F list room = front r (theRun t F list .state) (width (sites (length t))) room
+stateInto r t F list room = front r (theRun t F list .state) (width (sitesOf t)) room
 
-unfoldable pub answersInto : Ran → List ℕ → ℕ → List ℕ → List ℕ → List ℕ
+unfoldable pub answersInto : Ran → Groups → ℕ → List ℕ → List ℕ → List ℕ
 unfolding runOf
 answersInto r t F list room = front r (theRun t F list .answers) (length list / 4) room

@@ -2,6 +2,7 @@
 use Prim.Native.Nat.{ℕ}
 use mathlib.Core.Bool.{true, false}
 use mathlib.Core.List.{List}
+use mathlib.Core.Logic.{_↔_}
 use mathlib.Core.Path.{_≡_, refl, sym, ap}
 use lib.ListN.{length}
 use borrow.Author.Tests.{not-false}
@@ -11,17 +12,25 @@ use Rattle.refusals.proofs.First.{orElse-sound, kept}
 use Rattle.refusals.specs.declared.Check.the-variants.{Sound, Refused}
 use Rattle.refusals.specs.declared.Refusal.the-variants.{Set}
 use Rattle.sets.specs.Decides.{TableIsFbqs, TableDecides, TablePromises}
-use Rattle.sets.specs.Groups.{Groups, lists, sitesOf, fbqsIn, slicesIn, groupsCheck, Checked, outsider, setCheck, questions}
+use Rattle.sets.specs.Groups.{Groups, lists, sitesOf, fbqsIn, slicesIn, groupsCheck, SoundTable, Checked, outsider, setCheck, questions}
 use Rattle.sets.specs.Promises.{questionsOf}
 use Rattle.sets.specs.Rows.{Rows, rulesOf, rowQuestions, Lawful}
 use Rattle.sets.proofs.Decides.{decides}
 use Rattle.sets.proofs.Lawful.{table-lawful}
 use Rattle.sets.proofs.Promises.{promises}
-use Rattle.table.proofs.Exact.{checked}
+use Rattle.table.proofs.Exact.{checked, exact}
 use Rattle.table.specs.Table.{sites, Table}
 
 pub lawful : (t : Groups) → Checked t → Lawful (fbqsIn t) (slicesIn t) (sitesOf t)
 lawful (lists t) c = table-lawful (checked t c)
+
+-- the check takes exactly the sound tables
+pub table-exact : (t : Groups) → Checked t ↔ SoundTable t
+table-exact (lists t) = exact t
+
+-- its sites are those below n, checked or not
+pub sites-in : (t : Groups) → fbqsIn t .sites ≡ allBelow (sitesOf t)
+sites-in (lists t) = refl
 
 pub table-is-fbqs : TableIsFbqs
 table-is-fbqs t c = lawful t c .well-formed

@@ -12,7 +12,7 @@ use Rattle.refusals.specs.declared.Refusal.the-variants.{Set}
 use Rattle.sets.specs.Paper.{Fbqs}
 use Rattle.sets.specs.Promises.{Questions, questionsOf}
 use Rattle.sets.specs.Slices.{Slices, fbqsOf, slicesOf}
-use Rattle.table.specs.Table.{sites, check}
+use Rattle.table.specs.Table.{sites, check, Table}
 
 pub data Groups : Type 0 where
   -- a table in memory, each site with its list of slices
@@ -32,6 +32,10 @@ slicesIn (lists t) = slicesOf t
 -- its refusals: "A table in memory is refused with 1, 4, 5, 6 or 8 by every public call that takes one."
 abbrev pub groupsCheck : Groups → Check
 groupsCheck (lists t) = check t
+
+-- what it promises then
+abbrev pub SoundTable : Groups → Type 0
+SoundTable (lists t) = Table t (sites (length t))
 
 -- it is not refused
 abbrev pub Checked : Groups → Type 0

@@ -3,7 +3,7 @@ use Prim.Native.Nat.{ℕ, _*_, _≤_}
 use mathlib.Core.List.{List, _++_}
 use mathlib.Core.Path.{_≡_}
 use lib.ListN.{length, take, drop}
-use Rattle.check_text.specs.Table.{sitesOn, tableOn, imageCheck}
+use Rattle.check_text.specs.Table.{sitesOn, imageCheck, rowsOn}
 use Rattle.image_write.specs.Write.{write, writeInto}
 use Rattle.image_write.specs.declared.Writing as Writing
 use Rattle.le.specs.Le.{Bytes}
@@ -23,6 +23,6 @@ MadeThenChecked =
 abbrev pub ShowThenWrite : Type 0
 ShowThenWrite =
     (image out : List ℕ) → Bytes image → imageCheck image ≡ Sound → length image ≤ length out →
-    let t = tableIn (show (tableOn image)) in
+    let t = tableIn (show (rowsOn image)) in
     let answer = Writing.Writing.Sites (sitesOn image) in
     (write t (length out) ≡ answer) × (writeInto answer t out ≡ image ++ drop (length image) out)

@@ -2,17 +2,18 @@
 -- with no common site. Where the verdict is refused, nothing.
 use Prim.Native.Nat.{ℕ}
 use mathlib.Core.List.{List, [], _++_}
-use Rattle.check_text.specs.Table.{tableOn, imageCheck, unless}
+use Rattle.check_text.specs.Table.{imageCheck, unless, tableOn}
 use Rattle.lines.specs.Lines.{line}
 use Rattle.masks.specs.Mask.{allBelow, minus}
 use Rattle.members.specs.Members.{members}
-use Rattle.questions.specs.Answers.{sitesOf, largest, shared, intact}
+use Rattle.questions.specs.Answers.{largest, shared, intact}
 use Rattle.questions.specs.declared.Greatest.{Greatest}
 use Rattle.questions.specs.declared.Greatest.the-variants.{Set}
 use Rattle.questions.specs.declared.Sharing.{Sharing}
 use Rattle.questions.specs.declared.Sharing.the-variants.{Meet, Apart}
 use Rattle.questions.specs.declared.Standing.{Standing}
 use Rattle.questions.specs.declared.Standing.the-variants.{Intact}
+use Rattle.sets.specs.Groups.{Groups, sitesOf}
 use Rattle.text.specs.Text.{ascii}
 
 -- of n sites: the faulty, the intact, the befouled, and the largest quorum outside the faulty
@@ -36,7 +37,7 @@ setsSpelled F n (Intact whole) (Greatest.Refused r) s = []
 setsSpelled F n (Standing.Refused r) g s = []
 
 -- of a table in memory: by the answers of the public questions
-unfoldable pub judgedSites : ℕ → List ℕ → List ℕ
+unfoldable pub judgedSites : ℕ → Groups → List ℕ
 unfolding largest shared intact fourSets
 judgedSites F t = let n = sitesOf t in setsSpelled F n (intact t F) (largest t (minus (allBelow n) F)) (shared t)
 

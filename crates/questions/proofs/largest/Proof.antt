@@ -1,26 +1,27 @@
--- `largest` meets its contract: one law for each way out.
+-- `largest` meets its contract: the table's refusal, or the answer of its rows.
 use mathlib.Core.Path.{sym, _∙_}
 use borrow.Author.Needs.{needs}
 use denote.Ref.{now}
-use Rattle.questions.proofs.Answers.{largest-refused, largest-set}
+use Rattle.questions.proofs.Answers.{largest-refused, largest-rows}
 use Rattle.questions.proofs.largest.Statement.{statement}
 use Rattle.questions.proofs.largest.Tie as tie
-use Rattle.table.proofs.SetCheck.{set-table}
+use Rattle.sets.proofs.Groups.{checked-rows}
+use Rattle.sets.specs.Groups.{lists}
 
 returns : tie.Need-returns
 returns c =
     let a = c .before .before .before .before .before .args in
-    largest-refused (now (a .table)) (a .set) _ (sym (c .before .before .before .check-set .ensures) ∙ c .before .q .given .1)
+    largest-refused (lists (now (a .table))) (sym (c .before .before .before .check .ensures) ∙ c .before .q .given .1) (a .set)
 
-largest-requires : tie.Need-largest-requires
-largest-requires c κs =
+largest-of-requires : tie.Need-largest-of-requires
+largest-of-requires c κs =
     let a = c .before .before .before .before .args in
-    set-table (now (a .table)) (a .set) (sym (c .before .before .check-set .ensures) ∙ c .enum-told .given .1)
+    checked-rows (now (a .table)) (sym (c .before .before .check .ensures) ∙ c .enum-told .given .1)
 
 returns-2 : tie.Need-returns-2
 returns-2 c =
     let a = c .before .before .before .before .before .args in
-    largest-set (now (a .table)) (a .set) _ _ (sym (c .before .before .before .check-set .ensures) ∙ c .before .enum-told .given .1) (c .largest .ensures .0) (c .largest .ensures .1)
+    c .largest-of .ensures ∙ largest-rows (now (a .table)) (sym (c .before .before .before .check .ensures) ∙ c .before .enum-told .given .1) (a .set)
 
 pub largest-spec : {M : Type 1} → statement M
 largest-spec =
@@ -30,5 +31,5 @@ largest-spec =
     (λ c. search needs)
     returns
     (λ c. search needs)
-    largest-requires
+    largest-of-requires
     returns-2)

@@ -1,33 +1,27 @@
--- `quorum` meets its contract: one law for each way out.
+-- `quorum` meets its contract: the table's refusal, or the answer of its rows.
 use mathlib.Core.Path.{sym, _∙_}
 use borrow.Author.Needs.{needs}
 use denote.Ref.{now}
-use Rattle.questions.proofs.Answers.{quorum-refused, quorum-yes, quorum-no}
+use Rattle.questions.proofs.Answers.{quorum-refused, quorum-rows}
 use Rattle.questions.proofs.quorum.Statement.{statement}
 use Rattle.questions.proofs.quorum.Tie as tie
-use Rattle.table.proofs.SetCheck.{set-table}
+use Rattle.sets.proofs.Groups.{checked-rows}
+use Rattle.sets.specs.Groups.{lists}
 
 returns : tie.Need-returns
 returns c =
     let a = c .before .before .before .before .before .args in
-    quorum-refused (now (a .table)) (a .set) _ (sym (c .before .before .before .check-set .ensures) ∙ c .before .q .given .1)
+    quorum-refused (lists (now (a .table))) (sym (c .before .before .before .check .ensures) ∙ c .before .q .given .1) (a .set)
 
-is-quorum-requires : tie.Need-is-quorum-requires
-is-quorum-requires c κs =
+quorum-of-requires : tie.Need-quorum-of-requires
+quorum-of-requires c κs =
     let a = c .before .before .before .before .args in
-    set-table (now (a .table)) (a .set) (sym (c .before .before .check-set .ensures) ∙ c .enum-told .given .1)
+    checked-rows (now (a .table)) (sym (c .before .before .check .ensures) ∙ c .enum-told .given .1)
 
 returns-2 : tie.Need-returns-2
 returns-2 c =
-    let a = c .before .before .before .before .before .before .args in
-    quorum-yes (now (a .table)) (a .set) (sym (c .before .before .before .before .check-set .ensures) ∙ c .before .before .enum-told .given .1)
-    (sym (c .before .is-quorum .ensures) ∙ c .if1 .taken)
-
-returns-3 : tie.Need-returns-3
-returns-3 c =
-    let a = c .before .before .before .before .before .before .args in
-    quorum-no (now (a .table)) (a .set) (sym (c .before .before .before .before .check-set .ensures) ∙ c .before .before .enum-told .given .1)
-    (sym (c .before .is-quorum .ensures) ∙ c .if1 .left)
+    let a = c .before .before .before .before .before .args in
+    c .quorum-of .ensures ∙ quorum-rows (now (a .table)) (sym (c .before .before .before .check .ensures) ∙ c .before .enum-told .given .1) (a .set)
 
 pub quorum-spec : {M : Type 1} → statement M
 quorum-spec =
@@ -37,6 +31,5 @@ quorum-spec =
     (λ c. search needs)
     returns
     (λ c. search needs)
-    is-quorum-requires
-    returns-2
-    returns-3)
+    quorum-of-requires
+    returns-2)

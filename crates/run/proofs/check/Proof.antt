@@ -1,59 +1,30 @@
--- `check` meets its contract: one law for each way out.
-use Prim.Native.Nat.{ℕ, _≤_, _<_}
-use mathlib.Core.Path.{sym, subst, _∙_}
-use native.Mathlib.Omega.{arith}
+-- `check` meets its contract: the table's refusal, or 10, 17, 9.
+use mathlib.Core.Path.{sym, _∙_}
 use borrow.Author.Needs.{needs}
 use denote.Ref.{now}
-use Rattle.run.proofs.RunWays.{set-refused, cut-refused, long-refused, state-refused, answers-refused, none-refused}
-use Rattle.table.proofs.SetCheck.{set-table}
+use Rattle.run.proofs.RunWays.{check-refused, check-rest}
 use Rattle.run.proofs.check.Statement.{statement}
 use Rattle.run.proofs.check.Tie as tie
+use Rattle.sets.proofs.Groups.{checked-rows}
+use Rattle.sets.specs.Groups.{lists}
 
 returns : tie.Need-returns
 returns c =
     let a = c .before .before .before .before .args in
-    c .enum-told2 .given .1 ∙ set-refused (now (a .table)) (a .faulty) (a .bytes) (a .state) (a .answers) _ (sym (c .before .before .check-set .ensures) ∙ c .enum-told2 .given .1)
+    let e = c .enum-told2 .given .1 in
+    e ∙ sym (check-refused (lists (now (a .table))) (a .faulty) (a .bytes) (a .state) (a .answers) (sym (c .before .before .check .ensures) ∙ e))
+
+check-of-requires : tie.Need-check-of-requires
+check-of-requires c κs =
+    let a = c .before .before .before .before .args in
+    checked-rows (now (a .table)) (sym (c .before .before .check .ensures) ∙ c .enum-told .given .1) .few-sites
 
 returns-2 : tie.Need-returns-2
 returns-2 c =
-    let d = c .before in
-    let a = d .before .before .before .before .args in
-    cut-refused (now (a .table)) (a .faulty) (a .bytes) (a .state) (a .answers) (sym (d .before .before .check-set .ensures) ∙ d .enum-told .given .1) (c .if1 .taken)
-
-returns-3 : tie.Need-returns-3
-returns-3 c =
-    let d = c .before .before in
-    let a = d .before .before .before .before .args in
-    long-refused (now (a .table)) (a .faulty) (a .bytes) (a .state) (a .answers) (sym (d .before .before .check-set .ensures) ∙ d .enum-told .given .1) (c .before .if1 .left) (c .if2 .taken)
-
-width-requires : tie.Need-width-requires
-width-requires c κs =
-    let d = c .before .before in
-    let a = d .before .before .before .before .args in
-    omega (arith, set-table (now (a .table)) (a .faulty) (sym (d .before .before .check-set .ensures) ∙ d .enum-told .given .1) .few-sites)
-
-returns-4 : tie.Need-returns-4
-returns-4 c =
-    let d = c .before .before .before .before in
-    let a = d .before .before .before .before .args in
-    state-refused (now (a .table)) (a .faulty) (a .bytes) (a .state) (a .answers) (sym (d .before .before .check-set .ensures) ∙ d .enum-told .given .1) (c .before .before .before .if1 .left)
-    (c .before .before .if2 .left) (subst (λ (k : ℕ). a .state < k) (c .before .width .ensures) (c .if3 .taken))
-
-returns-5 : tie.Need-returns-5
-returns-5 c =
-    let d = c .before .before .before .before .before in
-    let a = d .before .before .before .before .args in
-    let w = c .before .before .width .ensures in
-    answers-refused (now (a .table)) (a .faulty) (a .bytes) (a .state) (a .answers) (sym (d .before .before .check-set .ensures) ∙ d .enum-told .given .1) (c .before .before .before .before .if1 .left)
-    (c .before .before .before .if2 .left) (subst (λ (k : ℕ). k ≤ a .state) w (c .before .if3 .left)) (c .if4 .taken)
-
-returns-6 : tie.Need-returns-6
-returns-6 c =
-    let d = c .before .before .before .before .before in
-    let a = d .before .before .before .before .args in
-    let w = c .before .before .width .ensures in
-    none-refused (now (a .table)) (a .faulty) (a .bytes) (a .state) (a .answers) (sym (d .before .before .check-set .ensures) ∙ d .enum-told .given .1) (c .before .before .before .before .if1 .left)
-    (c .before .before .before .if2 .left) (subst (λ (k : ℕ). k ≤ a .state) w (c .before .if3 .left)) (c .if4 .left)
+    let b = c .before in
+    let a = b .before .before .before .before .args in
+    c .check-of .ensures
+    ∙ check-rest (lists (now (a .table))) (a .faulty) (a .bytes) (a .state) (a .answers) (sym (b .before .before .check .ensures) ∙ b .enum-told .given .1)
 
 pub check-spec : {M : Type 1} → statement M
 check-spec =
@@ -63,9 +34,5 @@ check-spec =
     (λ c. search needs)
     (λ c. search needs)
     returns
-    returns-2
-    returns-3
-    width-requires
-    returns-4
-    returns-5
-    returns-6)
+    check-of-requires
+    returns-2)

@@ -1,99 +1,39 @@
--- `run` meets its contract: the refusal leaves both rooms; else the run stands in front of each.
-use Prim.Native.Nat.{ℕ, _*_, _/_, _≤_}
-use mathlib.Core.Path.{sym, ap, subst, _∙_}
-use native.Mathlib.Omega.{arith}
+-- `run` meets its contract: the table's refusal leaves both rooms; else its rows are run.
+use mathlib.Core.Path.{sym, _∙_}
 use borrow.Author.Needs.{needs}
 use denote.Ref.{now}
 use lib.ListN.{length}
-use lib.Seq.{length-take-le, length-front}
-use Rattle.run.proofs.RunWays.{fits, ran-refused, ran-passes}
+use Rattle.run.proofs.RunWays.{check-refused, ran-refused, ran-rows, states-rows, answers-rows}
 use Rattle.run.proofs.run.Statement.{statement}
 use Rattle.run.proofs.run.Tie as tie
+use Rattle.sets.proofs.Groups.{checked-rows}
+use Rattle.sets.specs.Groups.{lists}
 
 returns : tie.Need-returns
 returns c =
-    let q = c .before .before .before in
-    let a = q .before .before .before .before .before .args in
-    let x = ran-refused (now (a .table)) (a .faulty) (now (a .list)) (now (a .state)) (now (a .answers)) _ (sym (q .check .ensures) ∙ c .before .q .given .1) in
+    let a = c .before .before .before .before .before .before .before .before .args in
+    let t = lists (now (a .table)) in
+    let e = sym (c .before .before .before .check .ensures) ∙ c .before .q .given .1 in
+    let x = ran-refused t (a .faulty) (now (a .list)) (now (a .state)) (now (a .answers))
+    (check-refused t (a .faulty) (length (now (a .list))) (length (now (a .state))) (length (now (a .answers))) e) in
     (x .0, (x .1, x .2))
 
-width-requires : tie.Need-width-requires
-width-requires c κs =
-    let d = c in
-    let q = d .before .before in
-    let a = q .before .before .before .before .before .args in
-    let f = fits (now (a .table)) (a .faulty) (length (now (a .list))) (length (now (a .state))) (length (now (a .answers)))
-    (sym (q .check .ensures) ∙ d .enum-told .given .1) in
-    f .table .few-sites
-
-slice-relend-prefix-run-fresh : tie.Need-slice-relend-prefix-run-fresh
-slice-relend-prefix-run-fresh c =
-    let d = c .before in
-    let q = d .before .before in
-    let a = q .before .before .before .before .before .args in
-    let f = fits (now (a .table)) (a .faulty) (length (now (a .list))) (length (now (a .state))) (length (now (a .answers)))
-    (sym (q .check .ensures) ∙ d .enum-told .given .1) in
-    subst (λ (k : ℕ). k ≤ length (now (a .state))) (sym (c .width .ensures)) (f .states)
-
-slice-aggregate-run-fresh : tie.Need-slice-aggregate-run-fresh
-slice-aggregate-run-fresh c = sym (length-take-le _ _ (slice-relend-prefix-run-fresh (c .before)))
-
-slice-relend-prefix-run-fresh-2 : tie.Need-slice-relend-prefix-run-fresh-2
-slice-relend-prefix-run-fresh-2 c =
-    let d = c .before .before in
-    let q = d .before .before in
-    let a = q .before .before .before .before .before .args in
-    let f = fits (now (a .table)) (a .faulty) (length (now (a .list))) (length (now (a .state))) (length (now (a .answers)))
-    (sym (q .check .ensures) ∙ d .enum-told .given .1) in
-    omega (arith, f .many)
-
-slice-aggregate-run-fresh-2 : tie.Need-slice-aggregate-run-fresh-2
-slice-aggregate-run-fresh-2 c =
-    let d = c .before .before .before in
-    let q = d .before .before in
-    let a = q .before .before .before .before .before .args in
-    let f = fits (now (a .table)) (a .faulty) (length (now (a .list))) (length (now (a .state))) (length (now (a .answers)))
-    (sym (q .check .ensures) ∙ d .enum-told .given .1) in
-    sym (length-take-le (length (now (a .list)) / 4) (now (a .answers)) (f .many))
-
-run-fresh-requires : tie.Need-run-fresh-requires
-run-fresh-requires c κs =
-    let d = c .before .before .before in
-    let q = d .before .before in
-    let a = q .before .before .before .before .before .args in
-    let f = fits (now (a .table)) (a .faulty) (length (now (a .list))) (length (now (a .state))) (length (now (a .answers)))
-    (sym (q .check .ensures) ∙ d .enum-told .given .1) in
-    let e = length-take-le (length (now (a .list)) / 4) (now (a .answers)) (f .many) in (
-      f .table,
-      (
-        length-take-le _ _ (slice-relend-prefix-run-fresh (c .before .before)) ∙ c .before .before .width .ensures,
-        (f .four ∙ ap (λ (k : ℕ). 4 * k) (sym e), subst (λ (k : ℕ). k ≤ 4096) (sym e) (f .few)),
-      ),
-    )
-
-same-length : tie.Need-same-length
-same-length c =
-    let r = c .before .before .before .before in
-    let w = r .before .before .before in
-    let a = w .before .before .before .before .before .before .before .before .args in
-    length-front (now (a .state)) (r .run-fresh .last .1 .1 .1 .1 .0) (w .width .result) (r .run-fresh .kept .1 .1 .1 .1 .0)
-
-same-length-2 : tie.Need-same-length-2
-same-length-2 c =
-    let r = c .before .before .before .before in
-    let a = r .before .before .before .before .before .before .before .before .before .before .before .args in
-    length-front (now (a .answers)) (r .run-fresh .last .1 .1 .1 .1 .1 .0) (length (now (a .list)) / 4) (r .run-fresh .kept .1 .1 .1 .1 .1 .0)
+run-of-requires : tie.Need-run-of-requires
+run-of-requires c κs =
+    let b = c .before .before in
+    checked-rows (now (b .before .before .before .before .before .before .before .args .table)) (sym (b .before .before .check .ensures) ∙ b .enum-told .given .1)
 
 returns-2 : tie.Need-returns-2
 returns-2 c =
     let r = c .before .before .before .before in
-    let w = r .before .before .before in
-    let d = w .before in
-    let q = d .before .before in
-    let a = q .before .before .before .before .before .args in
-    let x = ran-passes (now (a .table)) (a .faulty) (now (a .list)) (now (a .state)) (now (a .answers)) (w .width .ensures) (sym (q .check .ensures) ∙ d .enum-told .given .1)
-    (r .run-fresh .ensures) in
-    (x .0, (x .1, x .2))
+    let b = r .before .before .before in
+    let a = b .before .before .before .before .before .before .before .args in
+    let t = now (a .table) in
+    let e = sym (b .before .before .check .ensures) ∙ b .enum-told .given .1 in
+    let x = r .run-of .ensures in (
+      x .0 ∙ ran-rows t e (a .faulty) (now (a .list)) (length (now (a .state))) (length (now (a .answers))),
+      (x .1 .0 ∙ states-rows t e (a .faulty) (now (a .list)) _ (now (a .state)), x .1 .1 ∙ answers-rows t e (a .faulty) (now (a .list)) _ (now (a .answers))),
+    )
 
 pub run-spec : {M : Type 1} → statement M
 run-spec =
@@ -103,12 +43,7 @@ run-spec =
     (λ c. search needs)
     returns
     (λ c. search needs)
-    width-requires
-    slice-relend-prefix-run-fresh
-    slice-aggregate-run-fresh
-    slice-relend-prefix-run-fresh-2
-    slice-aggregate-run-fresh-2
-    run-fresh-requires
-    same-length
-    same-length-2
+    run-of-requires
+    (λ c. search needs)
+    (λ c. search needs)
     returns-2)

@@ -1,35 +1,28 @@
--- `sound` meets its contract: one law for each way out.
+-- `sound` meets its contract: the table's refusal, or what its rows say.
 use mathlib.Core.Path.{sym, _∙_}
 use borrow.Author.Needs.{needs}
 use denote.Ref.{now}
-use Rattle.table.proofs.SetCheck.{set-table}
-use Rattle.voting.proofs.StepWays.{set-refused, state-refused, state-sound}
+use Rattle.sets.proofs.Groups.{checked-rows}
+use Rattle.sets.specs.Groups.{lists}
+use Rattle.voting.proofs.StepWays.{sound-refused, sound-rows}
 use Rattle.voting.proofs.sound.Statement.{statement}
 use Rattle.voting.proofs.sound.Tie as tie
 
 returns : tie.Need-returns
 returns c =
     let a = c .before .before .before .before .before .args in
-    set-refused (now (a .table)) (a .faulty) (now (a .state)) (c .before .before .check-set .ensures) (c .enum-told2 .given .1)
+    sound-refused (lists (now (a .table))) (a .faulty) (now (a .state)) (c .before .before .check .ensures) (c .enum-told2 .given .1)
 
-is-unsound-requires : tie.Need-is-unsound-requires
-is-unsound-requires c κs =
+sound-of-requires : tie.Need-sound-of-requires
+sound-of-requires c κs =
     let a = c .before .before .before .before .before .args in
-    set-table (now (a .table)) (a .faulty) (sym (c .before .before .check-set .ensures) ∙ c .enum-told .given .1)
+    checked-rows (now (a .table)) (sym (c .before .before .check .ensures) ∙ c .enum-told .given .1)
 
 returns-2 : tie.Need-returns-2
 returns-2 c =
-    let b = c .before .before in
+    let b = c .before in
     let a = b .before .before .before .before .before .args in
-    state-refused (now (a .table)) (a .faulty) (now (a .state)) (b .before .before .check-set .ensures) (b .enum-told .given .1)
-    (c .before .is-unsound .ensures) (c .if1 .taken)
-
-returns-3 : tie.Need-returns-3
-returns-3 c =
-    let b = c .before .before in
-    let a = b .before .before .before .before .before .args in
-    state-sound (now (a .table)) (a .faulty) (now (a .state)) (b .before .before .check-set .ensures) (b .enum-told .given .1)
-    (c .before .is-unsound .ensures) (c .if1 .left)
+    c .sound-of .ensures ∙ sound-rows (now (a .table)) (sym (b .before .before .check .ensures) ∙ b .enum-told .given .1) (a .faulty) (now (a .state))
 
 pub sound-spec : {M : Type 1} → statement M
 sound-spec =
@@ -39,6 +32,5 @@ sound-spec =
     (λ c. search needs)
     (λ c. search needs)
     returns
-    is-unsound-requires
-    returns-2
-    returns-3)
+    sound-of-requires
+    returns-2)

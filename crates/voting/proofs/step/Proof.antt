@@ -1,43 +1,35 @@
--- `step` meets its contract: what the soundness refuses, or the inner step.
+-- `step` meets its contract: the table's refusal, or the step on its rows.
+use mathlib.Core.Path.{sym, ap, _∙_}
 use borrow.Author.Needs.{needs}
 use denote.Ref.{now}
-use Rattle.voting.proofs.StepWays.{stepped-unsound, sound-table, sound-state, stepped-refused, stepped-taken}
-use Rattle.rules.proofs.WorkWays.{same-works}
+use Rattle.sets.proofs.Groups.{checked-rows}
+use Rattle.sets.specs.Groups.{lists}
+use Rattle.votes.specs.Call.{call}
+use Rattle.voting.proofs.StepWays.{step-refused, step-rows, into-rows}
 use Rattle.voting.proofs.step.Statement.{statement}
 use Rattle.voting.proofs.step.Tie as tie
-use Rattle.votes.specs.Call.{call}
+use Rattle.voting.specs.Step.{toStepped}
 
 returns : tie.Need-returns
 returns c =
-    let a = c .before .before .before .before .before .before .before .args in
-    stepped-unsound (now (a .table)) (a .faulty) (now (a .state)) (c .before .before .before .sound .ensures) (call (a .kind) (a .from) (a .to) (a .side))
-    (c .before .q .given .1)
+    let a = c .before .before .before .before .before .before .args in
+    step-refused (lists (now (a .table))) (a .faulty) (now (a .state)) (sym (c .before .before .before .check .ensures) ∙ c .before .q .given .1)
+    (call (a .kind) (a .from) (a .to) (a .side))
 
-work-requires : tie.Need-work-requires
-work-requires c κs =
-    let b = c .before .before .before .before .before in
-    let a = b .before .before .before .before .before .before .args in (
-      sound-table (now (a .table)) (a .faulty) (now (a .state)) (b .before .before .sound .ensures) (b .enum-told .given .1),
-      sound-state (now (a .table)) (a .faulty) (now (a .state)) (b .before .before .sound .ensures) (b .enum-told .given .1),
-    )
+step-of-requires : tie.Need-step-of-requires
+step-of-requires c κs =
+    let a = c .before .before .before .before .before .before .args in
+    checked-rows (now (a .table)) (sym (c .before .before .before .check .ensures) ∙ c .before .enum-told .given .1)
 
 returns-2 : tie.Need-returns-2
 returns-2 c =
-    let b = c .before .before .before .before .before in
-    let d = b .before .before .before .before in
-    let a = d .before .before .before .before .before .before .before .before .args in
-    stepped-refused (now (a .table)) (a .faulty) (now (a .state)) (d .before .before .before .before .sound .ensures) (d .before .before .enum-told .given .1)
-    (same-works (d .wide .ensures .0) (b .before .before .before .wide2 .ensures .0) (b .before .before .wide3 .ensures .0) (b .before .wide4 .ensures .0) (b .work .ensures))
-    (c .before .a .given .1)
-
-returns-3 : tie.Need-returns-3
-returns-3 c =
-    let b = c .before .before .before .before in
-    let d = b .before .before .before .before in
-    let a = d .before .before .before .before .before .before .before .before .args in
-    stepped-taken (now (a .table)) (a .faulty) (now (a .state)) (d .before .before .before .before .sound .ensures) (d .before .before .enum-told .given .1)
-    (same-works (d .wide .ensures .0) (b .before .before .before .wide2 .ensures .0) (b .before .before .wide3 .ensures .0) (b .before .wide4 .ensures .0) (b .work .ensures))
-    (c .enum-told2 .given .1)
+    let r = c .before .before in
+    let b = r .before .before in
+    let a = b .before .before .before .before .before .args in
+    let t = now (a .table) in
+    let e = sym (b .before .before .check .ensures) ∙ b .enum-told .given .1 in
+    let d = call (a .kind) (a .from) (a .to) (a .side) in
+    (r .step-of .ensures .0 ∙ ap toStepped (step-rows t e (a .faulty) (now (a .state)) d), r .step-of .ensures .1 ∙ into-rows t e (a .faulty) (now (a .state)) d)
 
 pub step-spec : {M : Type 1} → statement M
 step-spec =
@@ -45,17 +37,8 @@ step-spec =
     (tie.spec
     (λ c κs. search needs)
     (λ c. search needs)
-    (λ c. search needs)
     returns
     (λ c. search needs)
-    (λ c κs. search needs)
-    (λ c κs. search needs)
-    (λ c κs. search needs)
-    (λ c κs. search needs)
-    work-requires
+    step-of-requires
     (λ c. search needs)
-    (λ c. search needs)
-    returns-2
-    (λ c. search needs)
-    (λ c. search needs)
-    returns-3)
+    returns-2)
