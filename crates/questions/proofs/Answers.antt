@@ -49,9 +49,9 @@ module _ (t : List ℕ) (set : ℕ) where
     pub blocks-refused : (r : Refusal) → setCheck t set ≡ Refused r → Holds.Refused r ≡ blocks t set site
     unfolding blocks setSiteCheck
     blocks-refused r e =
-        ap (λ (q : Check). toHolds (orElse q (refuse (not (ltb site (sitesOf t))) Range)) (slicesOf t .blocked site set)) (sym e)
+        ap (λ (q : Check). toHolds (orElse q (refuse (not (ltb site (sitesOf t))) (Range 0))) (slicesOf t .blocked site set)) (sym e)
 
-    pub blocks-range : setCheck t set ≡ Sound → sitesOf t ≤ site → Holds.Refused Range ≡ blocks t set site
+    pub blocks-range : setCheck t set ≡ Sound → sitesOf t ≤ site → Holds.Refused (Range 0) ≡ blocks t set site
     unfolding blocks setSiteCheck
     blocks-range e l = rw (e, le-ltb site (sitesOf t) l) refl
 

@@ -27,7 +27,7 @@ sitesOf t = sites (length t)
 -- the table, 10, then 11: "site at or above n"
 unfoldable pub setSiteCheck : List ℕ → ℕ → ℕ → Check
 unfolding setCheck
-setSiteCheck t set site = orElse (setCheck t set) (refuse (not (ltb site (sitesOf t))) Range)
+setSiteCheck t set site = orElse (setCheck t set) (refuse (not (ltb site (sitesOf t))) (Range 0))
 
 -- 16: "n over 12 where a verdict needs at most 12"
 abbrev pub verdictCheck : List ℕ → Check → Check

@@ -72,7 +72,7 @@ pub fn blocks(table: &[u64], set: u64, site: u64) -> Holds
     let n = table.len() / 63;
     let sites = n as u64;
     if sites <= site {
-        return Holds::Refused(Refusal::Range);
+        return Holds::Refused(Refusal::Range(0));
     }
     if sets::blocks(table, n, set, site as usize) {
         return Holds::Yes;
