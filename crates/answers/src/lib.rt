@@ -85,7 +85,7 @@ pub fn answer(
     ensures { λ r. ⌜ r ≡ answer n faulty (call kind from to side) (now (state .entry)) ⌝ }
 {
     if is_out_of_range(n, kind, from, to, side) {
-        return Check::Refused(Refusal::Range);
+        return Check::Refused(Refusal::Range(0));
     }
     if is_crooked(kind, from, to, side) {
         return Check::Refused(Refusal::Proposal);

@@ -65,9 +65,9 @@ module _ (many : ℕ) where
 pub loads-sound : (n : ℕ) (image : List ℕ) → blocksCheck n image ≡ Sound → sitesCheck n (loads n image) ≡ Sound
 unfolding blocksCheck sitesCheck
 loads-sound n image h =
-    first-sound (λ i. siteCheck n i (siteOf (loads n image) i)) n
-    (λ i l. ap (siteCheck n i) (loads-site n image i l)
-    ∙ block-sound n i (part 512 i image) (first-all (λ j. blockCheck n j (part 512 j image)) n i h l) .4)
+    first-sound (λ i. siteCheck n i i (siteOf (loads n image) i)) n
+    (λ i l. ap (siteCheck n i i) (loads-site n image i l)
+    ∙ block-sound n i i (part 512 i image) (first-all (λ j. blockCheck n j j (part 512 j image)) n i h l) .4)
 
 pub loads-table : (n : ℕ) (image : List ℕ) → 1 ≤ n → n ≤ 64 → blocksCheck n image ≡ Sound → Table (loads n image) n
 loads-table n image p q h = checked-sites (loads n image) n (length-loads n image) p q (loads-sound n image h)

@@ -50,17 +50,17 @@ module _ (n : ℕ) (t : List ℕ) (len : length t ≡ 63 * n) (w : Words t) (fin
   stores-pass : blocksCheck n (stores n t) ≡ Sound
   unfolding blocksCheck sitesCheck
   stores-pass =
-      first-sound (λ i. blockCheck n i (part 512 i (stores n t))) n
-      (λ i l. ap (blockCheck n i) (stores-block n t i l)
-      ∙ store-check n i (siteOf t i) (site-at i l) (words-at i) (count-at i l) (omega arith) (omega arith)
-      ∙ first-all (λ j. siteCheck n j (siteOf t j)) n i fine l)
+      first-sound (λ i. blockCheck n i i (part 512 i (stores n t))) n
+      (λ i l. ap (blockCheck n i i) (stores-block n t i l)
+      ∙ store-check n i (siteOf t i) (site-at i l) (words-at i) (count-at i l) i (omega arith) (omega arith)
+      ∙ first-all (λ j. siteCheck n j j (siteOf t j)) n i fine l)
 
 -- an image whose blocks pass
 stores-loads : (n : ℕ) (image : List ℕ) → length image ≡ 512 * n → Bytes image → blocksCheck n image ≡ Sound → stores n (loads n image) ≡ image
 unfolding stores blocksCheck
 stores-loads n image len hb fine =
     cat-ext (λ i. store n i (siteOf (loads n image) i)) (λ i. part 512 i image) n
-    (λ i l. let q = block-sound n i (part 512 i image) (first-all (λ j. blockCheck n j (part 512 j image)) n i fine l) in
+    (λ i l. let q = block-sound n i i (part 512 i image) (first-all (λ j. blockCheck n j j (part 512 j image)) n i fine l) in
     ap (store n i) (loads-site n image i l)
     ∙ store-load n i (part 512 i image) (bytes-part 512 (512 * i) image hb) (length-part 512 i n image l (rw len (le-refl (512 * n)))) (q .1) (q .2) (q .3) (q .0))
     ∙ cat-parts 512 n image

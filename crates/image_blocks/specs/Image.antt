@@ -13,10 +13,10 @@ use Rattle.table.specs.Table.{siteOf}
 unfoldable pub imageMisshapen : ℕ → Bool
 imageMisshapen length = eqb length 0 || (not (eqb (length % 512) 0) || ltb 32768 length)
 
--- "Each block is checked as a part of the image, where it begins."
+-- "Each block is checked as a part of the image, where it begins." Its site is its place: "one a site, in site order"
 unfoldable pub blocksCheck : ℕ → List ℕ → Check
 unfolding blockCheck first
-blocksCheck n image = first (λ i. blockCheck n i (part 512 i image)) n
+blocksCheck n image = first (λ i. blockCheck n i i (part 512 i image)) n
 
 -- "Read into memory, a site takes 63 64-bit numbers": all blocks
 unfoldable pub loads : ℕ → List ℕ → List ℕ

@@ -19,6 +19,7 @@ pub fn check_blocks(image: &[u8], n: usize) -> Check
             &image[512 * place..512 * place + 512],
             n as u64,
             place as u64,
+            place as u64,
         );
         let Check::Sound = q else {
             return q;

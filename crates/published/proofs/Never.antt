@@ -26,7 +26,7 @@ use Rattle.refusals.specs.declared.Refusal.the-variants.{Length, NoQuorum, Room
 use Rattle.refusals.specs.declared.Refusal as Refusals
 use Rattle.rules.specs.State.{width}
 use Rattle.run.specs.Run.{runCheck, roomless, listMisshapen}
-use Rattle.site_block.specs.Block.{countField, sliceField, misheaded, blockUnfilled, blockCheck}
+use Rattle.site_block.specs.Block.{countField, sliceField, misheaded, blockUnfilled, blockRowCheck, blockCheck}
 use Rattle.rows.specs.Row.{strange, unordered, sliceCheck, rowCheck}
 use Rattle.rows.specs.Site.{count, slice, rowUnfilled, siteCheck}
 use Rattle.table.proofs.SetCheck.{set-table}
@@ -62,35 +62,36 @@ module _ (k : ℕ) where
     other : (m : ℕ) → (m ≡ 7 → ⊥) → (m ≡ 9 → ⊥) → m ≡ k → ⊥
     other m f g e = ⊎-elim (λ p. f (e ∙ p)) (λ p. g (e ∙ p)) o
 
-    slice-avoids : (n v : ℕ) (slice : ℕ → ℕ) (i : ℕ) → Avoids k (sliceCheck n v slice i)
+    slice-avoids : (n owner place : ℕ) (slice : ℕ → ℕ) (i : ℕ) → Avoids k (sliceCheck n owner place slice i)
     unfolding sliceCheck
-    slice-avoids n v slice i =
-        orElse-avoids (refuse (strange n v (slice i)) (Slice v)) (refuse (unordered slice i) (Order v))
-        (refuse-avoids (strange n v (slice i)) (Slice v) (other 5 (λ z. omega (arith, z)) (λ z. omega (arith, z))))
-        (refuse-avoids (unordered slice i) (Order v) (other 6 (λ z. omega (arith, z)) (λ z. omega (arith, z))))
+    slice-avoids n owner place slice i =
+        orElse-avoids (refuse (strange n owner (slice i)) (Slice place)) (refuse (unordered slice i) (Order place))
+        (refuse-avoids (strange n owner (slice i)) (Slice place) (other 5 (λ z. omega (arith, z)) (λ z. omega (arith, z))))
+        (refuse-avoids (unordered slice i) (Order place) (other 6 (λ z. omega (arith, z)) (λ z. omega (arith, z))))
 
-    row-avoids : (n v many : ℕ) (slice : ℕ → ℕ) (bad : Bool) → Avoids k (rowCheck n v many slice bad)
+    row-avoids : (each : ℕ → Check) (place many : ℕ) (bad : Bool) → ((i : ℕ) → Avoids k (each i)) → Avoids k (rowCheck each place many bad)
     unfolding rowCheck
-    row-avoids n v many slice bad =
+    row-avoids each place many bad h =
         let counted = eqb many 0 || ltb 62 many in
-        let rest = orElse (first (sliceCheck n v slice) many) (refuse bad (Filler v)) in
-        orElse-avoids (refuse counted (Count v)) rest (refuse-avoids counted (Count v) (other 4 (λ z. omega (arith, z)) (λ z. omega (arith, z))))
-        (orElse-avoids (first (sliceCheck n v slice) many) (refuse bad (Filler v)) (first-avoids (sliceCheck n v slice) many (slice-avoids n v slice))
-        (refuse-avoids bad (Filler v) (other 8 (λ z. omega (arith, z)) (λ z. omega (arith, z)))))
+        let rest = orElse (first each many) (refuse bad (Filler place)) in
+        orElse-avoids (refuse counted (Count place)) rest (refuse-avoids counted (Count place) (other 4 (λ z. omega (arith, z)) (λ z. omega (arith, z))))
+        (orElse-avoids (first each many) (refuse bad (Filler place)) (first-avoids each many h)
+        (refuse-avoids bad (Filler place) (other 8 (λ z. omega (arith, z)) (λ z. omega (arith, z)))))
 
-    block-avoids : (n i : ℕ) (b : List ℕ) → Avoids k (blockCheck n i b)
-    unfolding blockCheck
+    block-avoids : (n i : ℕ) (b : List ℕ) → Avoids k (blockCheck n i i b)
+    unfolding blockCheck blockRowCheck
     block-avoids n i b =
-        let row = rowCheck n i (countField b) (sliceField b) (blockUnfilled b) in
+        let each = sliceCheck n i i (sliceField b) in
+        let row = blockRowCheck n i i b in
         orElse-avoids (refuse (not (sealed b)) (Sums i)) (orElse (refuse (misheaded n i b) (Header i)) row)
         (refuse-avoids (not (sealed b)) (Sums i) (other 2 (λ z. omega (arith, z)) (λ z. omega (arith, z))))
         (orElse-avoids (refuse (misheaded n i b) (Header i)) row (refuse-avoids (misheaded n i b) (Header i) (other 3 (λ z. omega (arith, z)) (λ z. omega (arith, z))))
-        (row-avoids n i (countField b) (sliceField b) (blockUnfilled b)))
+        (row-avoids each i (countField b) (blockUnfilled b) (slice-avoids n i i (sliceField b))))
 
     blocks-avoid : (n : ℕ) (image : List ℕ) → Avoids k (blocksCheck n image)
     unfolding blocksCheck
     blocks-avoid n image =
-        first-avoids (λ i. blockCheck n i (part 512 i image)) n (λ i. block-avoids n i (part 512 i image))
+        first-avoids (λ i. blockCheck n i i (part 512 i image)) n (λ i. block-avoids n i (part 512 i image))
 
     table-avoids : (t : List ℕ) (F : ℕ) → Avoids k (setCheck t F)
     unfolding setCheck check sitesCheck siteCheck
@@ -98,8 +99,8 @@ module _ (k : ℕ) where
         let n = sites (length t) in
         orElse-avoids (check t) (refuse (not (within F (allBelow n))) Set)
         (orElse-avoids (refuse (tableMisshapen (length t)) Length) (sitesCheck n t) (refuse-avoids (tableMisshapen (length t)) Length (other 1 (λ z. omega (arith, z)) (λ z. omega (arith, z))))
-        (first-avoids (λ v. siteCheck n v (siteOf t v)) n
-        (λ v. row-avoids n v (count (siteOf t v)) (slice (siteOf t v)) (rowUnfilled (siteOf t v)))))
+        (first-avoids (λ v. siteCheck n v v (siteOf t v)) n
+        (λ v. let m = siteOf t v in row-avoids (sliceCheck n v v (slice m)) v (count m) (rowUnfilled m) (slice-avoids n v v (slice m)))))
         (refuse-avoids (not (within F (allBelow n))) Set (other 10 (λ z. omega (arith, z)) (λ z. omega (arith, z))))
 
 -- the reader: 7

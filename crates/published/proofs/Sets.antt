@@ -91,7 +91,7 @@ site-inside : (t : List ℕ) (set site : ℕ) → setSiteCheck t set site ≡ So
 unfolding setSiteCheck
 site-inside t set site e =
     let y = orElse-sound (setCheck t set) _ e in
-    (proper-of t set (y .0), lt-of-not-le (λ h. clash (ap not (le-ltb site (sitesOf t) h)) (kept (not (ltb site (sitesOf t))) Refusal.Refusal.Range (y .1))))
+    (proper-of t set (y .0), lt-of-not-le (λ h. clash (ap not (le-ltb site (sitesOf t) h)) (kept (not (ltb site (sitesOf t))) (Refusal.Refusal.Range 0) (y .1))))
   where
     lt-of-not-le : {a b : ℕ} → (b ≤ a → ⊥) → a < b
     lt-of-not-le f = omega (arith, f)

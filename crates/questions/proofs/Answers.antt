@@ -43,13 +43,13 @@ module _ {c : Check} where
 
   -- 11
   module _ (n site : ℕ) where
-    pub site-refused : {r : Refusal} → c ≡ Refused r → orElse c (refuse (not (ltb site n)) Range) ≡ Refused r
+    pub site-refused : {r : Refusal} → c ≡ Refused r → orElse c (refuse (not (ltb site n)) (Range 0)) ≡ Refused r
     site-refused e = rw e refl
 
-    pub site-outside : c ≡ Sound → n ≤ site → orElse c (refuse (not (ltb site n)) Range) ≡ Refused Range
+    pub site-outside : c ≡ Sound → n ≤ site → orElse c (refuse (not (ltb site n)) (Range 0)) ≡ Refused (Range 0)
     site-outside e l = rw (e, le-ltb site n l) refl
 
-    pub site-below : c ≡ Sound → site < n → orElse c (refuse (not (ltb site n)) Range) ≡ Sound
+    pub site-below : c ≡ Sound → site < n → orElse c (refuse (not (ltb site n)) (Range 0)) ≡ Sound
     site-below e l = rw (e, lt-ltb site n l) refl
 
   -- 16
@@ -119,7 +119,7 @@ module _ (t : List ℕ) (e : Checked (lists t)) where
   largest-rows set = rw (e, same-rules t e) refl
 
   pub blocks-rows : (set site : ℕ) →
-      toHolds (orElse (outsider (sites (length t)) set) (refuse (not (ltb site (sites (length t)))) Range)) (rulesOf t .blocked site set) ≡ blocks (lists t) set site
+      toHolds (orElse (outsider (sites (length t)) set) (refuse (not (ltb site (sites (length t)))) (Range 0))) (rulesOf t .blocked site set) ≡ blocks (lists t) set site
   unfolding blocks setSiteCheck setCheck
   blocks-rows set site = rw (e, same-rules t e) refl
 

@@ -22,7 +22,7 @@ use Rattle.verdicts.specs.Verdicts as Verdicts
 -- the table, 10, then 11: "site at or above n"
 unfoldable pub setSiteCheck : Groups → ℕ → ℕ → Check
 unfolding setCheck
-setSiteCheck t set site = orElse (setCheck t set) (refuse (not (ltb site (sitesOf t))) Range)
+setSiteCheck t set site = orElse (setCheck t set) (refuse (not (ltb site (sitesOf t))) (Range 0))
 
 -- 16: "n over 12 where a verdict needs at most 12"
 abbrev pub verdictCheck : Groups → Check → Check

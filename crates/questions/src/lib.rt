@@ -95,7 +95,7 @@ pub fn largest(table: &[u64], set: u64) -> Greatest
 // Does the set block the site? Of rows: 10, 11, then the answer.
 pub fn blocks_of(rows: &[u64], n: usize, set: u64, site: u64) -> Holds
     requires { ⌜ Rows (now rows) n ⌝ }
-    ensures { λ r. ⌜ r ≡ toHolds (orElse (outsider n set) (refuse (not (ltb site n)) Refused.Refusal.Range)) (rulesOf (now (rows .entry)) .blocked site set) ⌝ }
+    ensures { λ r. ⌜ r ≡ toHolds (orElse (outsider n set) (refuse (not (ltb site n)) (Refused.Refusal.Range 0))) (rulesOf (now (rows .entry)) .blocked site set) ⌝ }
 {
     let q = sets::check_set(n, set);
     if let Check::Refused(r) = q {
@@ -103,7 +103,7 @@ pub fn blocks_of(rows: &[u64], n: usize, set: u64, site: u64) -> Holds
     }
     let sites = n as u64;
     if sites <= site {
-        return Holds::Refused(Refusal::Range);
+        return Holds::Refused(Refusal::Range(0));
     }
     if sets::blocks(rows, n, set, site as usize) {
         return Holds::Yes;

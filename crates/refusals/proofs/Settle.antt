@@ -23,7 +23,7 @@ refusalOf n i =
     cond (eqb n 8) (Filler i) (
     cond (eqb n 9) Room (
     cond (eqb n 10) Set (
-    cond (eqb n 11) Range (
+    cond (eqb n 11) (Range i) (
     cond (eqb n 12) Receiver (
     cond (eqb n 13) Proposal (
     cond (eqb n 14) Voted (
@@ -46,7 +46,7 @@ back NoQuorum = refl
 back (Filler i) = refl
 back Room = refl
 back Set = refl
-back Range = refl
+back (Range i) = refl
 back Receiver = refl
 back Proposal = refl
 back Voted = refl
@@ -79,7 +79,7 @@ small-number NoQuorum = omega arith
 small-number (Filler i) = omega arith
 small-number Room = omega arith
 small-number Set = omega arith
-small-number Range = omega arith
+small-number (Range i) = omega arith
 small-number Receiver = omega arith
 small-number Proposal = omega arith
 small-number Voted = omega arith

@@ -19,7 +19,7 @@ number NoQuorum = 7
 number (Filler site) = 8
 number Room = 9
 number Set = 10
-number Range = 11
+number (Range i) = 11
 number Receiver = 12
 number Proposal = 13
 number Voted = 14
@@ -30,6 +30,7 @@ number Unsound = 18
 number Journal = 19
 number (Numbering block) = 20
 
+-- 11 holds a place as well, which is 0 in all that refuses a call or a question
 abbrev pub place : Refusal → ℕ
 place (Sums block) = block
 place (Header block) = block
@@ -37,12 +38,12 @@ place (Count site) = site
 place (Slice site) = site
 place (Order site) = site
 place (Filler site) = site
+place (Range i) = i
 place (Numbering block) = block
 place Length = 0
 place NoQuorum = 0
 place Room = 0
 place Set = 0
-place Range = 0
 place Receiver = 0
 place Proposal = 0
 place Voted = 0

@@ -23,8 +23,8 @@ pub enum Refusal {
     Room,
     // A set names a site at or above n.
     Set,
-    // Site at or above n (mark: above 63), kind over 2, side over 1.
-    Range,
+    // Site at or above n (mark: above 63), kind over 2, side over 1. In a call and in a question it carries 0.
+    Range(u64),
     // The receiver is faulty.
     Receiver,
     // A proposal whose from and to differ.
@@ -66,7 +66,7 @@ pub fn number(r: Refusal) -> u64
         Refusal::Filler(_) => 8,
         Refusal::Room => 9,
         Refusal::Set => 10,
-        Refusal::Range => 11,
+        Refusal::Range(_) => 11,
         Refusal::Receiver => 12,
         Refusal::Proposal => 13,
         Refusal::Voted => 14,
@@ -94,7 +94,7 @@ pub fn place(r: Refusal) -> u64
         Refusal::Filler(site) => site,
         Refusal::Room => 0,
         Refusal::Set => 0,
-        Refusal::Range => 0,
+        Refusal::Range(i) => i,
         Refusal::Receiver => 0,
         Refusal::Proposal => 0,
         Refusal::Voted => 0,

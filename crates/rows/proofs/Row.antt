@@ -23,76 +23,77 @@ use Rattle.rows.specs.Row.{strange, unordered, sliceCheck, rowCheck}
 pred-suc : (i : ℕ) → suc i - 1 ≡ i
 pred-suc i = omega arith
 
--- a slice q of site v at place k, in a table of n sites, and the slice before it
-module _ (n v k before q : ℕ) where
-  pub lacks-owner : has q v ≡ false → behindCheck n v k before q ≡ Refused (Slice v)
+-- the owner's slice k, which is q, in a table of n sites, and the slice before it
+module _ (n owner place k before q : ℕ) where
+  pub lacks-owner : has q owner ≡ false → behindCheck n owner place k before q ≡ Refused (Slice place)
   unfolding behindCheck strange
   lacks-owner e = rw e refl
 
-  pub names-above : within q (allBelow n) ≡ false → behindCheck n v k before q ≡ Refused (Slice v)
+  pub names-above : within q (allBelow n) ≡ false → behindCheck n owner place k before q ≡ Refused (Slice place)
   unfolding behindCheck strange
   names-above e = rw (e, or-true) refl
 
-  module _ (p : has q v ≡ true) (w : within q (allBelow n) ≡ true) where
-    pub is-first : k ≡ 0 → behindCheck n v k before q ≡ Sound
+  module _ (p : has q owner ≡ true) (w : within q (allBelow n) ≡ true) where
+    pub is-first : k ≡ 0 → behindCheck n owner place k before q ≡ Sound
     unfolding behindCheck strange
     is-first e = rw (p, w, eq-eqb k 0 e) refl
 
-    pub is-above : (k ≡ 0 → ⊥) → before < q → behindCheck n v k before q ≡ Sound
+    pub is-above : (k ≡ 0 → ⊥) → before < q → behindCheck n owner place k before q ≡ Sound
     unfolding behindCheck strange
     is-above ne l = rw (p, w, ne-eqb k 0 ne, lt-ltb before q l) refl
 
-    pub not-above : (k ≡ 0 → ⊥) → q ≤ before → behindCheck n v k before q ≡ Refused (Order v)
+    pub not-above : (k ≡ 0 → ⊥) → q ≤ before → behindCheck n owner place k before q ≡ Refused (Order place)
     unfolding behindCheck strange
     not-above ne l = rw (p, w, ne-eqb k 0 ne, le-ltb before q l) refl
 
--- the slice at place k is the one before the next
+-- slice k is the one before the next
 pub before-next : (slice : ℕ → ℕ) (k : ℕ) → slice k ≡ slice (k + 1 - 1)
 before-next slice k = ap slice (omega arith)
 
 -- slice k of a row
-module _ (n v : ℕ) (slice : ℕ → ℕ) (k : ℕ) where
-  pub slice-behind : sliceCheck n v slice k ≡ behindCheck n v k (slice (k - 1)) (slice k)
+module _ (n owner place : ℕ) (slice : ℕ → ℕ) (k : ℕ) where
+  pub slice-behind : sliceCheck n owner place slice k ≡ behindCheck n owner place k (slice (k - 1)) (slice k)
   unfolding sliceCheck unordered behindCheck
   slice-behind = refl
 
   -- as it is walked: the slice and the one before it were read
-  pub slice-walked : {before q : ℕ} {r : Check} → before ≡ slice (k - 1) → q ≡ slice k → r ≡ behindCheck n v k before q → sliceCheck n v slice k ≡ r
-  slice-walked eb eq e = slice-behind ∙ sym (e ∙ ap₂ (behindCheck n v k) eb eq)
+  pub slice-walked : {before q : ℕ} {r : Check} → before ≡ slice (k - 1) → q ≡ slice k → r ≡ behindCheck n owner place k before q
+      → sliceCheck n owner place slice k ≡ r
+  slice-walked eb eq e = slice-behind ∙ sym (e ∙ ap₂ (behindCheck n owner place k) eb eq)
 
   -- what a sound slice has
-  neither : sliceCheck n v slice k ≡ Sound → (strange n v (slice k) ≡ false) × (unordered slice k ≡ false)
+  neither : sliceCheck n owner place slice k ≡ Sound → (strange n owner (slice k) ≡ false) × (unordered slice k ≡ false)
   unfolding sliceCheck
   neither h =
-      let q = missed (strange n v (slice k)) (Slice v) (refuse (unordered slice k) (Order v)) h in
-      (q .0, kept (unordered slice k) (Order v) (q .1))
+      let q = missed (strange n owner (slice k)) (Slice place) (refuse (unordered slice k) (Order place)) h in
+      (q .0, kept (unordered slice k) (Order place) (q .1))
 
-  pub slice-owner : sliceCheck n v slice k ≡ Sound → v ∈ slice k
+  pub slice-owner : sliceCheck n owner place slice k ≡ Sound → owner ∈ slice k
   unfolding strange
-  slice-owner h = mem (not-false (has (slice k) v) (or-none (not (has (slice k) v)) (not (within (slice k) (allBelow n))) (neither h .0) .0))
+  slice-owner h = mem (not-false (has (slice k) owner) (or-none (not (has (slice k) owner)) (not (within (slice k) (allBelow n))) (neither h .0) .0))
 
-  pub slice-below : sliceCheck n v slice k ≡ Sound → slice k ⊆ allBelow n
+  pub slice-below : sliceCheck n owner place slice k ≡ Sound → slice k ⊆ allBelow n
   unfolding strange
   slice-below h =
       within-⊆ (slice k) (allBelow n)
-      (not-false (within (slice k) (allBelow n)) (or-none (not (has (slice k) v)) (not (within (slice k) (allBelow n))) (neither h .0) .1))
+      (not-false (within (slice k) (allBelow n)) (or-none (not (has (slice k) owner)) (not (within (slice k) (allBelow n))) (neither h .0) .1))
 
-pub slice-ascends : (n v : ℕ) (slice : ℕ → ℕ) (i : ℕ) → sliceCheck n v slice (suc i) ≡ Sound → slice i < slice (suc i)
+pub slice-ascends : (n owner place : ℕ) (slice : ℕ → ℕ) (i : ℕ) → sliceCheck n owner place slice (suc i) ≡ Sound → slice i < slice (suc i)
 unfolding unordered
-slice-ascends n v slice i h =
-    let e : not (ltb (slice i) (slice (suc i))) ≡ false = rw (eqb·suc-zero i, pred-suc i) at (neither n v slice (suc i) h .1) in
+slice-ascends n owner place slice i h =
+    let e : not (ltb (slice i) (slice (suc i))) ≡ false = rw (eqb·suc-zero i, pred-suc i) at (neither n owner place slice (suc i) h .1) in
     ltb-true (slice i) (slice (suc i)) (not-false (ltb (slice i) (slice (suc i))) e)
 
 -- slices that contain their owner, name no site at or above n and ascend are sound
-slices-sound : (n v count : ℕ) (slice : ℕ → ℕ) → ((i : ℕ) → i < count → v ∈ slice i) → ((i : ℕ) → i < count → slice i ⊆ allBelow n)
-    → ((i : ℕ) → suc i < count → slice i < slice (suc i)) → first (sliceCheck n v slice) count ≡ Sound
-slices-sound n v count slice owner below ascend = first-sound (sliceCheck n v slice) count each
+slices-sound : (n v place count : ℕ) (slice : ℕ → ℕ) → ((i : ℕ) → i < count → v ∈ slice i) → ((i : ℕ) → i < count → slice i ⊆ allBelow n)
+    → ((i : ℕ) → suc i < count → slice i < slice (suc i)) → first (sliceCheck n v place slice) count ≡ Sound
+slices-sound n v place count slice owner below ascend = first-sound (sliceCheck n v place slice) count each
   where
-    each : (i : ℕ) → i < count → sliceCheck n v slice i ≡ Sound
-    each zero l = slice-behind n v slice 0 ∙ is-first n v 0 (slice 0) (slice 0) (owner 0 l .holds) (⊆-within (below 0 l)) refl
+    each : (i : ℕ) → i < count → sliceCheck n v place slice i ≡ Sound
+    each zero l = slice-behind n v place slice 0 ∙ is-first n v place 0 (slice 0) (slice 0) (owner 0 l .holds) (⊆-within (below 0 l)) refl
     each (suc i) l =
-        slice-behind n v slice (suc i)
-        ∙ is-above n v (suc i) (slice (suc i - 1)) (slice (suc i)) (owner (suc i) l .holds) (⊆-within (below (suc i) l)) (suc-ne-zero i)
+        slice-behind n v place slice (suc i)
+        ∙ is-above n v place (suc i) (slice (suc i - 1)) (slice (suc i)) (owner (suc i) l .holds) (⊆-within (below (suc i) l)) (suc-ne-zero i)
         (subst (λ (k : ℕ). slice k < slice (suc i)) (sym (pred-suc i)) (ascend i l))
 
 -- What is gathered of the first k slices: what all have in common, what they name together, and whether each is above the one before.
@@ -140,11 +141,11 @@ module _ (slice : ℕ → ℕ) where
       rw (h .0, h .1, eq) (with-slice k every some ascend up (h .2 ∙ ap₂ (λ (x y : ℕ). ascend && ltb x y) eb eq) g)
 
   pub gathers-sound : (n v count k every some : ℕ) (ascend r : Bool) → Gathers slice k every some ascend → count ≤ k
-      → r ≡ (ascend && has every v) && within some (allBelow n) → r ≡ true → first (sliceCheck n v slice) count ≡ Sound
-  gathers-sound n v count k every some ascend r g l e t =
+      → r ≡ (ascend && has every v) && within some (allBelow n) → r ≡ true → (place : ℕ) → first (sliceCheck n v place slice) count ≡ Sound
+  gathers-sound n v count k every some ascend r g l e t place =
       let all = sym e ∙ t in
       let both = and-l (ascend && has every v) (within some (allBelow n)) all in
-      slices-sound n v count slice (λ i b. g .common i (omega arith) .each v (mem (and-r ascend (has every v) both)))
+      slices-sound n v place count slice (λ i b. g .common i (omega arith) .each v (mem (and-r ascend (has every v) both)))
       (λ i b. ⊆-trans (g .together i (omega arith)) (within-⊆ some (allBelow n) (and-r (ascend && has every v) (within some (allBelow n)) all)))
       (λ i b. g .above (and-l ascend (has every v) both) i (omega arith))
 
@@ -157,59 +158,63 @@ pub record Row (n v count : ℕ) (slice : ℕ → ℕ) (unfilled : Bool) : Type 
   pub ascend : (i : ℕ) → suc i < count → slice i < slice (suc i)
   pub clean : unfilled ≡ false
 
-module _ (n v count : ℕ) (slice : ℕ → ℕ) (unfilled : Bool) where
-  pub no-slice : count ≡ 0 → rowCheck n v count slice unfilled ≡ Refused (Count v)
+-- a row, whatever is refused of its slices
+module _ (each : ℕ → Check) (place count : ℕ) (unfilled : Bool) where
+  pub no-slice : count ≡ 0 → rowCheck each place count unfilled ≡ Refused (Count place)
   unfolding rowCheck
   no-slice e = rw (eq-eqb count 0 e) refl
 
-  pub many-slices : 62 < count → rowCheck n v count slice unfilled ≡ Refused (Count v)
+  pub many-slices : 62 < count → rowCheck each place count unfilled ≡ Refused (Count place)
   unfolding rowCheck
   many-slices l = rw (lt-ltb 62 count l, or-true) refl
 
   module _ (ne : count ≡ 0 → ⊥) (l : count ≤ 62) where
-    pub bad-slice : (r : Refusal) → first (sliceCheck n v slice) count ≡ Refused r → rowCheck n v count slice unfilled ≡ Refused r
+    pub bad-slice : {q : Check} {r : Refusal} → q ≡ first each count → q ≡ Refused r → rowCheck each place count unfilled ≡ Refused r
     unfolding rowCheck
-    bad-slice r e = rw (ne-eqb count 0 ne, le-ltb 62 count l, e) refl
+    bad-slice f e = rw (ne-eqb count 0 ne, le-ltb 62 count l, ← f, e) refl
 
-    pub good-slices : first (sliceCheck n v slice) count ≡ Sound → rowCheck n v count slice unfilled ≡ refuse unfilled (Filler v)
+    pub good-slices : {q : Check} → q ≡ first each count → q ≡ Sound → rowCheck each place count unfilled ≡ refuse unfilled (Filler place)
     unfolding rowCheck
-    good-slices e = rw (ne-eqb count 0 ne, le-ltb 62 count l, e) refl
+    good-slices f e = rw (ne-eqb count 0 ne, le-ltb 62 count l, ← f, e) refl
 
-  pub row-sound : rowCheck n v count slice unfilled ≡ Sound → Row n v count slice unfilled
+module _ (n v place count : ℕ) (slice : ℕ → ℕ) (unfilled : Bool) where
+  pub row-sound : rowCheck (sliceCheck n v place slice) place count unfilled ≡ Sound → Row n v count slice unfilled
   unfolding rowCheck
   row-sound h =
-      let p = missed (eqb count 0 || ltb 62 count) (Count v) (orElse (first (sliceCheck n v slice) count) (refuse unfilled (Filler v))) h in
-      let q = orElse-sound (first (sliceCheck n v slice) count) (refuse unfilled (Filler v)) (p .1) in
+      let p = missed (eqb count 0 || ltb 62 count) (Count place) (orElse (first (sliceCheck n v place slice) count) (refuse unfilled (Filler place))) h in
+      let q = orElse-sound (first (sliceCheck n v place slice) count) (refuse unfilled (Filler place)) (p .1) in
       let c = or-none (eqb count 0) (ltb 62 count) (p .0) in
       let ne = eqb-false count 0 (c .0) in
-      let each : (i : ℕ) → i < count → sliceCheck n v slice i ≡ Sound = λ i l. first-all (sliceCheck n v slice) count i (q .0) l in
+      let each : (i : ℕ) → i < count → sliceCheck n v place slice i ≡ Sound = λ i l. first-all (sliceCheck n v place slice) count i (q .0) l in
       record {
         some-slice = omega arith;
         few-slices = ltb-false 62 count (c .1);
-        owner = λ i l. slice-owner n v slice i (each i l);
-        below = λ i l. slice-below n v slice i (each i l);
-        ascend = λ i l. slice-ascends n v slice i (each (suc i) l);
-        clean = kept unfilled (Filler v) (q .1);
+        owner = λ i l. slice-owner n v place slice i (each i l);
+        below = λ i l. slice-below n v place slice i (each i l);
+        ascend = λ i l. slice-ascends n v place slice i (each (suc i) l);
+        clean = kept unfilled (Filler place) (q .1);
       }
 
-  pub sound-row : Row n v count slice unfilled → rowCheck n v count slice unfilled ≡ Sound
+  pub sound-row : Row n v count slice unfilled → rowCheck (sliceCheck n v place slice) place count unfilled ≡ Sound
   sound-row r =
-      good-slices (λ e. not-suc-le-zero (subst (λ (k : ℕ). 1 ≤ k) e (r .some-slice))) (r .few-slices)
-      (slices-sound n v count slice (r .owner) (r .below) (r .ascend))
-      ∙ ap (λ (u : Bool). refuse u (Filler v)) (r .clean)
+      good-slices (sliceCheck n v place slice) place count unfilled (λ e. not-suc-le-zero (subst (λ (k : ℕ). 1 ≤ k) e (r .some-slice))) (r .few-slices) refl
+      (slices-sound n v place count slice (r .owner) (r .below) (r .ascend))
+      ∙ ap (λ (u : Bool). refuse u (Filler place)) (r .clean)
 
 -- a row whose slices are the same at each place, and its filler where it is looked at, is refused alike
-slice-alike : (n v : ℕ) (s t : ℕ → ℕ) (k : ℕ) → s k ≡ t k → s (k - 1) ≡ t (k - 1) → sliceCheck n v s k ≡ sliceCheck n v t k
+slice-alike : (n owner place : ℕ) (s t : ℕ → ℕ) (k : ℕ) → s k ≡ t k → s (k - 1) ≡ t (k - 1) → sliceCheck n owner place s k ≡ sliceCheck n owner place t k
 unfolding sliceCheck strange unordered
-slice-alike n v s t k e p = rw (e, p) refl
+slice-alike n owner place s t k e p = rw (e, p) refl
 
-pub row-alike : (n v count : ℕ) (s t : ℕ → ℕ) (u w : Bool) → ((k : ℕ) → k < 62 → s k ≡ t k) → (count ≤ 62 → u ≡ w)
-    → rowCheck n v count s u ≡ rowCheck n v count t w
+pub row-alike : (n owner place count : ℕ) (s t : ℕ → ℕ) (u w : Bool) → ((k : ℕ) → k < 62 → s k ≡ t k) → (count ≤ 62 → u ≡ w)
+    → rowCheck (sliceCheck n owner place s) place count u ≡ rowCheck (sliceCheck n owner place t) place count w
 unfolding rowCheck
-row-alike n v count s t u w h f =
-    ⊎-elim (λ e. many-slices n v count s u (ltb-true 62 count e) ∙ sym (many-slices n v count t w (ltb-true 62 count e)))
+row-alike n owner place count s t u w h f =
+    let x = sliceCheck n owner place s in
+    let y = sliceCheck n owner place t in
+    ⊎-elim (λ e. many-slices x place count u (ltb-true 62 count e) ∙ sym (many-slices y place count w (ltb-true 62 count e)))
     (λ e. let l = ltb-false 62 count e in
-    let a : first (sliceCheck n v s) count ≡ first (sliceCheck n v t) count =
-    first-alike (sliceCheck n v s) (sliceCheck n v t) count (λ k g. slice-alike n v s t k (h k (omega arith)) (h (k - 1) (omega arith))) in
+    let a : first x count ≡ first y count =
+    first-alike x y count (λ k g. slice-alike n owner place s t k (h k (omega arith)) (h (k - 1) (omega arith))) in
     rw (a, f l) refl)
     (cases (ltb 62 count))

@@ -7,7 +7,8 @@ use Rattle.refusals.specs.declared.Check.{Check}
 use Rattle.refusals.specs.declared.Refusal.the-variants.{Slice, Order}
 use Rattle.rows.specs.Row.{strange}
 
--- a slice q of site v at place k of its row, and the slice before it: 5, then 6
-unfoldable pub behindCheck : ℕ → ℕ → ℕ → ℕ → ℕ → Check
+-- the owner's slice k, which is q, and the slice before it: 5, then 6
+unfoldable pub behindCheck : ℕ → ℕ → ℕ → ℕ → ℕ → ℕ → Check
 unfolding strange
-behindCheck n v k before q = orElse (refuse (strange n v q) (Slice v)) (refuse (not (eqb k 0) && not (ltb before q)) (Order v))
+behindCheck n owner place k before q =
+    orElse (refuse (strange n owner q) (Slice place)) (refuse (not (eqb k 0) && not (ltb before q)) (Order place))

@@ -6,7 +6,7 @@ use lib.Dec.{eqb}
 use lib.ListN.{getD}
 use Rattle.ground.specs.Search.{some}
 use Rattle.refusals.specs.declared.Check.{Check}
-use Rattle.rows.specs.Row.{rowCheck}
+use Rattle.rows.specs.Row.{sliceCheck, rowCheck}
 
 -- of the 63 numbers of a site: the count of its slices, and place i
 abbrev pub count : List ℕ → ℕ
@@ -20,7 +20,7 @@ unfoldable pub rowUnfilled : List ℕ → Bool
 unfolding some
 rowUnfilled m = some (62 - count m) (λ j. not (eqb (slice m (count m + j)) 0))
 
--- the 63 numbers m of site v in a table of n sites
-unfoldable pub siteCheck : ℕ → ℕ → List ℕ → Check
-unfolding rowCheck rowUnfilled
-siteCheck n v m = rowCheck n v (count m) (slice m) (rowUnfilled m)
+-- the owner's 63 numbers m in a table of n sites
+unfoldable pub siteCheck : ℕ → ℕ → ℕ → List ℕ → Check
+unfolding rowCheck sliceCheck rowUnfilled
+siteCheck n owner place m = rowCheck (sliceCheck n owner place (slice m)) place (count m) (rowUnfilled m)

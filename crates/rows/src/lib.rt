@@ -1,7 +1,7 @@
 // One site's slices, one by one, wherever they are kept; and one site's 63 numbers of a table in memory: their check.
 ghost use mathlib.Core.Bool.{true, _&&_};
 ghost use mathlib.Core.Path.{_≡_};
-ghost use Prim.Native.Nat.{_≤_, _<_};
+ghost use Prim.Native.Nat.{ℕ, _≤_, _<_};
 ghost use lib.Bits.{bitAnd, bitOr};
 ghost use lib.Dec.{ltb};
 ghost use lib.ListN.{length};
@@ -13,17 +13,17 @@ ghost use Rattle.refusals.specs.First.{first};
 use refusals::Check;
 use refusals::Refusal;
 
-// A slice q of site v, at place k of its row, and the slice before it: 5, then 6.
-pub fn check_slice(n: u64, v: u64, k: usize, before: u64, q: u64) -> Check
-    requires { ⌜ v < 64 ⌝ }
+// The owner's slice k, which is q, and the slice before it: 5, then 6.
+pub fn check_slice(n: u64, owner: u64, place: u64, k: usize, before: u64, q: u64) -> Check
+    requires { ⌜ owner < 64 ⌝ }
     requires { ⌜ n ≤ 64 ⌝ }
-    ensures { λ r. ⌜ r ≡ behindCheck n v k before q ⌝ }
+    ensures { λ r. ⌜ r ≡ behindCheck n owner place k before q ⌝ }
 {
-    if !masks::has(q, v) {
-        return Check::Refused(Refusal::Slice(v));
+    if !masks::has(q, owner) {
+        return Check::Refused(Refusal::Slice(place));
     }
     if !masks::within(q, masks::all_below(n)) {
-        return Check::Refused(Refusal::Slice(v));
+        return Check::Refused(Refusal::Slice(place));
     }
     if k == 0 {
         return Check::Sound;
@@ -31,7 +31,7 @@ pub fn check_slice(n: u64, v: u64, k: usize, before: u64, q: u64) -> Check
     if before < q {
         return Check::Sound;
     }
-    Check::Refused(Refusal::Order(v))
+    Check::Refused(Refusal::Order(place))
 }
 
 // Bit 63 is set just if p is below q: the difference has it where p and q agree in it, otherwise q. No branch.
@@ -70,22 +70,24 @@ pub fn gather(g: Gathered, before: u64, q: u64) -> Gathered
     }
 }
 
-// The slices gathered are sound for site v: each contains what all have in common, is inside what they name together, and is above the one before.
-pub fn is_sound(g: Gathered, n: u64, v: u64) -> bool
-    requires { ⌜ v < 64 ⌝ }
+// The slices gathered are sound for their owner: each contains what all have in common, is inside what they name together, and is above the one before.
+pub fn is_sound(g: Gathered, n: u64, owner: u64) -> bool
+    requires { ⌜ owner < 64 ⌝ }
     requires { ⌜ n ≤ 64 ⌝ }
-    ensures { λ r. ⌜ r ≡ (has (g .ascend) 63 && has (g .every) v) && within (g .some) (allBelow n) ⌝ }
+    ensures { λ r. ⌜ r ≡ (has (g .ascend) 63 && has (g .every) owner) && within (g .some) (allBelow n) ⌝ }
 {
-    masks::has(g.ascend, 63) & masks::has(g.every, v) & masks::within(g.some, masks::all_below(n))
+    masks::has(g.ascend, 63)
+        & masks::has(g.every, owner)
+        & masks::within(g.some, masks::all_below(n))
 }
 
-// True only if the first many slices of site v are sound. No branch in the loop.
-fn are_sound(m: &[u64], n: u64, v: u64, many: usize) -> bool
+// True only if the owner's first many slices are sound, and then they are at any place. No branch in the loop.
+fn are_sound(m: &[u64], n: u64, owner: u64, many: usize) -> bool
     requires { ⌜ length (now m) ≡ 63 ⌝ }
     requires { ⌜ many ≤ 62 ⌝ }
-    requires { ⌜ v < 64 ⌝ }
+    requires { ⌜ owner < 64 ⌝ }
     requires { ⌜ n ≤ 64 ⌝ }
-    ensures { λ r. ⌜ (r ≡ true → first (sliceCheck n v (slice (now (m .entry)))) many ≡ Check.Sound) ⌝ }
+    ensures { λ r. ⌜ (r ≡ true → (place : ℕ) → first (sliceCheck n owner place (slice (now (m .entry)))) many ≡ Check.Sound) ⌝ }
 {
     let mut g = gather_first(m[1]);
     let mut k: usize = 1;
@@ -93,25 +95,25 @@ fn are_sound(m: &[u64], n: u64, v: u64, many: usize) -> bool
         g = gather(g, m[k], m[1 + k]);
         k += 1;
     }
-    is_sound(g, n, v)
+    is_sound(g, n, owner)
 }
 
-// The first many slices of site v, in order: walked only where one is not sound.
-fn check_slices(m: &[u64], n: u64, v: u64, many: usize) -> Check
+// The owner's first many slices, in order: walked only where one is not sound.
+fn check_slices(m: &[u64], n: u64, owner: u64, place: u64, many: usize) -> Check
     requires { ⌜ length (now m) ≡ 63 ⌝ }
     requires { ⌜ many ≤ 62 ⌝ }
-    requires { ⌜ v < 64 ⌝ }
+    requires { ⌜ owner < 64 ⌝ }
     requires { ⌜ n ≤ 64 ⌝ }
-    ensures { λ r. ⌜ r ≡ first (sliceCheck n v (slice (now (m .entry)))) many ⌝ }
+    ensures { λ r. ⌜ r ≡ first (sliceCheck n owner place (slice (now (m .entry)))) many ⌝ }
 {
-    if are_sound(m, n, v, many) {
+    if are_sound(m, n, owner, many) {
         return Check::Sound;
     }
     let mut before = m[1];
     let mut k: usize = 0;
     while k < many {
         let q = m[1 + k];
-        let fault = check_slice(n, v, k, before, q);
+        let fault = check_slice(n, owner, place, k, before, q);
         let Check::Sound = fault else {
             return fault;
         };
@@ -138,26 +140,26 @@ fn is_unfilled(m: &[u64]) -> bool
     any != 0
 }
 
-// The 63 numbers of site v in a table of n sites: 4, each slice 5 then 6, then 8.
-pub fn check_site(m: &[u64], n: u64, v: u64) -> Check
+// The owner's 63 numbers in a table of n sites: 4, each slice 5 then 6, then 8, carrying the place.
+pub fn check_site(m: &[u64], n: u64, owner: u64, place: u64) -> Check
     requires { ⌜ length (now m) ≡ 63 ⌝ }
-    requires { ⌜ v < 64 ⌝ }
+    requires { ⌜ owner < 64 ⌝ }
     requires { ⌜ n ≤ 64 ⌝ }
-    ensures { λ r. ⌜ r ≡ siteCheck n v (now (m .entry)) ⌝ }
+    ensures { λ r. ⌜ r ≡ siteCheck n owner place (now (m .entry)) ⌝ }
 {
     let many = m[0];
     if many == 0 {
-        return Check::Refused(Refusal::Count(v));
+        return Check::Refused(Refusal::Count(place));
     }
     if 62 < many {
-        return Check::Refused(Refusal::Count(v));
+        return Check::Refused(Refusal::Count(place));
     }
-    let q = check_slices(m, n, v, many as usize);
+    let q = check_slices(m, n, owner, place, many as usize);
     let Check::Sound = q else {
         return q;
     };
     if is_unfilled(m) {
-        return Check::Refused(Refusal::Filler(v));
+        return Check::Refused(Refusal::Filler(place));
     }
     Check::Sound
 }

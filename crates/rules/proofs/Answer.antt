@@ -61,7 +61,7 @@ pub record Takes (n F : ℕ) (c : Call) (s : List ℕ) : Type 0 where
 module _ (n F : ℕ) (c : Call) (s : List ℕ) where
   -- the test that refuses a call, the tests before it passed
   pub data Refuses : Refusal → Type 0 where
-    range : outOfRange n c ≡ true → Refuses Range
+    range : outOfRange n c ≡ true → Refuses (Range 0)
     proposal : outOfRange n c ≡ false → crooked c ≡ true → Refuses Proposal
     receiver : outOfRange n c ≡ false → crooked c ≡ false → has F (c .to) ≡ true → Refuses Receiver
     voted-other : outOfRange n c ≡ false → crooked c ≡ false → has F (c .to) ≡ false → against n c s ≡ true → Refuses Voted
@@ -85,7 +85,7 @@ module _ (n F : ℕ) (c : Call) (s : List ℕ) where
   -- one of the two
   pub answered : (answer n F c s ≡ Sound) ⊎ ((r : Refusal) × Refuses r)
   answered =
-      ⊎-elim (λ a. inr (Range, range a))
+      ⊎-elim (λ a. inr (Range 0, range a))
       (λ a. ⊎-elim (λ b. inr (Proposal, proposal a b))
       (λ b. ⊎-elim (λ d. inr (Receiver, receiver a b d))
       (λ d. ⊎-elim (λ e. inr (Voted, voted-other a b d e))
@@ -139,7 +139,7 @@ module _ (n F : ℕ) (c : Call) (s : List ℕ) where
   pub takes : answer n F c s ≡ Sound → Takes n F c s
   unfolding answer
   takes h =
-      let a = missed (outOfRange n c) Range _ h in
+      let a = missed (outOfRange n c) (Range 0) _ h in
       let b = missed (crooked c) Proposal _ (a .1) in
       let d = missed (has F (c .to)) Receiver _ (b .1) in
       let e = missed (against n c s) Voted _ (d .1) in

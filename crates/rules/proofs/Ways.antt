@@ -97,7 +97,7 @@ pub tested-range : {n : ℕ} {c : Call} {out : Bool} → out ≡ outOfRange n c 
 tested-range e o = in-range (sym e ∙ o)
 
 module _ (n F : ℕ) (c : Call) (s : List ℕ) {out : Bool} (eo : out ≡ outOfRange n c) where
-  pub answer-range : out ≡ true → Refused Range ≡ answer n F c s
+  pub answer-range : out ≡ true → Refused (Range 0) ≡ answer n F c s
   answer-range o = sym (refused n F c s (range (sym eo ∙ o)))
 
   module _ (o : out ≡ false) {bent : Bool} (eb : bent ≡ crooked c) where

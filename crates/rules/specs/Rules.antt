@@ -70,7 +70,7 @@ unsent n F c s =
 unfoldable pub answer : ℕ → ℕ → Call → List ℕ → Check
 unfolding outOfRange crooked against unsent
 answer n F c s =
-    orElse (refuse (outOfRange n c) Range)
+    orElse (refuse (outOfRange n c) (Range 0))
     (orElse (refuse (crooked c) Proposal)
     (orElse (refuse (has F (c .to)) Receiver)
     (orElse (refuse (against n c s) Voted)

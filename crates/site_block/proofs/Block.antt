@@ -11,7 +11,7 @@ use Rattle.block.specs.Block.{sealed}
 use Rattle.ground.proofs.Logic.{fail-alike, or-none}
 use Rattle.ground.proofs.Some.{none-each, each-none}
 use Rattle.ground.specs.Search.{some}
-use Rattle.site_block.specs.Block.{siteField, sitesField, countField, zeroField, sliceField, misheaded, blockUnfilled, blockCheck, load}
+use Rattle.site_block.specs.Block.{siteField, sitesField, countField, zeroField, sliceField, misheaded, blockUnfilled, blockRowCheck, blockCheck, load}
 use Rattle.site_block.proofs.Load.{load-slice}
 use Rattle.le.proofs.Laws.{field-zeros, zeros-field}
 use Rattle.refusals.proofs.First.{missed, passed}
@@ -19,7 +19,6 @@ use Rattle.refusals.specs.declared.Check.the-variants.{Sound, Refused}
 use Rattle.refusals.specs.declared.Refusal.the-variants.{Sums, Header}
 use Rattle.rows.proofs.Row.{row-alike}
 use Rattle.rows.proofs.Site.{unused-zero, zero-unused, zero-above, clean-above}
-use Rattle.rows.specs.Row.{rowCheck}
 use Rattle.rows.specs.Site.{slice, rowUnfilled, siteCheck}
 
 -- filler: the bytes behind the last slice are 0 exactly if the unused places are
@@ -58,46 +57,47 @@ module _ (b : List ℕ) (l : countField b ≤ 62) where
       (λ h. places-filled (λ k g s. sym (load-slice b k s) ∙ zero-above (load b) h k g s))
 
 -- what a block holds is refused as its 63 numbers are
-pub row-site : (n i : ℕ) (b : List ℕ) → rowCheck n i (countField b) (sliceField b) (blockUnfilled b) ≡ siteCheck n i (load b)
-unfolding siteCheck load
-row-site n i b =
-    row-alike n i (countField b) (sliceField b) (slice (load b)) (blockUnfilled b) (rowUnfilled (load b))
+pub row-site : (n owner place : ℕ) (b : List ℕ) → blockRowCheck n owner place b ≡ siteCheck n owner place (load b)
+unfolding blockRowCheck siteCheck load
+row-site n owner place b =
+    row-alike n owner place (countField b) (sliceField b) (slice (load b)) (blockUnfilled b) (rowUnfilled (load b))
     (λ k l. sym (load-slice b k l)) (λ l. same-filler b l)
 
 -- the ways out
-module _ (n i : ℕ) (b : List ℕ) where
-  pub wrong-sums : sealed b ≡ false → blockCheck n i b ≡ Refused (Sums i)
+module _ (n site place : ℕ) (b : List ℕ) where
+  pub wrong-sums : sealed b ≡ false → blockCheck n site place b ≡ Refused (Sums place)
   unfolding blockCheck
   wrong-sums e = rw e refl
 
   module _ (s : sealed b ≡ true) where
-    pub wrong-site : (siteField b ≡ i → ⊥) → blockCheck n i b ≡ Refused (Header i)
+    pub wrong-site : (siteField b ≡ site → ⊥) → blockCheck n site place b ≡ Refused (Header place)
     unfolding blockCheck misheaded
-    wrong-site ne = rw (s, ne-eqb (siteField b) i ne) refl
+    wrong-site ne = rw (s, ne-eqb (siteField b) site ne) refl
 
-    pub wrong-n : (sitesField b ≡ n → ⊥) → blockCheck n i b ≡ Refused (Header i)
+    pub wrong-n : (sitesField b ≡ n → ⊥) → blockCheck n site place b ≡ Refused (Header place)
     unfolding blockCheck misheaded
     wrong-n ne = rw (s, ne-eqb (sitesField b) n ne, or-true) refl
 
-    pub wrong-zero : (zeroField b ≡ 0 → ⊥) → blockCheck n i b ≡ Refused (Header i)
+    pub wrong-zero : (zeroField b ≡ 0 → ⊥) → blockCheck n site place b ≡ Refused (Header place)
     unfolding blockCheck misheaded
     wrong-zero ne = rw (s, ne-eqb (zeroField b) 0 ne, or-true, or-true) refl
 
-    pub right-head : siteField b ≡ i → sitesField b ≡ n → zeroField b ≡ 0 → blockCheck n i b ≡ rowCheck n i (countField b) (sliceField b) (blockUnfilled b)
+    pub right-head : siteField b ≡ site → sitesField b ≡ n → zeroField b ≡ 0 → blockCheck n site place b ≡ blockRowCheck n site place b
     unfolding blockCheck misheaded
-    right-head p q z = rw (s, eq-eqb (siteField b) i p, eq-eqb (sitesField b) n q, eq-eqb (zeroField b) 0 z) refl
+    right-head p q z = rw (s, eq-eqb (siteField b) site p, eq-eqb (sitesField b) n q, eq-eqb (zeroField b) 0 z) refl
 
   -- what a block that passes has
-  pub block-sound : blockCheck n i b ≡ Sound → (sealed b ≡ true) × (siteField b ≡ i) × (sitesField b ≡ n) × (zeroField b ≡ 0) × (siteCheck n i (load b) ≡ Sound)
+  pub block-sound : blockCheck n site place b ≡ Sound
+      → (sealed b ≡ true) × (siteField b ≡ site) × (sitesField b ≡ n) × (zeroField b ≡ 0) × (siteCheck n site place (load b) ≡ Sound)
   unfolding blockCheck misheaded
   block-sound h =
-      let p = passed (sealed b) (Sums i) _ h in
-      let q = missed (misheaded n i b) (Header i) (rowCheck n i (countField b) (sliceField b) (blockUnfilled b)) (p .1) in
-      let u = or-none (not (eqb (siteField b) i)) (not (eqb (sitesField b) n) || not (eqb (zeroField b) 0)) (q .0) in
+      let p = passed (sealed b) (Sums place) _ h in
+      let q = missed (misheaded n site b) (Header place) (blockRowCheck n site place b) (p .1) in
+      let u = or-none (not (eqb (siteField b) site)) (not (eqb (sitesField b) n) || not (eqb (zeroField b) 0)) (q .0) in
       let w = or-none (not (eqb (sitesField b) n)) (not (eqb (zeroField b) 0)) (u .1) in (
         p .0,
-        eqb-true (siteField b) i (not-false _ (u .0)),
+        eqb-true (siteField b) site (not-false _ (u .0)),
         eqb-true (sitesField b) n (not-false _ (w .0)),
         eqb-true (zeroField b) 0 (not-false _ (w .1)),
-        sym (row-site n i b) ∙ q .1,
+        sym (row-site n site place b) ∙ q .1,
       )

@@ -11,7 +11,7 @@ use Rattle.le.specs.Le.{digits, field}
 use Rattle.refusals.specs.First.{orElse, refuse}
 use Rattle.refusals.specs.declared.Check.{Check}
 use Rattle.refusals.specs.declared.Refusal.the-variants.{Sums, Header}
-use Rattle.rows.specs.Row.{rowCheck}
+use Rattle.rows.specs.Row.{sliceCheck, rowCheck}
 use Rattle.rows.specs.Site.{count, slice}
 
 -- "Bytes 0 to 1 site, 2 to 3 n, 4 to 5 slice count, 6 to 7 zero, then the slices of 8 bytes, zeros up to byte 503."
@@ -30,22 +30,28 @@ zeroField b = field 2 b 6
 abbrev pub sliceField : List ℕ → ℕ → ℕ
 sliceField b k = field 8 b (8 + 8 * k)
 
--- 3: "site is not the block's place, n is not the number of blocks, or bytes 6 to 7 not zero"
+-- 3: "site is not the block's place, n is not the number of blocks, or bytes 6 to 7 not zero"; the site asked for is what the block is to hold, in an image
+-- the one of its place
 unfoldable pub misheaded : ℕ → ℕ → List ℕ → Bool
-misheaded n i b = not (eqb (siteField b) i) || (not (eqb (sitesField b) n) || not (eqb (zeroField b) 0))
+misheaded n site b = not (eqb (siteField b) site) || (not (eqb (sitesField b) n) || not (eqb (zeroField b) 0))
 
 -- 8: "filler not zero": a byte behind the last slice, 8 + 8 * count to 503
 unfoldable pub blockUnfilled : List ℕ → Bool
 unfolding some
 blockUnfilled b = let from = 8 + 8 * countField b in some (504 - from) (λ j. not (eqb (getD b (from + j) 0) 0))
 
--- "block by block 2, 3, 4, each slice 5 then 6, then 8": the block b at place i of an image of n blocks
-unfoldable pub blockCheck : ℕ → ℕ → List ℕ → Check
-unfolding misheaded blockUnfilled rowCheck
-blockCheck n i b =
-    orElse (refuse (not (sealed b)) (Sums i))
-    (orElse (refuse (misheaded n i b) (Header i))
-    (rowCheck n i (countField b) (sliceField b) (blockUnfilled b)))
+-- "4, each slice 5 then 6, then 8": the owner's slices, as the block b in a table of n sites holds them; a refusal carries the place
+unfoldable pub blockRowCheck : ℕ → ℕ → ℕ → List ℕ → Check
+unfolding blockUnfilled rowCheck sliceCheck
+blockRowCheck n owner place b = rowCheck (sliceCheck n owner place (sliceField b)) place (countField b) (blockUnfilled b)
+
+-- "block by block 2, 3, 4, each slice 5 then 6, then 8": the block b of a site
+unfoldable pub blockCheck : ℕ → ℕ → ℕ → List ℕ → Check
+unfolding misheaded blockRowCheck
+blockCheck n site place b =
+    orElse (refuse (not (sealed b)) (Sums place))
+    (orElse (refuse (misheaded n site b) (Header place))
+    (blockRowCheck n site place b))
 
 -- "Read into memory, a site takes 63 64-bit numbers: the count, then 62 places"
 unfoldable pub load : List ℕ → List ℕ

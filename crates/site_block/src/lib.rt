@@ -1,11 +1,11 @@
 // One block of the table on file, a site's numbers as 512 bytes: checked and read.
 ghost use mathlib.Core.Bool.{true};
 ghost use mathlib.Core.Path.{_≡_};
-ghost use Prim.Native.Nat.{_≤_, _<_};
+ghost use Prim.Native.Nat.{ℕ, _≤_, _<_};
 ghost use lib.ListN.{length};
-ghost use Rattle.site_block.specs.Block.{countField, sliceField, blockUnfilled, load, blockCheck};
+ghost use Rattle.site_block.specs.Block.{countField, sliceField, blockUnfilled, load, blockRowCheck, blockCheck};
 ghost use Rattle.refusals.specs.First.{first};
-ghost use Rattle.rows.specs.Row.{sliceCheck, rowCheck};
+ghost use Rattle.rows.specs.Row.{sliceCheck};
 use refusals::Check;
 use refusals::Refusal;
 
@@ -23,13 +23,13 @@ pub fn load_block(b: &[u8], m: &mut [u64])
     }
 }
 
-// True only if the first many slices of the block of site v are sound. No branch in the loop.
-fn are_sound(b: &[u8], n: u64, v: u64, many: usize) -> bool
+// True only if the first many slices of the owner's block are sound, and then they are at any place. No branch in the loop.
+fn are_sound(b: &[u8], n: u64, owner: u64, many: usize) -> bool
     requires { ⌜ length (now b) ≡ 512 ⌝ }
     requires { ⌜ many ≤ 62 ⌝ }
-    requires { ⌜ v < 64 ⌝ }
+    requires { ⌜ owner < 64 ⌝ }
     requires { ⌜ n ≤ 64 ⌝ }
-    ensures { λ r. ⌜ (r ≡ true → first (sliceCheck n v (sliceField (now (b .entry)))) many ≡ Check.Sound) ⌝ }
+    ensures { λ r. ⌜ (r ≡ true → (place : ℕ) → first (sliceCheck n owner place (sliceField (now (b .entry)))) many ≡ Check.Sound) ⌝ }
 {
     let mut g = rows::gather_first(le::get64(b, 8));
     let mut k: usize = 1;
@@ -37,25 +37,25 @@ fn are_sound(b: &[u8], n: u64, v: u64, many: usize) -> bool
         g = rows::gather(g, le::get64(b, 8 * k), le::get64(b, 8 + 8 * k));
         k += 1;
     }
-    rows::is_sound(g, n, v)
+    rows::is_sound(g, n, owner)
 }
 
-// The first many slices of the block of site v, in order: walked only where one is not sound.
-fn check_slices(b: &[u8], n: u64, v: u64, many: usize) -> Check
+// The first many slices of the owner's block, in order: walked only where one is not sound.
+fn check_slices(b: &[u8], n: u64, owner: u64, place: u64, many: usize) -> Check
     requires { ⌜ length (now b) ≡ 512 ⌝ }
     requires { ⌜ many ≤ 62 ⌝ }
-    requires { ⌜ v < 64 ⌝ }
+    requires { ⌜ owner < 64 ⌝ }
     requires { ⌜ n ≤ 64 ⌝ }
-    ensures { λ r. ⌜ r ≡ first (sliceCheck n v (sliceField (now (b .entry)))) many ⌝ }
+    ensures { λ r. ⌜ r ≡ first (sliceCheck n owner place (sliceField (now (b .entry)))) many ⌝ }
 {
-    if are_sound(b, n, v, many) {
+    if are_sound(b, n, owner, many) {
         return Check::Sound;
     }
     let mut before = le::get64(b, 8);
     let mut k: usize = 0;
     while k < many {
         let q = le::get64(b, 8 + 8 * k);
-        let fault = rows::check_slice(n, v, k, before, q);
+        let fault = rows::check_slice(n, owner, place, k, before, q);
         let Check::Sound = fault else {
             return fault;
         };
@@ -82,48 +82,48 @@ fn is_unfilled(b: &[u8], many: usize) -> bool
     any != 0
 }
 
-// The slices that the block of site v holds, and its filler: 4, each slice 5 then 6, then 8.
-fn check_row(b: &[u8], n: u64, v: u64) -> Check
+// The slices that the owner's block holds, and its filler: 4, each slice 5 then 6, then 8, carrying the place.
+fn check_row(b: &[u8], n: u64, owner: u64, place: u64) -> Check
     requires { ⌜ length (now b) ≡ 512 ⌝ }
-    requires { ⌜ v < 64 ⌝ }
+    requires { ⌜ owner < 64 ⌝ }
     requires { ⌜ n ≤ 64 ⌝ }
-    ensures { λ r. ⌜ r ≡ rowCheck n v (countField (now (b .entry))) (sliceField (now (b .entry))) (blockUnfilled (now (b .entry))) ⌝ }
+    ensures { λ r. ⌜ r ≡ blockRowCheck n owner place (now (b .entry)) ⌝ }
 {
     let many = le::get16(b, 4) as usize;
     if many == 0 {
-        return Check::Refused(Refusal::Count(v));
+        return Check::Refused(Refusal::Count(place));
     }
     if 62 < many {
-        return Check::Refused(Refusal::Count(v));
+        return Check::Refused(Refusal::Count(place));
     }
-    let q = check_slices(b, n, v, many);
+    let q = check_slices(b, n, owner, place, many);
     let Check::Sound = q else {
         return q;
     };
     if is_unfilled(b, many) {
-        return Check::Refused(Refusal::Filler(v));
+        return Check::Refused(Refusal::Filler(place));
     }
     Check::Sound
 }
 
-// The block at place i of an image of n blocks: 2, 3, then the site that it holds.
-pub fn check_block(b: &[u8], n: u64, i: u64) -> Check
+// The block of a site in a table of n sites: 2, 3, then the slices that it holds, carrying the place.
+pub fn check_block(b: &[u8], n: u64, site: u64, place: u64) -> Check
     requires { ⌜ length (now b) ≡ 512 ⌝ }
-    requires { ⌜ i < 64 ⌝ }
+    requires { ⌜ site < 64 ⌝ }
     requires { ⌜ n ≤ 64 ⌝ }
-    ensures { λ r. ⌜ r ≡ blockCheck n i (now (b .entry)) ⌝ }
+    ensures { λ r. ⌜ r ≡ blockCheck n site place (now (b .entry)) ⌝ }
 {
     if block::check(b) != 0 {
-        return Check::Refused(Refusal::Sums(i));
+        return Check::Refused(Refusal::Sums(place));
     }
-    if (le::get16(b, 0) as u64) != i {
-        return Check::Refused(Refusal::Header(i));
+    if (le::get16(b, 0) as u64) != site {
+        return Check::Refused(Refusal::Header(place));
     }
     if (le::get16(b, 2) as u64) != n {
-        return Check::Refused(Refusal::Header(i));
+        return Check::Refused(Refusal::Header(place));
     }
     if le::get16(b, 6) != 0 {
-        return Check::Refused(Refusal::Header(i));
+        return Check::Refused(Refusal::Header(place));
     }
-    check_row(b, n, i)
+    check_row(b, n, site, place)
 }

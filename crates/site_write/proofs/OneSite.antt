@@ -83,10 +83,10 @@ module _ (n i : ℕ) (m : List ℕ) (l : length m ≡ 63) (w : (k : ℕ) → get
       (cat-ext (λ k. sliceField (store n i m) k ∷ []) (λ k. slice m k ∷ []) 62 (λ k g. ap (λ (x : ℕ). x ∷ []) (store-slice n i m k g (w (1 + k)))))
       ∙ all-places m l)
 
-  pub store-check : i < 65536 → n < 65536 → blockCheck n i (store n i m) ≡ siteCheck n i m
-  store-check hi hn =
-      right-head n i (store n i m) (store-sealed n i m) (store-site n i m hi) (store-sites n i m hn) (store-zero n i m)
-      ∙ row-site n i (store n i m) ∙ ap (siteCheck n i) load-store
+  pub store-check : (place : ℕ) → i < 65536 → n < 65536 → blockCheck n i place (store n i m) ≡ siteCheck n i place m
+  store-check place hi hn =
+      right-head n i place (store n i m) (store-sealed n i m) (store-site n i m hi) (store-sites n i m hn) (store-zero n i m)
+      ∙ row-site n i place (store n i m) ∙ ap (siteCheck n i place) load-store
 
 -- what was read is written
 

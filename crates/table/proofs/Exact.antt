@@ -19,7 +19,7 @@ pub checked-sites : (t : List ℕ) (n : ℕ) → length t ≡ 63 * n → 1 ≤ n
 unfolding sitesCheck siteCheck
 checked-sites t n e p q h =
     let row : (v : ℕ) → v < n → Row n v (countOf t v) (slice (siteOf t v)) (rowUnfilled (siteOf t v)) =
-    λ v l. row-sound n v (countOf t v) (slice (siteOf t v)) (rowUnfilled (siteOf t v)) (first-all (λ w. siteCheck n w (siteOf t w)) n v h l) in
+    λ v l. row-sound n v v (countOf t v) (slice (siteOf t v)) (rowUnfilled (siteOf t v)) (first-all (λ w. siteCheck n w w (siteOf t w)) n v h l) in
     record {
       long = e;
       some-site = p;
@@ -35,8 +35,8 @@ checked-sites t n e p q h =
 pub sound-sites : {t : List ℕ} {n : ℕ} → Table t n → sitesCheck n t ≡ Sound
 unfolding sitesCheck siteCheck
 sound-sites {t} {n} s =
-    first-sound (λ v. siteCheck n v (siteOf t v)) n
-    (λ v l. sound-row n v (countOf t v) (slice (siteOf t v)) (rowUnfilled (siteOf t v))
+    first-sound (λ v. siteCheck n v v (siteOf t v)) n
+    (λ v l. sound-row n v v (countOf t v) (slice (siteOf t v)) (rowUnfilled (siteOf t v))
     (record {
       some-slice = s .some-slice v l;
       few-slices = s .few-slices v l;

@@ -30,10 +30,10 @@ sites length = length / 63
 unfoldable pub tableMisshapen : ℕ → Bool
 tableMisshapen length = not (eqb (length % 63) 0) || (eqb (sites length) 0 || ltb 64 (sites length))
 
--- site by site, without the length
+-- site by site, without the length; a refusal carries the site
 unfoldable pub sitesCheck : ℕ → List ℕ → Check
 unfolding siteCheck first
-sitesCheck n t = first (λ v. siteCheck n v (siteOf t v)) n
+sitesCheck n t = first (λ v. siteCheck n v v (siteOf t v)) n
 
 -- "A table in memory is refused with 1, 4, 5, 6 or 8 by every public call that takes one."
 unfoldable pub check : List ℕ → Check

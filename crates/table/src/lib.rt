@@ -14,7 +14,7 @@ pub fn check_sites(table: &[u64], n: usize) -> Check
 {
     let mut v: usize = 0;
     while v < n {
-        let q = rows::check_site(&table[63 * v..63 * v + 63], n as u64, v as u64);
+        let q = rows::check_site(&table[63 * v..63 * v + 63], n as u64, v as u64, v as u64);
         let Check::Sound = q else {
             return q;
         };

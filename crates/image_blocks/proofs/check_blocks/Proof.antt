@@ -16,7 +16,7 @@ use mathlib.Core.List.{List}
 use Rattle.image_blocks.proofs.check_blocks.Tie as tie
 
 abbrev Inv-loop : tie.InvT-loop
-Inv-loop image n place₀ place = (place ≤ n) × (first (λ j. blockCheck n j (part 512 j image)) place ≡ Sound)
+Inv-loop image n place₀ place = (place ≤ n) × (first (λ j. blockCheck n j j (part 512 j image)) place ≡ Sound)
 
 abbrev μ-loop : tie.MeasureT-loop
 μ-loop image n place₀ place = n - place
@@ -33,8 +33,8 @@ returns c =
     let l = c .before .before .before .before .before .loop in
     let e = c .enum-told2 .given .1 in
     e
-    ∙ sym (first-stop (λ j. blockCheck (a .n) j (part 512 j b)) (a .n) (l .place) _ (omega arith) (l .inv .1)
-    (ap (λ (x : List ℕ). blockCheck (a .n) (l .place) x) (sym (part-cut 512 (l .place) b)) ∙ sym (c .before .before .check-block .ensures) ∙ e))
+    ∙ sym (first-stop (λ j. blockCheck (a .n) j j (part 512 j b)) (a .n) (l .place) _ (omega arith) (l .inv .1)
+    (ap (λ (x : List ℕ). blockCheck (a .n) (l .place) (l .place) x) (sym (part-cut 512 (l .place) b)) ∙ sym (c .before .before .check-block .ensures) ∙ e))
 
 loop-again : tie.Need-loop-again Inv-loop μ-loop
 loop-again c =
@@ -42,7 +42,7 @@ loop-again c =
     let l = c .before .before .before .before .before .loop in (
       omega arith,
       first-more _ _ (l .inv .1)
-          (ap (λ (x : List ℕ). blockCheck (a .n) (l .place) x) (sym (part-cut 512 (l .place) (now (a .image)))) ∙ sym (c .before .before .check-block .ensures) ∙ c .enum-told .given .1),
+          (ap (λ (x : List ℕ). blockCheck (a .n) (l .place) (l .place) x) (sym (part-cut 512 (l .place) (now (a .image)))) ∙ sym (c .before .before .check-block .ensures) ∙ c .enum-told .given .1),
     )
 
 returns-2 : tie.Need-returns-2 Inv-loop μ-loop

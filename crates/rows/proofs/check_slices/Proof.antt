@@ -14,10 +14,10 @@ use Rattle.rows.proofs.check_slices.Statement.{statement}
 use Rattle.rows.proofs.check_slices.Tie as tie
 
 abbrev Inv-loop : tie.InvT-loop
-Inv-loop m n v many before₀ k₀ before k = (k ≤ many) × (before ≡ slice m (k - 1)) × (first (sliceCheck n v (slice m)) k ≡ Sound)
+Inv-loop m n owner place many before₀ k₀ before k = (k ≤ many) × (before ≡ slice m (k - 1)) × (first (sliceCheck n owner place (slice m)) k ≡ Sound)
 
 abbrev μ-loop : tie.MeasureT-loop
-μ-loop m n v many before₀ k₀ before k = many - k
+μ-loop m n owner place many before₀ k₀ before k = many - k
 
 loop-holds : tie.Need-loop-holds Inv-loop μ-loop
 unfolding first
@@ -30,8 +30,8 @@ returns-2 c =
     let e = c .enum-told2 .given .1 in
     let row = slice (now (a .m)) in
     e
-    ∙ sym (first-stop (sliceCheck (a .n) (a .v) row) (a .many) (l .loop .k) _ (omega arith) (l .loop .inv .2)
-    (slice-walked (a .n) (a .v) row (l .loop .k) (l .loop .inv .1) refl (c .before .before .check-slice .ensures) ∙ e))
+    ∙ sym (first-stop (sliceCheck (a .n) (a .owner) (a .place) row) (a .many) (l .loop .k) _ (omega arith) (l .loop .inv .2)
+    (slice-walked (a .n) (a .owner) (a .place) row (l .loop .k) (l .loop .inv .1) refl (c .before .before .check-slice .ensures) ∙ e))
 
 loop-again : tie.Need-loop-again Inv-loop μ-loop
 loop-again c =
@@ -41,7 +41,7 @@ loop-again c =
       search needs,
       before-next row (l .loop .k),
       first-more _ _ (l .loop .inv .2)
-          (slice-walked (a .n) (a .v) row (l .loop .k) (l .loop .inv .1) refl (c .before .before .check-slice .ensures) ∙ c .enum-told .given .1),
+          (slice-walked (a .n) (a .owner) (a .place) row (l .loop .k) (l .loop .inv .1) refl (c .before .before .check-slice .ensures) ∙ c .enum-told .given .1),
     )
 
 returns-3 : tie.Need-returns-3 Inv-loop μ-loop
@@ -49,7 +49,7 @@ returns-3 c =
     let a = c .before .before .before .before .before .before .args in
     let l = c .before .loop in
     let e : l .k ≡ a .many = omega arith in
-    sym (subst (λ (k : ℕ). first (sliceCheck (a .n) (a .v) (slice (now (a .m)))) k ≡ Sound) e (l .inv .2))
+    sym (subst (λ (k : ℕ). first (sliceCheck (a .n) (a .owner) (a .place) (slice (now (a .m)))) k ≡ Sound) e (l .inv .2))
 
 pub check-slices-spec : {M : Type 1} → statement M
 check-slices-spec =
@@ -58,7 +58,7 @@ check-slices-spec =
     Inv-loop
     μ-loop
     (λ c κs. search needs)
-    (λ c. sym (c .before .are-sound .ensures (c .if1 .taken)))
+    (λ c. sym (c .before .are-sound .ensures (c .if1 .taken) _))
     (λ c. search needs)
     loop-holds
     (λ c. search needs)

@@ -15,7 +15,7 @@ use Rattle.table.proofs.check_sites.Statement.{statement}
 use Rattle.table.proofs.check_sites.Tie as tie
 
 abbrev Inv-loop : tie.InvT-loop
-Inv-loop table n v₀ v = (v ≤ n) × (first (λ w. siteCheck n w (siteOf table w)) v ≡ Sound)
+Inv-loop table n v₀ v = (v ≤ n) × (first (λ w. siteCheck n w w (siteOf table w)) v ≡ Sound)
 
 abbrev μ-loop : tie.MeasureT-loop
 μ-loop table n v₀ v = n - v
@@ -32,8 +32,8 @@ returns c =
     let l = c .before .before .before .before .before .loop in
     let e = c .enum-told2 .given .1 in
     e
-    ∙ sym (first-stop (λ w. siteCheck (a .n) w (siteOf t w)) (a .n) (l .v) _ (omega arith) (l .inv .1)
-    (ap (λ (m : List ℕ). siteCheck (a .n) (l .v) m) (sym (part-cut 63 (l .v) t)) ∙ sym (c .before .before .check-site .ensures) ∙ e))
+    ∙ sym (first-stop (λ w. siteCheck (a .n) w w (siteOf t w)) (a .n) (l .v) _ (omega arith) (l .inv .1)
+    (ap (λ (m : List ℕ). siteCheck (a .n) (l .v) (l .v) m) (sym (part-cut 63 (l .v) t)) ∙ sym (c .before .before .check-site .ensures) ∙ e))
 
 loop-again : tie.Need-loop-again Inv-loop μ-loop
 loop-again c =
@@ -41,7 +41,7 @@ loop-again c =
     let l = c .before .before .before .before .before .loop in (
       search needs,
       first-more _ _ (l .inv .1)
-          (ap (λ (m : List ℕ). siteCheck (a .n) (l .v) m) (sym (part-cut 63 (l .v) (now (a .table)))) ∙ sym (c .before .before .check-site .ensures) ∙ c .enum-told .given .1),
+          (ap (λ (m : List ℕ). siteCheck (a .n) (l .v) (l .v) m) (sym (part-cut 63 (l .v) (now (a .table)))) ∙ sym (c .before .before .check-site .ensures) ∙ c .enum-told .given .1),
     )
 
 returns-2 : tie.Need-returns-2 Inv-loop μ-loop
@@ -50,7 +50,7 @@ returns-2 c =
     let a = c .before .before .before .args in
     let l = c .before .loop in
     let e : l .v ≡ a .n = omega arith in
-    sym (subst (λ (k : ℕ). first (λ w. siteCheck (a .n) w (siteOf (now (a .table)) w)) k ≡ Sound) e (l .inv .1))
+    sym (subst (λ (k : ℕ). first (λ w. siteCheck (a .n) w w (siteOf (now (a .table)) w)) k ≡ Sound) e (l .inv .1))
 
 pub check-sites-spec : {M : Type 1} → statement M
 check-sites-spec =
