@@ -8,9 +8,10 @@ use Rattle.run.specs.Run.{ran, stateInto, answersInto}
 use Rattle.run.specs.declared.Ran.{Ran}
 use Rattle.telling.proofs.Laws.{said}
 use Rattle.said_votes.specs.Said.{ofRan}
+use Rattle.sets.specs.Groups.{Groups}
 
 -- a run that answers as the rules say, and whose answer is said
-pub run-said : (t : List ℕ) (F : ℕ) (list state answers : List ℕ) {r : Ran} {number : ℕ} {out state′ answers′ : List ℕ} →
+pub run-said : (t : Groups) (F : ℕ) (list state answers : List ℕ) {r : Ran} {number : ℕ} {out state′ answers′ : List ℕ} →
     r ≡ ran t F list (length state) (length answers) → (number ≡ ofRan r .number) × (out ≡ ofRan r .out) →
     state′ ≡ stateInto r t F list state → answers′ ≡ answersInto r t F list answers →
     (number ≡ runSays t F list state answers .number) × ((out ≡ runSays t F list state answers .out) ×

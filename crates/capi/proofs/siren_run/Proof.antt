@@ -4,12 +4,13 @@ use denote.Ref.{now}
 use Rattle.said_votes.proofs.Laws.{run-said}
 use Rattle.capi.proofs.siren_run.Statement.{statement}
 use Rattle.capi.proofs.siren_run.Tie as tie
+use Rattle.sets.specs.Groups.{lists}
 
 returns : tie.Need-returns
 returns c =
     let a = c .before .before .before .before .before .before .before .before .before .before .before .before .before .args in
     let e = c .before .before .before .before .before .before .run .ensures in
-    run-said (now (a .table)) (a .faulty) (now (a .calls)) (now (a .state)) (now (a .answers)) (e .0) (c .ran .ensures) (e .1 .0) (e .1 .1)
+    run-said (lists (now (a .table))) (a .faulty) (now (a .calls)) (now (a .state)) (now (a .answers)) (e .0) (c .ran .ensures) (e .1 .0) (e .1 .1)
 
 pub siren-run-spec : {M : Type 1} → statement M
 siren-run-spec =

@@ -60,6 +60,7 @@ use Rattle.capi.proofs.siren_run_records.Key.{name as #capi·siren-run-
 use Rattle.capi.proofs.siren_run_records as siren-run-records
 use Rattle.capi.proofs.siren_run_records.Statement as stated
 use Rattle.capi.proofs.siren_run_records.Code as code
+use Rattle.sets.specs.Groups.{lists}
 
 abbrev stayed : Stays (siren-run-records.ended .signature .params) (siren-run-records.ended .kept)
 stayed = (
@@ -174,12 +175,12 @@ module _ {M : Type 1} (𝓤 : URA M) (H : Heap 𝓤) (A : Atoms 𝓤) (W : Given
   abbrev Left : ℕ → Val → List ℕ → List ℕ → List ℕ → List (Item 𝓤)
   Left k u s′ a′ o′ = ‵ (u64 .own k (u ∷ [])) ∷ Last ∷ ‵ (fres (o .name) (Array u64 4 .coded .code o′)) ∷ ‵ ftrue ∷ Toks-run ∷ ‵ (finally u8 (a .name) a′) ∷ ‵ ftrue ∷ ‵ (finally u64 (s .name) s′) ∷ []
 
-  exits : (r : Ran) (k : ℕ) (u : Val) (s′ a′ o′ : List ℕ) → r ≡ ran (now t) F (bytesOf (now c)) (length (now s)) (length (now a))
-      → s′ ≡ stateInto r (now t) F (bytesOf (now c)) (now s) → a′ ≡ answersInto r (now t) F (bytesOf (now c)) (now a)
+  exits : (r : Ran) (k : ℕ) (u : Val) (s′ a′ o′ : List ℕ) → r ≡ ran (lists (now t)) F (bytesOf (now c)) (length (now s)) (length (now a))
+      → s′ ≡ stateInto r (lists (now t)) F (bytesOf (now c)) (now s) → a′ ≡ answersInto r (lists (now t)) F (bytesOf (now c)) (now a)
       → k ≡ ofRan r .number → o′ ≡ ofRan r .out → length s′ ≡ length (now s) → length a′ ≡ length (now a)
       → ent 𝓤 (⋆ 𝓤 H A (Left k u s′ a′ o′)) (Post u)
   exits r k u s′ a′ o′ er es ea ek eo ls la =
-      let e = run-said (now t) F (bytesOf (now c)) (now s) (now a) er (ek, eo) es ea in
+      let e = run-said (lists (now t)) F (bytesOf (now c)) (now s) (now a) er (ek, eo) es ea in
       qed W (Left k u s′ a′ o′) ∵
       suffices ! _ (ends-at 𝓤 H A siren-run-records.ended stayed (siren-run-records.clauses 𝓤 H A mem run) W
       (((κ₀, (κ₁, (κ₂, (κ₃, (κ₄, tt))))), (q₀, (q₁, (q₂, (q₃, (q₄, tt))))), tt, x, at), tt) u k (tt, (tt, (tt, (s′, (a′, (o′, tt)))))) (tt, (tt, (tt, (ls, (la, (tt, tt))))))) $
@@ -216,11 +217,11 @@ module _ {M : Type 1} (𝓤 : URA M) (H : Heap 𝓤) (A : Atoms 𝓤) (W : Given
         use1 W (later (some (λ (r : Ran). (Toks-run ⊛ ‵ (R.the-row .own r (w ∷ []))) ⊛ raw (ensured 𝓤 H A run-records.ended (run-records.clauses 𝓤 H A mem run) (κ₀, (κ₁, (κ₂, (κ₃, tt)))) given-run tt r)))) (id⊢ 𝓤 _) $
         await ! tt $ pick ! (λ r.
         split ! $ move ! (1 ∷ []) $ use1 W (some (λ (zs : Lasts-run). ‵ (lasts run-records.ended (κ₀, (κ₁, (κ₂, (κ₃, tt)))) given-run zs) ⊛
-        (raw (fact 𝓤 (r ≡ ran (now t) F (bytesOf (now c)) (length (now s)) (length (now a)))) ⊛
-        (raw (fact 𝓤 (zs .1 .1 .1 .0 ≡ stateInto r (now t) F (bytesOf (now c)) (now s))) ⊛ raw (fact 𝓤 (zs .1 .1 .1 .1 .0 ≡ answersInto r (now t) F (bytesOf (now c)) (now a))))))) (id⊢ 𝓤 _) $ pick ! (λ zs.
-        split ! $ move ! (1 ∷ []) $ split ! $ heard ! (r ≡ ran (now t) F (bytesOf (now c)) (length (now s)) (length (now a))) (λ er.
-        split ! $ heard ! (zs .1 .1 .1 .0 ≡ stateInto r (now t) F (bytesOf (now c)) (now s)) (λ es.
-        heard ! (zs .1 .1 .1 .1 .0 ≡ answersInto r (now t) F (bytesOf (now c)) (now a)) (λ ea.
+        (raw (fact 𝓤 (r ≡ ran (lists (now t)) F (bytesOf (now c)) (length (now s)) (length (now a)))) ⊛
+        (raw (fact 𝓤 (zs .1 .1 .1 .0 ≡ stateInto r (lists (now t)) F (bytesOf (now c)) (now s))) ⊛ raw (fact 𝓤 (zs .1 .1 .1 .1 .0 ≡ answersInto r (lists (now t)) F (bytesOf (now c)) (now a))))))) (id⊢ 𝓤 _) $ pick ! (λ zs.
+        split ! $ move ! (1 ∷ []) $ split ! $ heard ! (r ≡ ran (lists (now t)) F (bytesOf (now c)) (length (now s)) (length (now a))) (λ er.
+        split ! $ heard ! (zs .1 .1 .1 .0 ≡ stateInto r (lists (now t)) F (bytesOf (now c)) (now s)) (λ es.
+        heard ! (zs .1 .1 .1 .1 .0 ≡ answersInto r (lists (now t)) F (bytesOf (now c)) (now a)) (λ ea.
         -- what is said of the last values: nothing of the first three
         fsplit ! $ drop ! $ fsplit ! $ drop ! $ fsplit ! $ drop ! $ fsplit ! $ fsplit ! $ move ! (1 ∷ []) $ feqL ! (λ ls. move ! (1 ∷ []) $ fsplit ! $ fsplit ! $ move ! (1 ∷ []) $ feqL ! (λ la.
         move ! (3 ∷ []) $ split ! $ move ! (1 ∷ []) $ peeks ! R.the-row (Is R.the-row) (shows 𝓤 H A R.the-row) r (w ∷ []) (λ is.

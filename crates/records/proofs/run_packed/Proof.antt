@@ -1,51 +1,40 @@
+-- `run_packed` meets its contract: the table's refusal, or the run of its rows.
+use mathlib.Core.Path.{sym, _∙_}
 use borrow.Author.Needs.{needs}
+use denote.Ref.{now}
+use Rattle.records.proofs.Ended.{table-refused, table-ends}
 use Rattle.records.proofs.run_packed.Statement.{statement}
 use Rattle.records.proofs.run_packed.Tie as tie
-use Rattle.records.proofs.run_packed.Reads as reads
-use Rattle.records.proofs.run_packed.Lts as lts
-use Rattle.records.proofs.run_packed_of.Reads as run-packed-of-reads
-use Rattle.table.proofs.check.Reads as check-reads
+use Rattle.sets.proofs.Groups.{checked-rows}
+use Rattle.sets.specs.Groups.{lists}
 
--- src/lib.rt:52:9
-check-requires : tie.Need-check-requires
-check-requires c κs = search needs
-
--- src/lib.rt:53:27
-enum-known-q : tie.Need-enum-known-q
-enum-known-q c = search needs
-
--- src/lib.rt:54:9
 returns : tie.Need-returns
-returns c = search needs
+returns c =
+    let a = c .before .before .before .before .before .before .before .args in
+    table-refused (lists (now (a .table))) (a .faulty) (now (a .room)) (a .n) (now (a .state)) (now (a .answers)) (sym (c .before .before .before .check .ensures) ∙ c .before .q .given .1)
 
-enum-told : tie.Need-enum-told
-enum-told c = search needs
-
--- src/lib.rt:56:5
 run-packed-of-requires : tie.Need-run-packed-of-requires
-run-packed-of-requires c κs = search needs
+run-packed-of-requires c κs =
+    let b = c .before .before in
+    checked-rows (now (b .before .before .before .before .before .before .args .table)) (sym (b .before .before .check .ensures) ∙ b .enum-told .given .1)
 
--- src/lib.rt:41:1
-same-length : tie.Need-same-length
-same-length c = search needs
-
--- src/lib.rt:41:1
-same-length-2 : tie.Need-same-length-2
-same-length-2 c = search needs
-
--- src/lib.rt:41:1
 returns-2 : tie.Need-returns-2
-returns-2 c = search needs
+returns-2 c =
+    let r = c .before .before .before .before in
+    let b = r .before .before .before in
+    let a = b .before .before .before .before .before .before .args in
+    table-ends (now (a .table)) (sym (b .before .before .check .ensures) ∙ b .enum-told .given .1) (a .faulty) (now (a .room)) (a .n) (now (a .state)) (now (a .answers))
+    (r .run-packed-of .ensures)
 
 pub run-packed-spec : {M : Type 1} → statement M
 run-packed-spec =
     tie.close
     (tie.spec
-    check-requires
-    enum-known-q
+    (λ c κs. search needs)
+    (λ c. search needs)
     returns
-    enum-told
+    (λ c. search needs)
     run-packed-of-requires
-    same-length
-    same-length-2
+    (λ c. search needs)
+    (λ c. search needs)
     returns-2)

@@ -45,7 +45,7 @@ use denote.Triple.Clauses.{ensured, lasts}
 use denote.Exit.{yes}
 use borrow.Table.OneValue.{part-in-at, part-out-at}
 use Rattle.packing.specs.Inner.{packTo, packable}
-use Rattle.records.specs.Inner.{TableEnded}
+use Rattle.records.specs.Inner.{Ended, TableEnded}
 use Rattle.packing.specs.Pack.{bytesOf}
 use Rattle.run.specs.Run.{ran, stateInto, answersInto}
 use Rattle.run.specs.declared.Ran.{Ran}
@@ -68,7 +68,7 @@ use Rattle.records.proofs.run_records.Key.{name as #records·run-record
 use Rattle.records.proofs.run_records as run-records
 use Rattle.records.proofs.run_records.Statement as stated
 use Rattle.records.proofs.run_records.Code as code
-use Rattle.sets.specs.Groups.{Groups, lists}
+use Rattle.sets.specs.Groups.{lists}
 
 abbrev stayed : Stays (run-records.ended .signature .params) (run-records.ended .kept)
 stayed = (
@@ -88,17 +88,17 @@ module _ (cs : List Call) where
   abbrev full : List ℕ
   full = packTo zeros cs (packable (length cs))
 
-  module _ {t : Groups} {F : ℕ} {s a : List ℕ} {r : Ran} {s′ a′ : List ℕ} (ended : TableEnded t F full (length cs) s a r s′ a′) where
+  module _ {A : List ℕ → Ran} {S B : Ran → List ℕ → List ℕ} {r : Ran} {s′ a′ : List ℕ} (ended : Ended A S B full (length cs) r s′ a′) where
     begins : length cs ≤ 4096 → take (4 * length cs) full ≡ bytesOf cs
     begins h = rw (packable-all (length cs) h) (packed zeros (length-replicate {A = ℕ} 16384 0) cs h)
 
-    answer-is : r ≡ ran t F (bytesOf cs) (length s) (length a)
+    answer-is : r ≡ A (bytesOf cs)
     answer-is = ended .answer (bytesOf cs) (bytesOf-length cs) begins
 
-    states-are : s′ ≡ stateInto r t F (bytesOf cs) s
+    states-are : s′ ≡ S r (bytesOf cs)
     states-are = ended .states (bytesOf cs) (bytesOf-length cs) begins
 
-    bytes-are : a′ ≡ answersInto r t F (bytesOf cs) a
+    bytes-are : a′ ≡ B r (bytesOf cs)
     bytes-are = ended .answered (bytesOf cs) (bytesOf-length cs) begins
 
 module _ {M : Type 1} (𝓤 : URA M) (H : Heap 𝓤) (A : Atoms 𝓤) (mem : Memory → SProp 𝓤) (run : Routine → Fun 𝓤) where
