@@ -14,6 +14,7 @@ ghost use Rattle.said.specs.Said.{ofCheck, ofReading, ofWriting};
 ghost use Rattle.said_votes.specs.Said.{ofStepped};
 ghost use Rattle.said_sets.specs.Said.{ofHolds, ofGreatest, ofSharing, ofStanding};
 ghost use Rattle.said_journal.specs.Said.{ofChecked, ofKept, ofListed, ofTaken};
+ghost use Rattle.sets.specs.Groups.{lists};
 ghost use Rattle.table.specs.Table.{check};
 ghost use Rattle.voting.specs.Step.{soundCheck, stepCheck, stepInto, toStepped};
 ghost use Rattle.votes.specs.Call.{call};
@@ -51,8 +52,8 @@ pub extern "C" fn siren_image_write(table: &[u64], room: &mut [u8], out: &mut [u
 // Is the set a quorum?
 #[no_mangle]
 pub extern "C" fn siren_quorum(table: &[u64], set: u64, out: &mut [u64; 4]) -> u64
-    ensures answer { λ r. ⌜ r ≡ ofHolds (quorum (now (table .entry)) set) .number ⌝ }
-    ensures told { λ r. ⌜ now (out .exit) ≡ ofHolds (quorum (now (table .entry)) set) .out ⌝ }
+    ensures answer { λ r. ⌜ r ≡ ofHolds (quorum (lists (now (table .entry))) set) .number ⌝ }
+    ensures told { λ r. ⌜ now (out .exit) ≡ ofHolds (quorum (lists (now (table .entry))) set) .out ⌝ }
 {
     said_sets::holds(questions::quorum(table, set), out)
 }
@@ -60,8 +61,8 @@ pub extern "C" fn siren_quorum(table: &[u64], set: u64, out: &mut [u64; 4]) -> u
 // The largest quorum inside the set, and its rounds.
 #[no_mangle]
 pub extern "C" fn siren_largest(table: &[u64], set: u64, out: &mut [u64; 4]) -> u64
-    ensures answer { λ r. ⌜ r ≡ ofGreatest (largest (now (table .entry)) set) .number ⌝ }
-    ensures told { λ r. ⌜ now (out .exit) ≡ ofGreatest (largest (now (table .entry)) set) .out ⌝ }
+    ensures answer { λ r. ⌜ r ≡ ofGreatest (largest (lists (now (table .entry))) set) .number ⌝ }
+    ensures told { λ r. ⌜ now (out .exit) ≡ ofGreatest (largest (lists (now (table .entry))) set) .out ⌝ }
 {
     said_sets::greatest(questions::largest(table, set), out)
 }
@@ -69,8 +70,8 @@ pub extern "C" fn siren_largest(table: &[u64], set: u64, out: &mut [u64; 4]) -> 
 // Does the set block the site?
 #[no_mangle]
 pub extern "C" fn siren_blocks(table: &[u64], set: u64, site: u64, out: &mut [u64; 4]) -> u64
-    ensures answer { λ r. ⌜ r ≡ ofHolds (blocks (now (table .entry)) set site) .number ⌝ }
-    ensures told { λ r. ⌜ now (out .exit) ≡ ofHolds (blocks (now (table .entry)) set site) .out ⌝ }
+    ensures answer { λ r. ⌜ r ≡ ofHolds (blocks (lists (now (table .entry))) set site) .number ⌝ }
+    ensures told { λ r. ⌜ now (out .exit) ≡ ofHolds (blocks (lists (now (table .entry))) set site) .out ⌝ }
 {
     said_sets::holds(questions::blocks(table, set, site), out)
 }
@@ -78,8 +79,8 @@ pub extern "C" fn siren_blocks(table: &[u64], set: u64, site: u64, out: &mut [u6
 // Do every two quorums have a common site?
 #[no_mangle]
 pub extern "C" fn siren_shared(table: &[u64], out: &mut [u64; 4]) -> u64
-    ensures answer { λ r. ⌜ r ≡ ofSharing (shared (now (table .entry))) .number ⌝ }
-    ensures told { λ r. ⌜ now (out .exit) ≡ ofSharing (shared (now (table .entry))) .out ⌝ }
+    ensures answer { λ r. ⌜ r ≡ ofSharing (shared (lists (now (table .entry)))) .number ⌝ }
+    ensures told { λ r. ⌜ now (out .exit) ≡ ofSharing (shared (lists (now (table .entry)))) .out ⌝ }
 {
     said_sets::sharing(verdict_questions::shared(table), out)
 }
@@ -87,8 +88,8 @@ pub extern "C" fn siren_shared(table: &[u64], out: &mut [u64; 4]) -> u64
 // Which sites are intact when those of the set are faulty?
 #[no_mangle]
 pub extern "C" fn siren_intact(table: &[u64], faulty: u64, out: &mut [u64; 4]) -> u64
-    ensures answer { λ r. ⌜ r ≡ ofStanding (intact (now (table .entry)) faulty) .number ⌝ }
-    ensures told { λ r. ⌜ now (out .exit) ≡ ofStanding (intact (now (table .entry)) faulty) .out ⌝ }
+    ensures answer { λ r. ⌜ r ≡ ofStanding (intact (lists (now (table .entry))) faulty) .number ⌝ }
+    ensures told { λ r. ⌜ now (out .exit) ≡ ofStanding (intact (lists (now (table .entry))) faulty) .out ⌝ }
 {
     said_sets::standing(verdict_questions::intact(table, faulty), out)
 }
@@ -96,8 +97,8 @@ pub extern "C" fn siren_intact(table: &[u64], faulty: u64, out: &mut [u64; 4]) -
 // Is the state sound?
 #[no_mangle]
 pub extern "C" fn siren_sound(table: &[u64], faulty: u64, state: &[u64], out: &mut [u64; 4]) -> u64
-    ensures answer { λ r. ⌜ r ≡ ofCheck (soundCheck (now (table .entry)) faulty (now (state .entry))) .number ⌝ }
-    ensures told { λ r. ⌜ now (out .exit) ≡ ofCheck (soundCheck (now (table .entry)) faulty (now (state .entry))) .out ⌝ }
+    ensures answer { λ r. ⌜ r ≡ ofCheck (soundCheck (lists (now (table .entry))) faulty (now (state .entry))) .number ⌝ }
+    ensures told { λ r. ⌜ now (out .exit) ≡ ofCheck (soundCheck (lists (now (table .entry))) faulty (now (state .entry))) .out ⌝ }
 {
     said::check(voting::sound(table, faulty, state), out)
 }
@@ -114,9 +115,9 @@ pub extern "C" fn siren_step(
     side: u8,
     out: &mut [u64; 4],
 ) -> u64
-    ensures answer { λ r. ⌜ r ≡ ofStepped (toStepped (stepCheck (now (table .entry)) faulty (call kind from to side) (now (state .entry)))) .number ⌝ }
-    ensures told { λ r. ⌜ now (out .exit) ≡ ofStepped (toStepped (stepCheck (now (table .entry)) faulty (call kind from to side) (now (state .entry)))) .out ⌝ }
-    ensures memory { λ r. ⌜ now (state .exit) ≡ stepInto (now (table .entry)) faulty (call kind from to side) (now (state .entry)) ⌝ }
+    ensures answer { λ r. ⌜ r ≡ ofStepped (toStepped (stepCheck (lists (now (table .entry))) faulty (call kind from to side) (now (state .entry)))) .number ⌝ }
+    ensures told { λ r. ⌜ now (out .exit) ≡ ofStepped (toStepped (stepCheck (lists (now (table .entry))) faulty (call kind from to side) (now (state .entry)))) .out ⌝ }
+    ensures memory { λ r. ⌜ now (state .exit) ≡ stepInto (lists (now (table .entry))) faulty (call kind from to side) (now (state .entry)) ⌝ }
 {
     said_votes::stepped(
         voting::step(table, faulty, state, kind, from, to, side),
@@ -134,10 +135,10 @@ pub extern "C" fn siren_run(
     answers: &mut [u8],
     out: &mut [u64; 4],
 ) -> u64
-    ensures answer { λ r. ⌜ r ≡ runSays (now (table .entry)) faulty (now (calls .entry)) (now (state .entry)) (now (answers .entry)) .number ⌝ }
-    ensures told { λ r. ⌜ now (out .exit) ≡ runSays (now (table .entry)) faulty (now (calls .entry)) (now (state .entry)) (now (answers .entry)) .out ⌝ }
-    ensures states { λ r. ⌜ now (state .exit) ≡ runState (now (table .entry)) faulty (now (calls .entry)) (now (state .entry)) (now (answers .entry)) ⌝ }
-    ensures bytes { λ r. ⌜ now (answers .exit) ≡ runAnswers (now (table .entry)) faulty (now (calls .entry)) (now (state .entry)) (now (answers .entry)) ⌝ }
+    ensures answer { λ r. ⌜ r ≡ runSays (lists (now (table .entry))) faulty (now (calls .entry)) (now (state .entry)) (now (answers .entry)) .number ⌝ }
+    ensures told { λ r. ⌜ now (out .exit) ≡ runSays (lists (now (table .entry))) faulty (now (calls .entry)) (now (state .entry)) (now (answers .entry)) .out ⌝ }
+    ensures states { λ r. ⌜ now (state .exit) ≡ runState (lists (now (table .entry))) faulty (now (calls .entry)) (now (state .entry)) (now (answers .entry)) ⌝ }
+    ensures bytes { λ r. ⌜ now (answers .exit) ≡ runAnswers (lists (now (table .entry))) faulty (now (calls .entry)) (now (state .entry)) (now (answers .entry)) ⌝ }
 {
     said_votes::ran(run::run(table, faulty, calls, state, answers), out)
 }
@@ -152,13 +153,13 @@ pub extern "C" fn siren_run_records(
     answers: &mut [u8],
     out: &mut [u64; 4],
 ) -> u64
-    ensures answer { λ r. ⌜ r ≡ runSays (now (table .entry)) faulty (bytesOf (now (calls .entry))) (now (state .entry)) (now (answers .entry)) .number ⌝ }
+    ensures answer { λ r. ⌜ r ≡ runSays (lists (now (table .entry))) faulty (bytesOf (now (calls .entry))) (now (state .entry)) (now (answers .entry)) .number ⌝ }
     ensures told { λ r.
-        ⌜ now (out .exit) ≡ runSays (now (table .entry)) faulty (bytesOf (now (calls .entry))) (now (state .entry)) (now (answers .entry)) .out ⌝ }
+        ⌜ now (out .exit) ≡ runSays (lists (now (table .entry))) faulty (bytesOf (now (calls .entry))) (now (state .entry)) (now (answers .entry)) .out ⌝ }
     ensures states { λ r.
-        ⌜ now (state .exit) ≡ runState (now (table .entry)) faulty (bytesOf (now (calls .entry))) (now (state .entry)) (now (answers .entry)) ⌝ }
+        ⌜ now (state .exit) ≡ runState (lists (now (table .entry))) faulty (bytesOf (now (calls .entry))) (now (state .entry)) (now (answers .entry)) ⌝ }
     ensures bytes { λ r.
-        ⌜ now (answers .exit) ≡ runAnswers (now (table .entry)) faulty (bytesOf (now (calls .entry))) (now (state .entry)) (now (answers .entry)) ⌝ }
+        ⌜ now (answers .exit) ≡ runAnswers (lists (now (table .entry))) faulty (bytesOf (now (calls .entry))) (now (state .entry)) (now (answers .entry)) ⌝ }
 {
     said_votes::ran(
         records::run_records(table, faulty, calls, state, answers),

@@ -21,8 +21,12 @@ use Rattle.refusals.specs.declared.Check.{Check}
 use Rattle.refusals.specs.declared.Check.the-variants.{Sound, Refused}
 use Rattle.refusals.specs.declared.Refusal.{Refusal}
 use Rattle.refusals.specs.declared.Refusal.the-variants.{Length, Room}
-use Rattle.sets.proofs.WholeQuorum.{table-some-quorum}
+use Rattle.sets.proofs.Groups.{table-rows}
+use Rattle.sets.proofs.Lawful.{table-lawful}
+use Rattle.sets.proofs.Rows.{rows-lawful}
+use Rattle.sets.proofs.WholeQuorum as whole
 use Rattle.sets.specs.Quorum.{largest}
+use Rattle.sets.specs.Rows.{Rows, rulesOf}
 use Rattle.sets.specs.Slices.{slicesOf}
 use Rattle.site_block.proofs.Block.{block-sound}
 use Rattle.site_block.specs.Block.{blockCheck}
@@ -74,15 +78,15 @@ loads-table n image p q h = checked-sites (loads n image) n (length-loads n imag
 
 pub some-quorum : (n : ℕ) (t : List ℕ) → Table t n → quorumless n t ≡ false
 unfolding quorumless
-some-quorum n t s = ne-eqb (largest (slicesOf t .inside) n (allBelow n)) 0 (table-some-quorum t n s)
+some-quorum n t s = ne-eqb (largest (slicesOf t .inside) n (allBelow n)) 0 (whole.some-quorum (table-lawful s) (s .some-site))
 
 -- the same of the table that a room begins with once all blocks were loaded into it
 module _ (n : ℕ) (image d m : List ℕ) (e : m ≡ loads n image ++ d) (p : 1 ≤ n) (q : n ≤ 64) (h : blocksCheck n image ≡ Sound) where
-  pub room-table : Table (take (63 * n) m) n
-  room-table = rw (e, loads-front n image d) (loads-table n image p q h)
+  pub room-rows : Rows (take (63 * n) m) n
+  room-rows = rw (e, loads-front n image d) (table-rows (loads-table n image p q h))
 
-  pub room-quorum : (w : ℕ) → w ≡ allBelow n → largest (slicesOf (take (63 * n) m) .inside) n w ≡ 0 → ⊥
-  room-quorum w ew z = table-some-quorum (take (63 * n) m) n room-table (rw ew at z)
+  pub room-quorum : (w : ℕ) → w ≡ allBelow n → largest (rulesOf (take (63 * n) m) .inside) n w ≡ 0 → ⊥
+  room-quorum w ew z = whole.some-quorum (rows-lawful room-rows) (room-rows .some-site) (rw ew at z)
 
 -- the ways out
 

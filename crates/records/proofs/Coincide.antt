@@ -17,6 +17,7 @@ use Rattle.records.proofs.run_records as run-records
 use Rattle.packing.specs.Pack.{bytesOf}
 use Rattle.run.specs.Run.{stateInto, answersInto}
 use Rattle.run.specs.declared.Ran.{Ran}
+use Rattle.sets.specs.Groups.{lists}
 
 module _ {M : Type 1} (𝓤 : URA M) where
   -- three clauses as one fact
@@ -34,7 +35,7 @@ module _ {M : Type 1} (𝓤 : URA M) (H : Heap 𝓤) (A : Atoms 𝓤) (mem : Mem
         let e = p .0 ∙ sym (q .0) in (
           e,
           (
-            p .1 .0 ∙ ap (λ (r : Ran). stateInto r (now (a .0)) (a .1 .0) (bytesOf (now (a .1 .1 .0))) (now (a .1 .1 .1 .0))) e ∙ sym (q .1 .0),
-            p .1 .1 ∙ ap (λ (r : Ran). answersInto r (now (a .0)) (a .1 .0) (bytesOf (now (a .1 .1 .0))) (now (a .1 .1 .1 .1 .0))) e ∙ sym (q .1 .1),
+            p .1 .0 ∙ ap (λ (r : Ran). stateInto r (lists (now (a .0))) (a .1 .0) (bytesOf (now (a .1 .1 .0))) (now (a .1 .1 .1 .0))) e ∙ sym (q .1 .0),
+            p .1 .1 ∙ ap (λ (r : Ran). answersInto r (lists (now (a .0))) (a .1 .0) (bytesOf (now (a .1 .1 .0))) (now (a .1 .1 .1 .1 .0))) e ∙ sym (q .1 .1),
           ),
         ))

@@ -60,10 +60,10 @@ module _ (n F bytes state answers : ℕ) where
         none-refused s a =
             rw (e, eq-eqb (bytes % 4) 0 f, le-ltb 16384 bytes l, le-ltb state (4 * n + 6) s, le-ltb answers (bytes / 4) a) refl
 
--- all lists that are too long are refused alike: the table, 10, 17
-pub long-alike : (t : Groups) (F state answers n : ℕ) → 4096 < n → runCheck t F (4 * n) state answers ≡ runCheck t F 16388 state answers
-unfolding runCheck listMisshapen
-long-alike t F state answers n l = rw (eq-eqb (4 * n % 4) 0 (omega arith), lt-ltb 16384 (4 * n) (omega arith)) refl
+-- all lists that are too long are refused alike: 10, 17
+pub long-alike : (many F state answers n : ℕ) → 4096 < n → rowRunCheck many F (4 * n) state answers ≡ rowRunCheck many F 16388 state answers
+unfolding rowRunCheck listMisshapen
+long-alike many F state answers n l = rw (eq-eqb (4 * n % 4) 0 (omega arith), lt-ltb 16384 (4 * n) (omega arith)) refl
 
 -- what a sound check of a run has shown
 pub record Fits (n bytes state answers : ℕ) : Type 0 where

@@ -7,7 +7,7 @@ use lib.Seq.{length-take-le}
 use borrow.Author.Needs.{needs}
 use denote.Ref.{now}
 use Rattle.image.specs.Read.{readInto}
-use Rattle.image.proofs.ReadLaws.{no-blocks, odd-blocks, too-many-blocks, whole-blocks, room-table, room-quorum, read-length, read-room, read-block, read-sites}
+use Rattle.image.proofs.ReadLaws.{no-blocks, odd-blocks, too-many-blocks, whole-blocks, room-rows, room-quorum, read-length, read-room, read-block, read-sites}
 use Rattle.image.proofs.read.Statement.{statement}
 use Rattle.image.proofs.read.Tie as tie
 
@@ -61,7 +61,7 @@ largest-set-requires c κs =
     let g = c .before .before .before .before .before .before in
     let a = g .before .before .before .before .before .before .before .before .before .args in
     let b = now (a .image) in
-    room-table (length b / 512) b _ _ (c .before .before .before .before .load-blocks .ensures) (omega arith) (omega arith)
+    room-rows (length b / 512) b _ _ (c .before .before .before .before .load-blocks .ensures) (omega arith) (omega arith)
     (sym (g .before .before .check-blocks .ensures) ∙ g .enum-told .given .1)
 
 returns-6 : tie.Need-returns-6

@@ -1,47 +1,51 @@
--- `run_packed` meets its contract: too many calls are refused as 16,388 bytes are, others run as the bytes in front of the room.
-use mathlib.Core.Path.{_≡_, sym, _∙_}
-use native.Mathlib.Omega.{arith}
-use lib.ListN.{length, length-take}
 use borrow.Author.Needs.{needs}
-use denote.Ref.{now}
-use Rattle.records.proofs.Ended.{long-unsound, over-refused, held-ends}
 use Rattle.records.proofs.run_packed.Statement.{statement}
 use Rattle.records.proofs.run_packed.Tie as tie
+use Rattle.records.proofs.run_packed.Reads as reads
+use Rattle.records.proofs.run_packed.Lts as lts
+use Rattle.records.proofs.run_packed_of.Reads as run-packed-of-reads
+use Rattle.table.proofs.check.Reads as check-reads
 
+-- src/lib.rt:52:9
+check-requires : tie.Need-check-requires
+check-requires c κs = search needs
+
+-- src/lib.rt:53:27
+enum-known-q : tie.Need-enum-known-q
+enum-known-q c = search needs
+
+-- src/lib.rt:54:9
 returns : tie.Need-returns
-returns c =
-    let a = c .before .before .before .before .before .before .before .before .args in
-    over-refused (now (a .table)) (a .faulty) (now (a .room)) (a .n) (now (a .state)) (now (a .answers)) _ (c .before .before .before .before .if1 .taken)
-    (sym (c .before .before .before .check .ensures) ∙ c .before .q .given .1)
+returns c = search needs
 
+enum-told : tie.Need-enum-told
+enum-told c = search needs
+
+-- src/lib.rt:56:5
+run-packed-of-requires : tie.Need-run-packed-of-requires
+run-packed-of-requires c κs = search needs
+
+-- src/lib.rt:41:1
+same-length : tie.Need-same-length
+same-length c = search needs
+
+-- src/lib.rt:41:1
+same-length-2 : tie.Need-same-length-2
+same-length-2 c = search needs
+
+-- src/lib.rt:41:1
 returns-2 : tie.Need-returns-2
-returns-2 c =
-    let a = c .before .before .before .before .before .before .before .args in
-    absurd (long-unsound (now (a .table)) (a .faulty) (length (now (a .state))) (length (now (a .answers))) (sym (c .before .before .check .ensures) ∙ c .enum-told .given .1))
-
-slice-aggregate-run : tie.Need-slice-aggregate-run
-slice-aggregate-run c =
-    let h : length (now (c .before .before .before .before .before .before .args .room)) ≡ 16384 = search needs in
-    simp length-take (omega arith)
-
-returns-3 : tie.Need-returns-3
-returns-3 c =
-    let a = c .before .before .before .before .before .before .before .before .before .before .before .before .before .args in
-    let e = c .before .before .before .before .run .ensures in
-    held-ends (now (a .table)) (a .faulty) (now (a .room)) (a .n) (now (a .state)) (now (a .answers)) _ _ _ (c .before .before .before .before .before .before .before .before .before .if1 .left) (e .0) (e .1 .0) (e .1 .1)
+returns-2 c = search needs
 
 pub run-packed-spec : {M : Type 1} → statement M
 run-packed-spec =
     tie.close
     (tie.spec
-    (λ c κs. search needs)
-    (λ c. search needs)
+    check-requires
+    enum-known-q
     returns
-    (λ c. search needs)
-    returns-2
-    (λ c. search needs)
-    slice-aggregate-run
-    (λ c κs. search needs)
-    (λ c. search needs)
-    (λ c. search needs)
-    returns-3)
+    enum-told
+    run-packed-of-requires
+    same-length
+    same-length-2
+    returns-2)

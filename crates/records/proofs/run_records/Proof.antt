@@ -45,7 +45,7 @@ use denote.Triple.Clauses.{ensured, lasts}
 use denote.Exit.{yes}
 use borrow.Table.OneValue.{part-in-at, part-out-at}
 use Rattle.packing.specs.Inner.{packTo, packable}
-use Rattle.records.specs.Inner.{Ended}
+use Rattle.records.specs.Inner.{TableEnded}
 use Rattle.packing.specs.Pack.{bytesOf}
 use Rattle.run.specs.Run.{ran, stateInto, answersInto}
 use Rattle.run.specs.declared.Ran.{Ran}
@@ -68,6 +68,7 @@ use Rattle.records.proofs.run_records.Key.{name as #records·run-record
 use Rattle.records.proofs.run_records as run-records
 use Rattle.records.proofs.run_records.Statement as stated
 use Rattle.records.proofs.run_records.Code as code
+use Rattle.sets.specs.Groups.{Groups, lists}
 
 abbrev stayed : Stays (run-records.ended .signature .params) (run-records.ended .kept)
 stayed = (
@@ -87,7 +88,7 @@ module _ (cs : List Call) where
   abbrev full : List ℕ
   full = packTo zeros cs (packable (length cs))
 
-  module _ {t : List ℕ} {F : ℕ} {s a : List ℕ} {r : Ran} {s′ a′ : List ℕ} (ended : Ended t F full (length cs) s a r s′ a′) where
+  module _ {t : Groups} {F : ℕ} {s a : List ℕ} {r : Ran} {s′ a′ : List ℕ} (ended : TableEnded t F full (length cs) s a r s′ a′) where
     begins : length cs ≤ 4096 → take (4 * length cs) full ≡ bytesOf cs
     begins h = rw (packable-all (length cs) h) (packed zeros (length-replicate {A = ℕ} 16384 0) cs h)
 
@@ -212,7 +213,7 @@ module _ {M : Type 1} (𝓤 : URA M) (H : Heap 𝓤) (A : Atoms 𝓤) (W : Given
   abbrev Lasts-run : Type 0
   Lasts-run = Unit {0} × (Unit {0} × (Unit {0} × (Unit {0} × (List ℕ × (List ℕ × Unit {0})))))
 
-  exits : (r : Ran) (w : Val) (s′ a′ : List ℕ) → r ≡ ran (now t) F (bytesOf (now c)) (length (now s)) (length (now a)) → s′ ≡ stateInto r (now t) F (bytesOf (now c)) (now s) → a′ ≡ answersInto r (now t) F (bytesOf (now c)) (now a)
+  exits : (r : Ran) (w : Val) (s′ a′ : List ℕ) → r ≡ ran (lists (now t)) F (bytesOf (now c)) (length (now s)) (length (now a)) → s′ ≡ stateInto r (lists (now t)) F (bytesOf (now c)) (now s) → a′ ≡ answersInto r (lists (now t)) F (bytesOf (now c)) (now a)
       → length s′ ≡ length (now s) → length a′ ≡ length (now a)
       → ent 𝓤 (⋆ 𝓤 H A (Toks ∷ ‵ (R.the-row .own r (w ∷ [])) ∷ ‵ (finally u8 (a .name) a′) ∷ ‵ ftrue ∷ ‵ (finally u64 (s .name) s′) ∷ [])) (Post w)
   exits r w s′ a′ er es ea ls la =
@@ -275,9 +276,9 @@ module _ {M : Type 1} (𝓤 : URA M) (H : Heap 𝓤) (A : Atoms 𝓤) (W : Given
         use1 W (later (some (λ (r : Ran). (Toks-run ν ⊛ ‵ (R.the-row .own r (w ∷ []))) ⊛ raw (ensured 𝓤 H A run-packed.ended (run-packed.clauses 𝓤 H A mem run) (κ₀, (ν ∷ [], (κ₂, (κ₃, tt)))) (given-run l₆ η) tt r)))) (id⊢ 𝓤 _) $
         await ! tt $ pick ! (λ r.
         split ! $ move ! (1 ∷ []) $
-        use1 W (some (λ (zs : Lasts-run). ‵ (lasts run-packed.ended (κ₀, (ν ∷ [], (κ₂, (κ₃, tt)))) (given-run l₆ η) zs) ⊛ raw (fact 𝓤 (Ended (now t) F ps n (now s) (now a) r (zs .1 .1 .1 .1 .0) (zs .1 .1 .1 .1 .1 .0))))) (id⊢ 𝓤 _) $
+        use1 W (some (λ (zs : Lasts-run). ‵ (lasts run-packed.ended (κ₀, (ν ∷ [], (κ₂, (κ₃, tt)))) (given-run l₆ η) zs) ⊛ raw (fact 𝓤 (TableEnded (lists (now t)) F ps n (now s) (now a) r (zs .1 .1 .1 .1 .0) (zs .1 .1 .1 .1 .1 .0))))) (id⊢ 𝓤 _) $
         pick ! (λ zs.
-        split ! $ move ! (1 ∷ []) $ heard ! (Ended (now t) F ps n (now s) (now a) r (zs .1 .1 .1 .1 .0) (zs .1 .1 .1 .1 .1 .0)) (λ ended.
+        split ! $ move ! (1 ∷ []) $ heard ! (TableEnded (lists (now t)) F ps n (now s) (now a) r (zs .1 .1 .1 .1 .0) (zs .1 .1 .1 .1 .1 .0)) (λ ended.
         -- what is said of the last values: nothing of the first four
         fsplit ! $ drop ! $ fsplit ! $ drop ! $ fsplit ! $ drop ! $ fsplit ! $ drop ! $ fsplit ! $ fsplit ! $ move ! (1 ∷ []) $ feqL ! (λ ls. move ! (1 ∷ []) $ fsplit ! $ fsplit ! $ move ! (1 ∷ []) $ feqL ! (λ la.
         move ! (3 ∷ []) $ split ! $ move ! (1 ∷ []) $ peeks ! R.the-row (Is R.the-row) (shows 𝓤 H A R.the-row) r (w ∷ []) (λ is′.
