@@ -89,7 +89,7 @@ pub entries-agree : EntriesAgree
 unfolding missingText missingCheck lackingLines line
 entries-agree F image list rest e c text =
     let t = tableOn image in
-    let same : sitesOf t ≡ sitesOn image = image-sites image e in
+    let same : sitesOf t ≡ sitesOn image = image-sites image in
     let n = sitesOf t in
     let whole = intact (slicesIn t) n F in
     let drill = get (theRun t F list .state) (accepted n 0) in

@@ -8,12 +8,11 @@ use native.Mathlib.Omega.{arith}
 use borrow.Author.Tests.{eqb-true, le-ltb}
 use lib.Dec.{eqb}
 use lib.ListN.{length, length-append}
-use Rattle.check_text.proofs.Ways.{reads}
-use Rattle.check_text.specs.Table.{sitesOn, rowsOn, tableOn, imageCheck}
+use Rattle.check_text.proofs.Ways.{reads, loaded-sites, loaded}
+use Rattle.check_text.specs.Table.{sitesOn, tableOn, imageCheck}
 use Rattle.ground.proofs.Logic.{cases, and-l, and-r, and-i, clash, is-false, not-t}
 use Rattle.ground.specs.Pieces.{part}
 use Rattle.image_blocks.proofs.Load.{loads-site}
-use Rattle.image.proofs.ReadLaws.{read-taken, blocks-shape, loads-table}
 use Rattle.image_blocks.specs.Image.{loads}
 use Rattle.lines.proofs.Lengths.{length-line}
 use Rattle.lines.specs.Lines.{line}
@@ -38,9 +37,7 @@ use Rattle.sets.specs.Quorum.{largest, rounds}
 use Rattle.site_block.proofs.Load.{load-count, load-slice}
 use Rattle.site_block.specs.Block.{countField, sliceField}
 use Rattle.rows.specs.Site.{count, slice}
-use Rattle.table.proofs.Exact.{sound}
-use Rattle.table.proofs.Table.{sites-of}
-use Rattle.table.specs.Table.{countOf, sliceOf, Table}
+use Rattle.table.specs.Table.{countOf, sliceOf}
 use Rattle.text.specs.Text.{ascii, decimal}
 use Rattle.verdict_text.specs.Verdict.{judgedText, verdictText}
 use Rattle.verdicts.proofs.Decides.{table-verdicts}
@@ -51,19 +48,12 @@ use Rattle.published.proofs.Voting.{of-state}
 use Rattle.published.specs.Files.{VerdictOf, ReadAsFiled, VerdictAsPublished, RegisterAsPublished, WorthAsPublished}
 use Rattle.published.specs.Voting.{Confirms}
 
--- of an image that is sound: its rows are a table, which is checked, of as many sites as there are blocks
-module _ (image : List ℕ) (e : imageCheck image ≡ Sound) where
-  rows-table : Table (rowsOn image) (sitesOn image)
-  rows-table =
-      let x = read-taken image 4032 (sitesOn image) (reads image e) in
-      let s = blocks-shape (length image) (x .0) in
-      loads-table (sitesOn image) image (s .1) (s .2) (x .2)
+-- the table that an image holds has as many sites as there are blocks, and is checked if the image is sound
+pub image-sites : (image : List ℕ) → sitesOf (tableOn image) ≡ sitesOn image
+image-sites image = loaded-sites image (sitesOn image)
 
-  pub image-checked : Checked (tableOn image)
-  image-checked = sound rows-table
-
-  pub image-sites : sitesOf (tableOn image) ≡ sitesOn image
-  image-sites = sites-of rows-table
+pub image-checked : (image : List ℕ) → imageCheck image ≡ Sound → Checked (tableOn image)
+image-checked image e = loaded image (sitesOn image) (reads image e)
 
 module _ (n : ℕ) (image : List ℕ) (v : ℕ) (l : v < n) where
   count-on : countOf (loads n image) v ≡ countField (part 512 v image)
@@ -74,13 +64,13 @@ module _ (n : ℕ) (image : List ℕ) (v : ℕ) (l : v < n) where
 
 pub read-as-filed : ReadAsFiled
 read-as-filed image e =
-    let T = rows-table image e in
+    let T = table-exact (tableOn image) .0 (image-checked image e) in
     let n = sitesOn image in (
-      table-exact (tableOn image) .0 (image-checked image e),
-      image-sites image e,
+      T,
+      image-sites image,
       λ v q l.
           let c = count-on n image v l in
-          let few = T .few-slices v l in (
+          let few = T .few-slices v (subst (λ (k : ℕ). v < k) (sym (image-sites image)) l) in (
             λ x. (x .0, subst (λ (k : ℕ). x .0 < k) (sym c) (x .1), x .2 ∙ sym (slice-on n image v l (x .0) (omega (arith, x .1, c, few)))),
             λ x. (x .0, subst (λ (k : ℕ). x .0 < k) c (x .1), x .2 ∙ slice-on n image v l (x .0) (omega (arith, x .1, few))),
           ),
@@ -205,7 +195,7 @@ pub register-as-published : RegisterAsPublished
 unfolding runText ranText
 register-as-published F image list e c =
     let t = tableOn image in
-    let same : sitesOf t ≡ sitesOn image = image-sites image e in
+    let same : sitesOf t ≡ sitesOn image = image-sites image in
     let r = theRun t F list in (
       rw (e, c) (ap (λ (m : ℕ). endLines F m (intact (slicesIn t) m F) (r .passes) (r .state) list (r .answers)) same),
       subst (λ (m : ℕ). (v : ℕ) → v < m → (v ∈ F → ⊥) →
@@ -218,7 +208,7 @@ register-as-published F image list e c =
 pub worth-as-published : WorthAsPublished
 worth-as-published F image e sub l =
     let t = tableOn image in
-    let same : sitesOf t ≡ sitesOn image = image-sites image e in
+    let same : sitesOf t ≡ sitesOn image = image-sites image in
     subst (λ (m : ℕ). m ≤ 12 → (v : ℕ) → v < m → (v ∈ F → ⊥) →
     ((worthOf m F (intact (slicesIn t) m F) v ≡ ascii " intact") ↔ Intact (fbqsIn t) F v)
     × ((worthOf m F (intact (slicesIn t) m F) v ≡ ascii " befouled") ↔ Befouled (fbqsIn t) F v)) same
@@ -228,5 +218,5 @@ pub verdict-as-published : VerdictAsPublished
 unfolding verdictText
 verdict-as-published F image e =
     let t = tableOn image in
-    let same : sitesOf t ≡ sitesOn image = image-sites image e in
+    let same : sitesOf t ≡ sitesOn image = image-sites image in
     rw e (subst (λ (m : ℕ). F ⊆ allBelow m → m ≤ 12 → VerdictOf (fbqsIn t) m F (judgedText F t)) same (judged t F (image-checked image e)))

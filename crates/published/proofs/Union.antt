@@ -68,5 +68,5 @@ pub register-agrees : RegisterAgrees
 unfolding NoLine
 register-agrees F image list e c P =
     let t = tableOn image in
-    subst (λ (m : ℕ). NoLine t m F (wholeOn F image) (runOf (voteOf t F) (calls list) .state)) (image-sites image e)
+    subst (λ (m : ℕ). NoLine t m F (wholeOn F image) (runOf (voteOf t F) (calls list) .state)) (image-sites image)
     (no-line t (image-checked image e) F (wholeOn F image) P (calls list))
