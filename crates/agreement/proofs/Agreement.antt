@@ -2,10 +2,9 @@
 use Prim.Native.Nat.{ℕ}
 use mathlib.Core.List.{List, [], _∷_}
 use mathlib.Core.Path.{_≡_, refl, sym, subst}
-use lib.ListN.{length}
 use Rattle.agreement.proofs.Backed.{Good, good-fresh, good-step, good-agreed}
 use Rattle.agreement.specs.Agreement.{Premises, Agreed, stepsInto, StepsAgree, RunAgrees}
-use Rattle.pass.proofs.Lawful.{lawful}
+use Rattle.pass.proofs.Lawful.{table-vote}
 use Rattle.pass.specs.Calls.{calls}
 use Rattle.refusals.specs.declared.Check.{Check}
 use Rattle.refusals.specs.declared.Check.the-variants.{Sound, Refused}
@@ -15,43 +14,41 @@ use Rattle.rules.proofs.WorkWays.{table-rests}
 use Rattle.rules.specs.State.{confirmed, width}
 use Rattle.rules.specs.Theorems.{Rests}
 use Rattle.rules.specs.Vote.{voteOf}
-use Rattle.run.proofs.Public.{fit, state-is-run}
-use Rattle.sets.specs.Promises.{questions}
-use Rattle.sets.specs.Slices.{fbqsOf}
-use Rattle.table.proofs.SetCheck.{set-table}
-use Rattle.table.specs.Table.{sites, setCheck, Table}
+use Rattle.run.proofs.Public.{is-checked, state-is-run}
+use Rattle.sets.proofs.Groups.{set-checked}
+use Rattle.sets.specs.Groups.{Groups, sitesOf, fbqsIn, Checked, setCheck, questions}
 use Rattle.votes.proofs.AnyVote.{run-keeps}
 use Rattle.votes.specs.Call.{Call}
 use Rattle.votes.specs.Vote.{step, ifTaken, fresh, runOf}
 use Rattle.voting.specs.Step.{soundCheck, stepInto}
 
--- of the run of a table in memory
-pub table-agrees : {t : List ℕ} {n : ℕ} → Table t n → (F : ℕ) → Premises (fbqsOf t n) F → (l : List Call) → Agreed n F (runOf (voteOf t n F) l .state)
-table-agrees {t} {n} T F P l =
-    let R = table-rests T in
-    good-agreed R F P (run-keeps (voteOf t n F) (lawful T F) l (Good R F P) (λ c m. good-step R F P c) (good-fresh R F P))
+-- of the run of a checked table
+pub table-agrees : (t : Groups) → Checked t → (F : ℕ) → Premises (fbqsIn t) F → (l : List Call) → Agreed (sitesOf t) F (runOf (voteOf t F) l .state)
+table-agrees t c F P l =
+    let R = table-rests t c in
+    good-agreed R F P (run-keeps (voteOf t F) (table-vote t c F) l (Good R F P) (λ d m. good-step R F P d) (good-fresh R F P))
 
 pub run-agrees : RunAgrees
 run-agrees t F list state answers p T P =
-    subst (Agreed (sites (length t)) F) (sym (state-is-run T)) (table-agrees (fit T .table) F P (calls list))
+    subst (Agreed (sitesOf t) F) (sym (state-is-run T)) (table-agrees t (is-checked T) F P (calls list))
 
 fresh-agreed : (n F : ℕ) → Agreed n F (fresh (width n))
 fresh-agreed n F = record { no-two = λ v w f k h. absurd (fresh-none n (confirmed n 0) h); none-both = λ v f h. absurd (fresh-none n (confirmed n 0) h) }
 
-module _ (t : List ℕ) (F : ℕ) (P : Premises (fbqsOf t (sites (length t))) F) where
+module _ (t : Groups) (F : ℕ) (P : Premises (fbqsIn t) F) where
   abbrev n : ℕ
-  n = sites (length t)
+  n = sitesOf t
 
   -- the public step leaves what the step of the rules leaves, or the state as it was
   module _ (e : setCheck t F ≡ Sound) where
-    R : Rests (λ v. fbqsOf t n) (questions t) n
-    R = table-rests (set-table t F e)
+    R : Rests (λ v. fbqsIn t) (questions t) n
+    R = table-rests t (set-checked t F e)
 
     into-good : (c : Call) (s : List ℕ) → Good R F P s → Good R F P (stepInto t F c s)
     unfolding stepInto
     into-good c s g = go (soundCheck t F s)
       where
-        go : (q : Check) → Good R F P (ifTaken q (step (voteOf t n F) c s) s)
+        go : (q : Check) → Good R F P (ifTaken q (step (voteOf t F) c s) s)
         go Sound = good-step R F P c s g
         go (Refused r) = g
 

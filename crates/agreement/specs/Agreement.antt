@@ -2,7 +2,6 @@
 -- ⟨V, Q⟩ that enjoys quorum intersection. If two correct servers v₁ and v₂ confirm statements a and ā respectively, then no intact server exists."
 use Prim.Native.Nat.{ℕ}
 use mathlib.Core.List.{List, [], _∷_}
-use lib.ListN.{length}
 use Rattle.masks.specs.Mask.{_∈_}
 use Rattle.rules.specs.State.{confirmed, width, get}
 use Rattle.run.specs.Theorems.{Taken, endState}

@@ -4,7 +4,6 @@ use mathlib.Core.Bool.{Bool, true, false, _&&_, not}
 use mathlib.Core.List.{List, [], _∷_, _++_}
 use mathlib.Core.Path.{_≡_}
 use lib.Dec.{eqb}
-use lib.ListN.{length}
 use Rattle.ground.specs.Search.{some, every, least}
 use Rattle.masks.specs.Mask.{has, within, minus, gather}
 use Rattle.rules.specs.Rules.{accepting, confirming, nowAccepts, nowConfirms, hears, taken, outOfRange, crooked, against, unsent, answer}

@@ -1,13 +1,12 @@
 -- The ways out of a verdict on a table: one law for each.
 use Prim.Native.Nat.{ℕ}
 use mathlib.Core.Bool.{Bool, true, false}
-use mathlib.Core.List.{List}
 use mathlib.Core.Path.{_≡_, refl, _∙_}
 use native.Mathlib.Omega.{arith}
 use Rattle.refusal_lines.specs.Refused.{refused}
 use Rattle.masks.proofs.Laws.Subsets.{minus-⊆, ⊆-within}
 use Rattle.masks.specs.Mask.{allBelow, minus}
-use Rattle.questions.specs.Answers.{sitesOf, verdictCheck, toGreatest, toSharing, toStanding}
+use Rattle.questions.specs.Answers.{verdictCheck, toGreatest, toSharing, toStanding}
 use Rattle.questions.specs.Answers as Answers
 use Rattle.questions.specs.declared.Greatest.{Greatest}
 use Rattle.questions.specs.declared.Standing.{Standing}
@@ -18,11 +17,10 @@ use Rattle.refusals.specs.declared.Refusal.{Refusal}
 use Rattle.judged_text.specs.Inner.{met}
 use Rattle.judged_text.specs.Judged.{judgedText}
 use Rattle.verdict_lines.specs.Verdict.{sevenLines}
+use Rattle.sets.proofs.Groups.{set-checked, no-outsider}
+use Rattle.sets.specs.Groups.{Groups, sitesOf, slicesIn, groupsCheck, Checked, setCheck}
 use Rattle.sets.specs.Quorum as Quorum
-use Rattle.sets.specs.Slices.{slicesOf}
 use Rattle.verdicts.specs.Verdicts as Verdicts
-use Rattle.table.proofs.SetCheck.{set-sound}
-use Rattle.table.specs.Table.{check, setCheck}
 
 standing-taken : (s : Check) (q m : ℕ) → Standing.Intact m ≡ toStanding s q → (s ≡ Sound) × (m ≡ q)
 standing-taken Sound q m h = (refl, cc)
@@ -45,28 +43,27 @@ shared-met Sound true p q e = refl
 shared-met Sound false p q e = refl
 shared-met (Refused r) b p q e = let z : _≡_ {A = ℕ} 0 1 = cc in absurd (omega arith)
 
-module _ (t : List ℕ) (F : ℕ) where
+module _ (t : Groups) (F : ℕ) where
   pub judged-refused : (r : Refusal) → Standing.Refused r ≡ Answers.intact t F → refused r ≡ judgedText F t
   unfolding judgedText Answers.intact
-  judged-refused r h = rw (standing-stopped (verdictCheck t (setCheck t F)) (Verdicts.intact (slicesOf t) (sitesOf t) F) r h) refl
+  judged-refused r h = rw (standing-stopped (verdictCheck t (setCheck t F)) (Verdicts.intact (slicesIn t) (sitesOf t) F) r h) refl
 
   module _ (m : ℕ) (h : Standing.Intact m ≡ Answers.intact t F) where
-    pub judged : (verdictCheck t (setCheck t F) ≡ Sound) × (m ≡ Verdicts.intact (slicesOf t) (sitesOf t) F)
+    pub judged : (verdictCheck t (setCheck t F) ≡ Sound) × (m ≡ Verdicts.intact (slicesIn t) (sitesOf t) F)
     unfolding Answers.intact
-    judged = standing-taken (verdictCheck t (setCheck t F)) (Verdicts.intact (slicesOf t) (sitesOf t) F) m h
+    judged = standing-taken (verdictCheck t (setCheck t F)) (Verdicts.intact (slicesIn t) (sitesOf t) F) m h
 
-    table-sound : check t ≡ Sound
-    unfolding setCheck
-    table-sound = orElse-sound (check t) _ (orElse-sound (setCheck t F) _ (judged .0) .0) .0
+    table-sound : Checked t
+    table-sound = set-checked t F (orElse-sound (setCheck t F) _ (judged .0) .0)
 
     -- whether every two quorums meet, by the question of shared sites
-    pub meets-is : (meet : Bool) → meet ≡ met (Answers.shared t) → meet ≡ Verdicts.meets (slicesOf t .inside) (sitesOf t)
+    pub meets-is : (meet : Bool) → meet ≡ met (Answers.shared t) → meet ≡ Verdicts.meets (slicesIn t .inside) (sitesOf t)
     unfolding Answers.shared
     meets-is meet y =
-        let s = slicesOf t .inside in
+        let s = slicesIn t .inside in
         let p = Verdicts.firstApart s (sitesOf t) in
-        let v : verdictCheck t (check t) ≡ Sound = rw table-sound (orElse-sound (setCheck t F) _ (judged .0) .1) in
-        y ∙ shared-met (verdictCheck t (check t)) (Verdicts.meets s (sitesOf t)) p (Verdicts.beside s (sitesOf t) p) v
+        let v : verdictCheck t (groupsCheck t) ≡ Sound = rw table-sound (orElse-sound (setCheck t F) _ (judged .0) .1) in
+        y ∙ shared-met (verdictCheck t (groupsCheck t)) (Verdicts.meets s (sitesOf t)) p (Verdicts.beside s (sitesOf t) p) v
 
     -- the sites outside F, as the code has them
     module _ (n others : ℕ) (en : n ≡ sitesOf t) (eo : others ≡ minus (allBelow n) F) where
@@ -74,8 +71,8 @@ module _ (t : List ℕ) (F : ℕ) where
       rest = rw en at eo
 
       others-sound : setCheck t others ≡ Sound
-      others-sound =
-          set-sound t others table-sound (rw rest (⊆-within (minus-⊆ (allBelow (sitesOf t)) F)))
+      unfolding setCheck
+      others-sound = rw table-sound (no-outsider (sitesOf t) others (rw rest (⊆-within (minus-⊆ (allBelow (sitesOf t)) F))))
 
       pub others-taken : (r : Refusal) → Greatest.Refused r ≡ Answers.largest t others → ⊥
       unfolding Answers.largest
@@ -85,6 +82,6 @@ module _ (t : List ℕ) (F : ℕ) where
           → sevenLines F n meet m q k ≡ judgedText F t
       unfolding judgedText Answers.largest
       judged-is q k meet e y =
-          let s = slicesOf t .inside in
+          let s = slicesIn t .inside in
           let g = greatest-taken (setCheck t others) (Quorum.largest s (sitesOf t) others) (Quorum.rounds s (sitesOf t) others) q k others-sound e in
           rw (judged .0, judged .1, g .0, g .1, rest, en, meets-is meet y) refl

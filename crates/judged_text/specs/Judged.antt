@@ -1,7 +1,6 @@
 -- The verdict of a table: "n; F; `yes` or `no` for shared sites; intact set; befouled set; largest quorum outside F; its rounds."
 use Prim.Native.Nat.{ℕ}
 use mathlib.Core.List.{List}
-use lib.ListN.{length}
 use Rattle.refusal_lines.specs.Refused.{refused}
 use Rattle.masks.specs.Mask.{allBelow, minus}
 use Rattle.questions.specs.Answers.{verdictCheck}

@@ -5,6 +5,7 @@ ghost use lib.ListN.{length};
 ghost use Rattle.text.specs.Written.{Writes};
 ghost use Rattle.judged_text.specs.Inner.{met};
 ghost use Rattle.judged_text.specs.Judged.{judgedText};
+ghost use Rattle.sets.specs.Groups.{lists};
 use questions::Greatest;
 use questions::Sharing;
 use questions::Standing;
@@ -28,7 +29,7 @@ pub fn judge(table: &[u64], sites: u64, faulty: u64, room: &mut [u8]) -> usize
     requires { ⌜ 300 ≤ length (now room) ⌝ }
     requires { ⌜ length (now table) ≡ 63 * sites ⌝ }
     requires { ⌜ sites ≤ 64 ⌝ }
-    ensures { λ r. ⌜ Writes (judgedText faulty (now (table .entry))) (now (room .entry)) 0 r (now (room .exit)) ⌝ }
+    ensures { λ r. ⌜ Writes (judgedText faulty (lists (now (table .entry)))) (now (room .entry)) 0 r (now (room .exit)) ⌝ }
 {
     let standing = verdict_questions::intact(table, faulty);
     match standing {

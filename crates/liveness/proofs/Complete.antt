@@ -10,14 +10,14 @@ use borrow.Author.Tests.{eq-eqb, ne-eqb}
 use Rattle.ground.proofs.Every.{every-of, every-at}
 use Rattle.ground.proofs.Logic.{and-l, and-r, and-i, clash, not-t, is-false}
 use Rattle.ground.proofs.Numbers.{same?}
-use Rattle.liveness.proofs.Liveness.{all-below, is-table, rests, at-rest}
+use Rattle.liveness.proofs.Liveness.{site-below, rests, at-rest}
 use Rattle.liveness.proofs.Spread.{hears-listed}
 use Rattle.liveness.specs.Complete.{AllSuffice, HeardIsListed, lacks, isComplete, CompleteDecided}
 use Rattle.liveness.specs.Liveness.{accept, Complete}
 use Rattle.masks.proofs.Laws.Single.{∈-eq}
 use Rattle.masks.proofs.Laws.Subsets.{mem}
 use Rattle.masks.specs.Mask.{has, _∈_}
-use Rattle.pass.proofs.Lawful.{lawful}
+use Rattle.pass.proofs.Lawful.{table-vote}
 use Rattle.pass.specs.Calls.{calls}
 use Rattle.rules.proofs.Alone.{same-accepts}
 use Rattle.rules.proofs.Answer.{Takes, step-cases}
@@ -30,12 +30,12 @@ use Rattle.rules.specs.Sound.{Sound}
 use Rattle.rules.specs.State.{accepts, width, get}
 use Rattle.rules.specs.Theorems.{Rests}
 use Rattle.rules.specs.Vote.{vote}
-use Rattle.run.proofs.Public.{state-is-run}
+use Rattle.run.proofs.Public.{is-checked, state-is-run}
 use Rattle.same_calls.proofs.Listed.{whole, has-mem, mem-has}
 use Rattle.same_calls.specs.Same.{hasCall}
+use Rattle.sets.specs.Groups.{fbqsIn, slicesIn, sitesOf}
 use Rattle.sets.specs.Paper.{Fbqs, Intact}
 use Rattle.sets.specs.Promises.{Questions}
-use Rattle.sets.specs.Slices.{fbqsOf, slicesOf}
 use Rattle.verdicts.proofs.Decides.{table-verdicts}
 use Rattle.verdicts.specs.Verdicts.{intact}
 use Rattle.votes.proofs.AnyVote.{run-keeps}
@@ -44,8 +44,8 @@ use Rattle.votes.specs.Inner.{Lawful}
 use Rattle.votes.specs.Vote.{fresh, step, runOf}
 
 pub all-suffice : AllSuffice
-all-suffice t n F side l acc A u v I J ne a =
-    A u v (all-below n u (I .site)) (all-below n v (J .site)) (λ f. I .outside (I .contains .each u f)) (λ f. J .outside (J .contains .each v f)) ne
+all-suffice t F side l acc A u v I J ne a =
+    A u v (site-below t u (I .site)) (site-below t v (J .site)) (λ f. I .outside (I .contains .each u f)) (λ f. J .outside (J .contains .each v f)) ne
 
 -- what a site has heard from another stands in the list
 module _ {S : Fbqs} {Q : Questions} {n : ℕ} (R : Rests (λ v. S) Q n) (F : ℕ) (l : List Call) where
@@ -77,7 +77,7 @@ module _ {S : Fbqs} {Q : Questions} {n : ℕ} (R : Rests (λ v. S) Q n) (F : ℕ
 
 pub heard-is-listed : HeardIsListed
 heard-is-listed t F list state answers p side u v hs T hv f ne a = (
-  λ h. run-said (rests T) F (calls list) (lawful (is-table T) F) hs hv ne (subst (λ (s : List ℕ). u ∈ get s (accepts side v)) (state-is-run T) h),
+  λ h. run-said (rests T) F (calls list) (table-vote t (is-checked T) F) hs hv ne (subst (λ (s : List ℕ). u ∈ get s (accepts side v)) (state-is-run T) h),
   λ m. hears-listed (at-rest T) hs hv f a m,
 )
 
@@ -118,9 +118,9 @@ module _ (Among : ℕ → Type 0) (n among side : ℕ) (list : List ℕ) (four :
           (λ a b c d. mem-has list four 2 u v side (C u v (f u (mem c)) (f v (mem d)) (λ q. clash (eq-eqb u v q) (not-t (eqb u v) a)) (mem b)))
 
 pub complete-decided : CompleteDecided
-complete-decided t n F side list acc M w =
-    let D = table-verdicts t n M in
-    let m = intact (slicesOf t) n F in (
-      test-complete (Intact (fbqsOf t n) F) n m side list (whole (length list) w) acc (λ u I. (all-below n u (I .site), D .intact-set F u .1 I)),
-      complete-test (Intact (fbqsOf t n) F) n m side list (whole (length list) w) acc (λ u. D .intact-set F u .0),
+complete-decided t F side list acc M w =
+    let D = table-verdicts t M in
+    let m = intact (slicesIn t) (sitesOf t) F in (
+      test-complete (Intact (fbqsIn t) F) (sitesOf t) m side list (whole (length list) w) acc (λ u I. (site-below t u (I .site), D .intact-set F u .1 I)),
+      complete-test (Intact (fbqsIn t) F) (sitesOf t) m side list (whole (length list) w) acc (λ u. D .intact-set F u .0),
     )

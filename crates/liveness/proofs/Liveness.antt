@@ -2,54 +2,49 @@
 use Prim.Native.Nat.{ℕ, _<_}
 use mathlib.Core.List.{List}
 use mathlib.Core.Logic.{inl, inr, ⊎-elim}
-use mathlib.Core.Path.{_≡_, refl, sym, _∙_}
+use mathlib.Core.Path.{_≡_, refl, sym, subst, _∙_}
 use native.Mathlib.Omega.{arith}
-use lib.ListN.{length}
 use lib.Pow.{ones-lt}
 use borrow.Author.Tests.{le-ltb}
 use Rattle.agreement.proofs.Agreement.{run-agrees}
 use Rattle.ground.proofs.Logic.{is-false}
 use Rattle.liveness.proofs.Spread.{AtRest, spreads}
-use Rattle.liveness.specs.Liveness.{CompleteRun, Confirmed, endMark, RunSpreads, OneMark, SpreadsOutside}
+use Rattle.liveness.specs.Liveness.{Complete, accepters, CompleteRun, Confirmed, endMark, RunSpreads, OneMark, SpreadsOutside}
 use Rattle.mark.specs.Mark.{mark}
 use Rattle.masks.proofs.Laws.Single.{in?}
 use Rattle.masks.proofs.Laws.Subsets.{mem, ∈-below, minus-⊆, ∈-minus, minus-not-in}
 use Rattle.masks.specs.Mask.{has, minus, allBelow, _∈_, _⊆_}
-use Rattle.pass.proofs.Lawful.{lawful}
+use Rattle.pass.proofs.Lawful.{table-vote}
 use Rattle.pass.specs.Calls.{calls}
 use Rattle.rules.proofs.SoundLaws.{confirmed-correct}
 use Rattle.rules.proofs.WorkWays.{table-rests}
 use Rattle.rules.specs.State.{confirmed, get}
 use Rattle.rules.specs.Theorems.{Rests}
 use Rattle.rules.specs.Vote.{voteOf}
-use Rattle.run.proofs.Public.{fit, end-sound, the-run}
+use Rattle.run.proofs.Public.{is-checked, end-sound, the-run}
 use Rattle.run.specs.Theorems.{Taken, endState}
-use Rattle.sets.proofs.Decides.{table-is-fbqs}
+use Rattle.sets.proofs.Groups.{sites-in, few-in, table-is-fbqs}
+use Rattle.sets.specs.Groups.{Groups, sitesOf, fbqsIn, questions}
 use Rattle.sets.specs.Paper.{Fbqs, Dispensable, Intact}
-use Rattle.sets.specs.Promises.{questions}
-use Rattle.sets.specs.Slices.{fbqsOf}
-use Rattle.table.specs.Table.{sites, Table}
 use Rattle.votes.proofs.AnyVote.{pass-each}
 
-pub all-below : (n v : ℕ) → v ∈ allBelow n → v < n
-all-below n v = ∈-below (ones-lt n)
+-- a table's sites are those below n, with those of B or without
+pub site-below : (t : Groups) (v : ℕ) → v ∈ fbqsIn t .sites → v < sitesOf t
+site-below t v h = ∈-below (ones-lt (sitesOf t)) (subst (λ (x : ℕ). v ∈ x) (sites-in t) h)
+
+below-site : (t : Groups) (B v : ℕ) → v ∈ minus (allBelow (sitesOf t)) B → v ∈ minus (fbqsIn t .sites) B
+below-site t B v = subst (λ (x : ℕ). v ∈ minus x B) (sym (sites-in t))
 
 -- what a taken run has shown of its table, and its end
-module _ {t : List ℕ} {F : ℕ} {list state answers : List ℕ} {p : ℕ} (T : Taken t F list state answers p) where
-  abbrev n : ℕ
-  n = sites (length t)
+module _ {t : Groups} {F : ℕ} {list state answers : List ℕ} {p : ℕ} (T : Taken t F list state answers p) where
+  pub rests : Rests (λ v. fbqsIn t) (questions t) (sitesOf t)
+  rests = table-rests t (is-checked T)
 
-  pub is-table : Table t (sites (length t))
-  is-table = fit T .table
-
-  pub rests : Rests (λ v. fbqsOf t (sites (length t))) (questions t) (sites (length t))
-  rests = table-rests is-table
-
-  pub at-rest : AtRest (questions t) (sites (length t)) F (calls list) (endState t F list state p)
+  pub at-rest : AtRest (questions t) (sitesOf t) F (calls list) (endState t F list state p)
   at-rest = record {
     sound = end-sound T;
     still =
-        pass-each (voteOf t n F) (lawful is-table F) (calls list) (endState t F list state p) (end-sound T)
+        pass-each (voteOf t F) (table-vote t (is-checked T) F) (calls list) (endState t F list state p) (end-sound T)
         (the-run t F list state answers p T .last-still);
   }
 
@@ -62,12 +57,14 @@ pub run-spreads : RunSpreads
 run-spreads t F list state answers p side hs X w v h I =
     let D = I .dispensable in
     let f = I .contains in
-    spreads (rests (X .ran)) (table-is-fbqs t (sites (length t)) (is-table (X .ran))) (all-below (sites (length t))) (at-rest (X .ran)) hs D f
+    spreads (rests (X .ran)) (table-is-fbqs t (is-checked (X .ran))) (site-below t) (at-rest (X .ran)) hs D f
     (λ a b ha hb. X .complete a b (outside D f ha) (outside D f hb)) (inl (X .shared)) h (∈-minus (I .site) (I .outside))
 
 pub spreads-outside : SpreadsOutside
 spreads-outside t F list state answers p side B hs T D f C w v hw hv h =
-    spreads (rests T) (table-is-fbqs t (sites (length t)) (is-table T)) (all-below (sites (length t))) (at-rest T) hs D f C (inr hw) h hv
+    spreads (rests T) (table-is-fbqs t (is-checked T)) (site-below t) (at-rest T) hs D f
+    (subst (λ (x : ℕ). Complete (λ u. u ∈ minus x B) side (calls list) (accepters t F list state p side)) (sym (sites-in t)) C)
+    (inr (below-site t B w hw)) h (below-site t B v hv)
 
 -- the mark, from the two masks
 mark-drill : {v d x : ℕ} → v < 64 → v ∈ d → (v ∈ x → ⊥) → mark v d x ≡ 1
@@ -78,23 +75,23 @@ mark-live : {v d : ℕ} (x : ℕ) → v < 64 → (v ∈ d → ⊥) → mark v d 
 unfolding mark
 mark-live {v} {d} x l f = rw (le-ltb 63 v (omega arith), is-false (has d v) (λ e. f (mem e))) refl
 
-module _ {t : List ℕ} {F : ℕ} {list state answers : List ℕ} {p : ℕ} (X : CompleteRun t F list state answers p 0) where
-  small : {v : ℕ} → Intact (fbqsOf t (sites (length t))) F v → v < 64
-  small {v} I = omega (arith, is-table (X .ran) .few-sites, all-below (sites (length t)) v (I .site))
+module _ {t : Groups} {F : ℕ} {list state answers : List ℕ} {p : ℕ} (X : CompleteRun t F list state answers p 0) where
+  small : {v : ℕ} → Intact (fbqsIn t) F v → v < 64
+  small {v} I = omega (arith, few-in t (is-checked (X .ran)), site-below t v (I .site))
 
-  drill : (w v : ℕ) → Confirmed t F list state p 0 w → Intact (fbqsOf t (sites (length t))) F v → endMark t F list state p v ≡ 1
+  drill : (w v : ℕ) → Confirmed t F list state p 0 w → Intact (fbqsIn t) F v → endMark t F list state p v ≡ 1
   drill w v h I =
       let k : Confirmed t F list state p 0 v = run-spreads t F list state answers p 0 (omega arith) X w v h I in
       let A = run-agrees t F list state answers p (X .ran) (record { shared = X .shared; site = v; intact = I }) in
       mark-drill (small I) k (λ b. A .none-both v (confirmed-correct (end-sound (X .ran)) (omega arith) k) k b)
 
-  one : (v w : ℕ) → Intact (fbqsOf t (sites (length t))) F v → Intact (fbqsOf t (sites (length t))) F w →
+  one : (v w : ℕ) → Intact (fbqsIn t) F v → Intact (fbqsIn t) F w →
       endMark t F list state p v ≡ endMark t F list state p w
   one v w I J =
       ⊎-elim (λ h. drill v v h I ∙ sym (drill v w h J))
       (λ f. ⊎-elim (λ h. drill w v h I ∙ sym (drill w w h J)) (λ g. mark-live _ (small I) f ∙ sym (mark-live _ (small J) g))
-      (in? w (get (endState t F list state p) (confirmed (sites (length t)) 0))))
-      (in? v (get (endState t F list state p) (confirmed (sites (length t)) 0)))
+      (in? w (get (endState t F list state p) (confirmed (sitesOf t) 0))))
+      (in? v (get (endState t F list state p) (confirmed (sitesOf t) 0)))
 
 pub one-mark : OneMark
 one-mark t F list state answers p X = record { one = one X; drill = drill X }

@@ -4,7 +4,6 @@
 use Prim.Native.Nat.{ℕ, _<_}
 use mathlib.Core.List.{List, List·Memᴰ}
 use mathlib.Core.Path.{_≡_}
-use lib.ListN.{length}
 use Rattle.mark.specs.Mark.{mark}
 use Rattle.masks.specs.Mask.{minus, allBelow, _∈_, _⊆_}
 use Rattle.pass.specs.Calls.{calls}

@@ -4,7 +4,7 @@ use mathlib.Core.Bool.{Bool, true, false, _&&_, not}
 use mathlib.Core.List.{List, [], _∷_, _++_}
 use mathlib.Core.Path.{_≡_}
 use lib.Dec.{eqb}
-use lib.ListN.{length, replicate}
+use lib.ListN.{replicate}
 use Rattle.ground.specs.Search.{some, every, least}
 use Rattle.liveness.specs.Complete.{isComplete, lacks}
 use Rattle.liveness.specs.Liveness.{CompleteRun, Confirmed, endMark}
@@ -15,7 +15,7 @@ use Rattle.run.specs.Examples.{tableA, tableB, tableApart, all}
 use Rattle.run.specs.Run.{theRun}
 use Rattle.run.specs.Theorems.{Taken}
 use Rattle.same_calls.specs.Same.{isCall, hasCall}
-use Rattle.sets.specs.Groups.{fbqsIn}
+use Rattle.sets.specs.Groups.{fbqsIn, slicesIn}
 use Rattle.sets.specs.Paper.{Intersection, Intact}
 use Rattle.sets.specs.Promises.{questionsOf}
 use Rattle.sets.specs.Quorum.{quorum, round, left, dropping, largest}
@@ -76,15 +76,15 @@ edges =
     let toldEnd = theRun tableA 8 told .state in
     let shortEnd = theRun tableB 8 shortList .state in
     -- slices 3; 3; 12; 12, nobody faulty: all are intact, the list is complete, sites 0 and 1 alone confirm; but the table does not meet
-    eqb (intact (slicesOf tableApart) 4 0) 15
+    eqb (intact (slicesIn tableApart) 4 0) 15
     ∷ isComplete 4 15 0 apart (get apartEnd (accepted 4 0))
     ∷ eqb (get apartEnd (confirmed 4 0)) 3
-    ∷ not (meets (slicesOf tableApart .inside) 4)
+    ∷ not (meets (slicesIn tableApart .inside) 4)
     -- A with F = 8: the table meets, the list is complete, the intact sites 0, 1 and 2 confirm; site 4 is correct, would be intact with F = 0, hears each
     -- of them, and does not confirm
-    ∷ meets (slicesOf tableA .inside) 5
-    ∷ eqb (intact (slicesOf tableA) 5 8) 7
-    ∷ eqb (intact (slicesOf tableA) 5 0) 31
+    ∷ meets (slicesIn tableA .inside) 5
+    ∷ eqb (intact (slicesIn tableA) 5 8) 7
+    ∷ eqb (intact (slicesIn tableA) 5 0) 31
     ∷ isComplete 5 7 0 told (get toldEnd (accepted 5 0))
     ∷ eqb (get toldEnd (confirmed 5 0)) 7
     -- B with F = 8: the list that lacks one accept of drill is complete for live, and lacks the accept of site 0 to site 1 alone

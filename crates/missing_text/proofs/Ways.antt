@@ -19,7 +19,7 @@ use Rattle.lines.proofs.Lengths.{length-line}
 use Rattle.missing_text.specs.Inner.{linesOf, tableText}
 use Rattle.missing_text.specs.MissingText.{unmet, lackingLines, missingCheck, missingText}
 use Rattle.questions.specs.Answers as Answers
-use Rattle.questions.specs.Answers.{sitesOf, verdictCheck}
+use Rattle.questions.specs.Answers.{verdictCheck}
 use Rattle.questions.specs.declared.Standing.{Standing}
 use Rattle.refusal_lines.specs.Refused.{explained}
 use Rattle.refusals.proofs.First.{orElse-sound, kept}
@@ -29,8 +29,7 @@ use Rattle.rules.specs.State.{accepted, width, get}
 use Rattle.run_text.proofs.Ended.{ran-stopped, whole, ended-state}
 use Rattle.run.specs.Run.{runCheck, theRun, ran, stateInto}
 use Rattle.run.specs.declared.Ran.{Ran}
-use Rattle.sets.specs.Slices.{slicesOf}
-use Rattle.table.specs.Table.{sites, setCheck}
+use Rattle.sets.specs.Groups.{Groups, lists, sitesOf, slicesIn, setCheck}
 use Rattle.text.specs.Text.{ascii}
 use Rattle.verdicts.specs.Verdicts as Verdicts
 
@@ -40,15 +39,16 @@ length-unmet true = omega arith
 length-unmet false = omega (arith, length-line (ascii "meet ") (ascii "no"))
 
 -- where a verdict is given there are at most 12 sites
-pub few-sites : (t : List ℕ) (F n m : ℕ) → length t ≡ 63 * n → Standing.Intact m ≡ Answers.intact t F → n ≤ 12
+pub few-sites : (t : List ℕ) (F n m : ℕ) → length t ≡ 63 * n → Standing.Intact m ≡ Answers.intact (lists t) F → n ≤ 12
 few-sites t F n m e h =
-    omega (arith, e, ltb-false 12 (sitesOf t) (kept (ltb 12 (sitesOf t)) Large (orElse-sound (setCheck t F) _ (judged t F m h .0) .1)))
+    let many = sitesOf (lists t) in
+    omega (arith, e, ltb-false 12 many (kept (ltb 12 many) Large (orElse-sound (setCheck (lists t) F) _ (judged (lists t) F m h .0) .1)))
 
 -- on a table that is read
-module _ (t : List ℕ) (F : ℕ) (list : List ℕ) where
+module _ (t : Groups) (F : ℕ) (list : List ℕ) where
   pub verdict-refused : (r : Refusal) → Standing.Refused r ≡ Answers.intact t F → explained r ≡ tableText F t list
   unfolding tableText missingCheck Answers.intact
-  verdict-refused r h = rw (standing-stopped (verdictCheck t (setCheck t F)) (Verdicts.intact (slicesOf t) (sitesOf t) F) r h) refl
+  verdict-refused r h = rw (standing-stopped (verdictCheck t (setCheck t F)) (Verdicts.intact (slicesIn t) (sitesOf t) F) r h) refl
 
   module _ (m : ℕ) (h : Standing.Intact m ≡ Answers.intact t F) where
     pub run-refused : (r : Refusal) → Ran.Refused r ≡ ran t F list 262 4096 → explained r ≡ tableText F t list
@@ -78,8 +78,8 @@ module _ (F : ℕ) (image list : List ℕ) where
   image-stopped r h = rw (image-refused image r h) refl
 
   pub image-taken : (n : ℕ) (t room : List ℕ) → read image 4032 ≡ Reading.Sites n → t ≡ take (63 * n) (readInto (Reading.Sites n) image room)
-      → tableText F t list ≡ missingText F image list
+      → tableText F (lists t) list ≡ missingText F image list
   unfolding missingText tableText readInto
   image-taken n t room h e =
       let s = image-sound image n h in
-      ap (λ (x : List ℕ). tableText F x list) (e ∙ loads-front n image (drop (63 * n) room) ∙ ap (λ (k : ℕ). loads k image) (sym (s .1))) ∙ rw (s .0) refl
+      ap (λ (x : List ℕ). tableText F (lists x) list) (e ∙ loads-front n image (drop (63 * n) room) ∙ ap (λ (k : ℕ). loads k image) (sym (s .1))) ∙ rw (s .0) refl

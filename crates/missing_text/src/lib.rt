@@ -7,6 +7,7 @@ ghost use Rattle.missing_text.specs.Inner.{linesOf, tableText};
 ghost use Rattle.missing_text.specs.MissingText.{unmet, missingText};
 ghost use Rattle.questions.specs.Answers as Answers;
 ghost use Rattle.questions.specs.declared.Standing.the-variants.{Intact};
+ghost use Rattle.sets.specs.Groups.{lists};
 ghost use Rattle.text.specs.Written.{Writes};
 use check_text::ROOM;
 use image::Reading;
@@ -54,8 +55,8 @@ fn missing_run(
 ) -> usize
     requires { ⌜ 196608 ≤ length (now room) ⌝ }
     requires { ⌜ length (now table) ≡ 63 * n ⌝ }
-    requires { ⌜ Intact intact ≡ Answers.intact (now table) faulty ⌝ }
-    ensures { λ r. ⌜ Writes (tableText faulty (now (table .entry)) (now (list .entry))) (now (room .entry)) 0 r (now (room .exit)) ⌝ }
+    requires { ⌜ Intact intact ≡ Answers.intact (lists (now table)) faulty ⌝ }
+    ensures { λ r. ⌜ Writes (tableText faulty (lists (now (table .entry))) (now (list .entry))) (now (room .entry)) 0 r (now (room .exit)) ⌝ }
 {
     let mut state = [0u64; 262];
     let mut answers = [0u8; 4096];
@@ -75,7 +76,7 @@ fn missing_run(
 fn missing_read(table: &[u64], n: usize, faulty: u64, list: &[u8], room: &mut [u8]) -> usize
     requires { ⌜ 196608 ≤ length (now room) ⌝ }
     requires { ⌜ length (now table) ≡ 63 * n ⌝ }
-    ensures { λ r. ⌜ Writes (tableText faulty (now (table .entry)) (now (list .entry))) (now (room .entry)) 0 r (now (room .exit)) ⌝ }
+    ensures { λ r. ⌜ Writes (tableText faulty (lists (now (table .entry))) (now (list .entry))) (now (room .entry)) 0 r (now (room .exit)) ⌝ }
 {
     let standing = verdict_questions::intact(table, faulty);
     match standing {

@@ -18,7 +18,8 @@ use Rattle.rules.specs.Sound.{differ, notZero, notOwn, notRule, notSent, badSid
 use Rattle.rules.specs.State.{votes, accepts, voted, accepted, confirmed, width, get, add}
 use Rattle.rules.specs.Vote.{vote}
 use Rattle.sets.proofs.Slices.{blocked-meets}
-use Rattle.sets.specs.Promises.{Questions, questionsOf, questions}
+use Rattle.sets.specs.Groups.{lists, questions}
+use Rattle.sets.specs.Promises.{Questions, questionsOf}
 use Rattle.sets.specs.Slices.{slicesOf}
 use Rattle.votes.specs.Call.{Call}
 use Rattle.votes.specs.Passes.{run}
@@ -99,20 +100,20 @@ module _ (old new : Questions) (n F : ℕ)
 
 -- of a table: the quorums are the same, and the others of the others are the others
 module _ (t : List ℕ) where
-  same-quorum : (v w : ℕ) → questions t .inQuorum v w ≡ questionsBefore t .inQuorum v w
+  same-quorum : (v w : ℕ) → questions (lists t) .inQuorum v w ≡ questionsBefore t .inQuorum v w
   unfolding questionsOf ownerCounted
   same-quorum v w = refl
 
-  same-blocked : (v b : ℕ) → questions t .blocked v (others b v) ≡ questionsBefore t .blocked v (others b v)
+  same-blocked : (v b : ℕ) → questions (lists t) .blocked v (others b v) ≡ questionsBefore t .blocked v (others b v)
   same-blocked v b = others-as-before t v (others b v) ∙ ap (questionsBefore t .blocked v) (minus-again b (single v))
 
-  same-accepting : (v a b : ℕ) → accepting (questions t) v a b ≡ accepting (questionsBefore t) v a b
+  same-accepting : (v a b : ℕ) → accepting (questions (lists t)) v a b ≡ accepting (questionsBefore t) v a b
   unfolding accepting
   same-accepting v a b = ap₂ _||_ (same-quorum v (bitOr a (others b v))) (same-blocked v b)
 
-  same-confirming : (v b : ℕ) → confirming (questions t) v b ≡ confirming (questionsBefore t) v b
+  same-confirming : (v b : ℕ) → confirming (questions (lists t)) v b ≡ confirming (questionsBefore t) v b
   unfolding confirming
   same-confirming v b = same-quorum v b
 
 pub owner-left-out : OwnerLeftOut
-owner-left-out t n F = nothing-changes (questionsBefore t) (questions t) n F (same-accepting t) (same-confirming t)
+owner-left-out t n F = nothing-changes (questionsBefore t) (questions (lists t)) n F (same-accepting t) (same-confirming t)

@@ -25,17 +25,15 @@ use Rattle.refusals.specs.declared.Check.{Check}
 use Rattle.refusals.specs.declared.Check.the-variants.{Sound}
 use Rattle.refusals.specs.declared.Refusal as Refusal
 use Rattle.rules.specs.State.{accepted, confirmed, width, get}
-use Rattle.run.proofs.Public.{state-is-run}
+use Rattle.run.proofs.Public.{is-checked, state-is-run}
 use Rattle.run.specs.Run.{listMisshapen, runCheck, theRun, toRan, ran}
 use Rattle.run.specs.Theorems.{Taken, endState}
+use Rattle.sets.specs.Groups.{Groups, sitesOf, fbqsIn, slicesIn, setCheck}
 use Rattle.sets.specs.Paper.{Intact}
-use Rattle.sets.specs.Slices.{fbqsOf, slicesOf}
-use Rattle.table.proofs.Table.{sites-of}
-use Rattle.table.specs.Table.{sites, setCheck, Table}
 use Rattle.text.specs.Text.{ascii}
 use Rattle.verdicts.proofs.Decides.{table-verdicts}
 use Rattle.verdicts.specs.Verdicts.{meets, intact}
-use Rattle.published.proofs.Files.{image-table}
+use Rattle.published.proofs.Files.{image-sites}
 use Rattle.published.specs.Union.{EntriesAgree}
 
 -- the lines begin with c only if the table meets and the list is complete for drill
@@ -49,10 +47,10 @@ module _ (n whole : ℕ) (list : List ℕ) (drill : ℕ) (rest : List ℕ) where
   begins-complete e =
       ⊎-elim (λ h. h) (λ h. absurd (missing-begins n whole 0 list drill h rest e)) (cases (isComplete n whole 0 list drill))
 
--- of a run on a table in memory, as the desk has it
-module _ (t : List ℕ) (F : ℕ) (list : List ℕ) (T : Table t (sites (length t))) (c : runCheck t F (length list) (width 64) 4096 ≡ Sound) where
+-- of a run on a table, as the desk has it
+module _ (t : Groups) (F : ℕ) (list : List ℕ) (c : runCheck t F (length list) (width 64) 4096 ≡ Sound) where
   abbrev n : ℕ
-  n = sites (length t)
+  n = sitesOf t
 
   abbrev s : List ℕ
   s = theRun t F list .state
@@ -75,15 +73,15 @@ module _ (t : List ℕ) (F : ℕ) (list : List ℕ) (T : Table t (sites (length 
       let x = orElse-sound (setCheck t F) _ c .1 in
       kept (listMisshapen (length list)) Refusal.Refusal.List (orElse-sound (refuse (listMisshapen (length list)) Refusal.Refusal.List) _ x .0)
 
-  pub one-entry : meets (slicesOf t .inside) n ≡ true → isComplete n (intact (slicesOf t) n F) 0 list (get s (accepted n 0)) ≡ true →
-      (v w : ℕ) → Intact (fbqsOf t n) F v → Intact (fbqsOf t n) F w →
+  pub one-entry : meets (slicesIn t .inside) n ≡ true → isComplete n (intact (slicesIn t) n F) 0 list (get s (accepted n 0)) ≡ true →
+      (v w : ℕ) → Intact (fbqsIn t) F v → Intact (fbqsIn t) F w →
       mark v (get s (confirmed n 0)) (get s (confirmed n 1)) ≡ mark w (get s (confirmed n 0)) (get s (confirmed n 1))
   one-entry m e v w I J =
-      let C = complete-decided t n F 0 list (get s (accepted n 0)) T whole-list .0 e in
+      let C = complete-decided t F 0 list (get s (accepted n 0)) (is-checked ran-desk) whole-list .0 e in
       let M = one-mark t F list (replicate (width 64) 0) (replicate 4096 0) (theRun t F list .passes) (record {
         ran = ran-desk;
-        shared = table-verdicts t n T .meets-decides .0 m;
-        complete = subst (λ (z : List ℕ). Complete (Intact (fbqsOf t n) F) 0 (calls list) (get z (accepted n 0))) (sym ends) C;
+        shared = table-verdicts t (is-checked ran-desk) .meets-decides .0 m;
+        complete = subst (λ (z : List ℕ). Complete (Intact (fbqsIn t) F) 0 (calls list) (get z (accepted n 0))) (sym ends) C;
       }) in
       subst (λ (z : List ℕ). mark v (get z (confirmed n 0)) (get z (confirmed n 1)) ≡ mark w (get z (confirmed n 0)) (get z (confirmed n 1))) ends (M .one v w I J)
 
@@ -91,16 +89,15 @@ pub entries-agree : EntriesAgree
 unfolding missingText missingCheck lackingLines line
 entries-agree F image list rest e c text =
     let t = tableOn image in
-    let T = image-table image e in
-    let same : sites (length t) ≡ sitesOn image = sites-of T in
-    let n = sites (length t) in
-    let whole = intact (slicesOf t) n F in
+    let same : sitesOf t ≡ sitesOn image = image-sites image in
+    let n = sitesOf t in
+    let whole = intact (slicesIn t) n F in
     let drill = get (theRun t F list .state) (accepted n 0) in
     let live = sideLines n whole 1 list (get (theRun t F list .state) (accepted n 1)) in
-    let said : getD (unmet (meets (slicesOf t .inside) n) ++ (sideLines n whole 0 list drill ++ live)) 0 0 ≡ 99 = ap (λ (l : List ℕ). getD l 0 0) (rw (e, c) at text) in
-    let met = begins-met n whole list drill live (meets (slicesOf t .inside) n) said in
+    let said : getD (unmet (meets (slicesIn t .inside) n) ++ (sideLines n whole 0 list drill ++ live)) 0 0 ≡ 99 = ap (λ (l : List ℕ). getD l 0 0) (rw (e, c) at text) in
+    let met = begins-met n whole list drill live (meets (slicesIn t .inside) n) said in
     let complete = begins-complete n whole list drill live (rw met at said) in
-    subst (λ (m : ℕ). (v w : ℕ) → Intact (fbqsOf t m) F v → Intact (fbqsOf t m) F w →
+    subst (λ (m : ℕ). (v w : ℕ) → Intact (fbqsIn t) F v → Intact (fbqsIn t) F w →
     mark v (get (theRun t F list .state) (confirmed m 0)) (get (theRun t F list .state) (confirmed m 1))
     ≡ mark w (get (theRun t F list .state) (confirmed m 0)) (get (theRun t F list .state) (confirmed m 1))) same
-    (one-entry t F list (subst (Table t) (sym same) T) (orElse-sound (verdictCheck t (setCheck t F)) _ c .1) met complete)
+    (one-entry t F list (orElse-sound (verdictCheck t (setCheck t F)) _ c .1) met complete)

@@ -8,21 +8,20 @@ use native.Mathlib.Omega.{arith}
 use borrow.Author.Tests.{eqb-true, le-ltb}
 use lib.Dec.{eqb}
 use lib.ListN.{length, length-append}
-use Rattle.check_text.proofs.Ways.{reads}
+use Rattle.check_text.proofs.Ways.{reads, loaded-sites, loaded}
 use Rattle.check_text.specs.Table.{sitesOn, tableOn, imageCheck}
 use Rattle.ground.proofs.Logic.{cases, and-l, and-r, and-i, clash, is-false, not-t}
 use Rattle.ground.specs.Pieces.{part}
 use Rattle.image_blocks.proofs.Load.{loads-site}
-use Rattle.image.proofs.ReadLaws.{read-taken, blocks-shape, loads-table}
 use Rattle.image_blocks.specs.Image.{loads}
 use Rattle.lines.proofs.Lengths.{length-line}
 use Rattle.lines.specs.Lines.{line}
 use Rattle.mark.specs.Mark.{mark}
 use Rattle.masks.proofs.Laws.AllBelow.{in-all}
-use Rattle.masks.proofs.Laws.Subsets.{mem, ⊆-within, minus-⊆, ∈-minus}
+use Rattle.masks.proofs.Laws.Subsets.{mem, minus-⊆, ∈-minus}
 use Rattle.masks.specs.Mask.{has, allBelow, minus, _∈_, _⊆_}
 use Rattle.outcome.specs.Outcome.{endLines}
-use Rattle.pass.proofs.Lawful.{lawful}
+use Rattle.pass.proofs.Lawful.{table-vote}
 use Rattle.pass.specs.Calls.{calls}
 use Rattle.refusals.specs.declared.Check.the-variants.{Sound}
 use Rattle.register.specs.Register.{worthOf, siteLine}
@@ -31,31 +30,30 @@ use Rattle.rules.specs.State.{accepts, confirmed, get}
 use Rattle.rules.specs.Vote.{voteOf}
 use Rattle.run.specs.Run.{theRun}
 use Rattle.run_text.specs.Run.{runText, ranText}
+use Rattle.sets.proofs.Groups.{few-in, table-exact}
+use Rattle.sets.specs.Groups.{Groups, sitesOf, fbqsIn, slicesIn, Checked}
 use Rattle.sets.specs.Paper.{Intact, Befouled}
 use Rattle.sets.specs.Quorum.{largest, rounds}
-use Rattle.sets.specs.Slices.{fbqsOf, slicesOf}
 use Rattle.site_block.proofs.Load.{load-count, load-slice}
 use Rattle.site_block.specs.Block.{countField, sliceField}
 use Rattle.rows.specs.Site.{count, slice}
-use Rattle.table.proofs.Exact.{exact}
-use Rattle.table.proofs.SetCheck.{set-sound}
-use Rattle.table.proofs.Table.{sites-of}
-use Rattle.table.specs.Table.{countOf, sliceOf, sites, Table}
+use Rattle.table.specs.Table.{countOf, sliceOf}
 use Rattle.text.specs.Text.{ascii, decimal}
 use Rattle.verdict_text.specs.Verdict.{judgedText, verdictText}
 use Rattle.verdicts.proofs.Decides.{table-verdicts}
 use Rattle.verdicts.specs.Verdicts.{meets, intact}
 use Rattle.votes.proofs.AnyVote.{is-run}
-use Rattle.published.proofs.Sets.{largest-inside}
+use Rattle.published.proofs.Sets.{of-proper, largest-inside}
 use Rattle.published.proofs.Voting.{of-state}
 use Rattle.published.specs.Files.{VerdictOf, ReadAsFiled, VerdictAsPublished, RegisterAsPublished, WorthAsPublished}
 use Rattle.published.specs.Voting.{Confirms}
 
-pub image-table : (image : List ℕ) → imageCheck image ≡ Sound → Table (tableOn image) (sitesOn image)
-image-table image e =
-    let x = read-taken image 4032 (sitesOn image) (reads image e) in
-    let s = blocks-shape (length image) (x .0) in
-    loads-table (sitesOn image) image (s .1) (s .2) (x .2)
+-- the table that an image holds has as many sites as there are blocks, and is checked if the image is sound
+pub image-sites : (image : List ℕ) → sitesOf (tableOn image) ≡ sitesOn image
+image-sites image = loaded-sites image (sitesOn image)
+
+pub image-checked : (image : List ℕ) → imageCheck image ≡ Sound → Checked (tableOn image)
+image-checked image e = loaded image (sitesOn image) (reads image e)
 
 module _ (n : ℕ) (image : List ℕ) (v : ℕ) (l : v < n) where
   count-on : countOf (loads n image) v ≡ countField (part 512 v image)
@@ -66,12 +64,13 @@ module _ (n : ℕ) (image : List ℕ) (v : ℕ) (l : v < n) where
 
 pub read-as-filed : ReadAsFiled
 read-as-filed image e =
-    let T = image-table image e in
+    let T = table-exact (tableOn image) .0 (image-checked image e) in
     let n = sitesOn image in (
       T,
+      image-sites image,
       λ v q l.
           let c = count-on n image v l in
-          let few = T .few-slices v l in (
+          let few = T .few-slices v (subst (λ (k : ℕ). v < k) (sym (image-sites image)) l) in (
             λ x. (x .0, subst (λ (k : ℕ). x .0 < k) (sym c) (x .1), x .2 ∙ sym (slice-on n image v l (x .0) (omega (arith, x .1, c, few)))),
             λ x. (x .0, subst (λ (k : ℕ). x .0 < k) c (x .1), x .2 ∙ slice-on n image v l (x .0) (omega (arith, x .1, few))),
           ),
@@ -139,33 +138,33 @@ module _ (n F whole v : ℕ) (f : has F v ≡ false) (l : n ≤ 12) where
       word true e = absurd (differ (sym e))
       word false e = refl
 
--- of a table that was read, of as many sites as its length says
-module _ (t : List ℕ) (F : ℕ) (T : Table t (sites (length t))) where
+-- of a table that was read
+module _ (t : Groups) (F : ℕ) (c : Checked t) where
   abbrev n : ℕ
-  n = sites (length t)
+  n = sitesOf t
 
   drills : (list : List ℕ) (v : ℕ) → v < n → (v ∈ F → ⊥) →
       let s = theRun t F list .state in
-      let whole = intact (slicesOf t) n F in
+      let whole = intact (slicesIn t) n F in
       (siteLine n F whole (get s (confirmed n 0)) (get s (confirmed n 1)) v ≡ line (ascii "site ") (decimal v ++ (ascii " drill" ++ worthOf n F whole v)))
-      ↔ (Confirms (fbqsOf t n) v (get s (accepts 0 v)) × (Confirms (fbqsOf t n) v (get s (accepts 1 v)) → ⊥))
+      ↔ (Confirms (fbqsIn t) v (get s (accepts 0 v)) × (Confirms (fbqsIn t) v (get s (accepts 1 v)) → ⊥))
   drills list v l f =
       let s = theRun t F list .state in
-      let P = of-state (table-rests T) (is-run (voteOf t n F) (lawful T F) (calls list) .1) in
+      let P = of-state (table-rests t c) (is-run (voteOf t F) (table-vote t c F) (calls list) .1) in
       let a = P v 0 l (omega arith) f .1 in
       let b = P v 1 l (omega arith) f .1 in
-      let d = is-drill (get s (confirmed n 0)) (get s (confirmed n 1)) v (omega (arith, T .few-sites)) in
-      let k = drill-line n F (intact (slicesOf t) n F) (get s (confirmed n 0)) (get s (confirmed n 1)) v in (
+      let d = is-drill (get s (confirmed n 0)) (get s (confirmed n 1)) v (omega (arith, few-in t c)) in
+      let k = drill-line n F (intact (slicesIn t) n F) (get s (confirmed n 0)) (get s (confirmed n 1)) v in (
         λ x. let y = d .0 (k .0 x) in (a .0 (y .0), λ z. y .1 (b .1 z)),
         λ x. k .1 (d .1 (a .1 (x .0), λ z. x .1 (b .0 z))),
       )
 
   worths : n ≤ 12 → (v : ℕ) → v < n → (v ∈ F → ⊥) →
-      let whole = intact (slicesOf t) n F in
-      ((worthOf n F whole v ≡ ascii " intact") ↔ Intact (fbqsOf t n) F v) × ((worthOf n F whole v ≡ ascii " befouled") ↔ Befouled (fbqsOf t n) F v)
+      let whole = intact (slicesIn t) n F in
+      ((worthOf n F whole v ≡ ascii " intact") ↔ Intact (fbqsIn t) F v) × ((worthOf n F whole v ≡ ascii " befouled") ↔ Befouled (fbqsIn t) F v)
   worths l v h f =
-      let D = table-verdicts t n T in
-      let whole = intact (slicesOf t) n F in
+      let D = table-verdicts t c in
+      let whole = intact (slicesIn t) n F in
       let g : has F v ≡ false = is-false (has F v) (λ z. f (mem z)) in
       let a = intact-word n F whole v g l in
       let b = befouled-word n F whole v g l in
@@ -175,52 +174,49 @@ module _ (t : List ℕ) (F : ℕ) (T : Table t (sites (length t))) where
         (λ e. o .0 (∈-minus (in-all {n = n} h) (λ z. clash (z .holds) (b .0 e))), λ x. b .1 (is-false (has whole v) (λ z. x .1 (i .0 (mem z))))),
       )
 
-  judged : F ⊆ allBelow n → n ≤ 12 → VerdictOf (fbqsOf t n) n F (judgedText F t)
+  judged : F ⊆ allBelow n → n ≤ 12 → VerdictOf (fbqsIn t) n F (judgedText F t)
   unfolding judgedText
   judged sub l =
-      let D = table-verdicts t n T in
+      let D = table-verdicts t c in
       let w = minus (allBelow n) F in
-      let s = slicesOf t .inside in
+      let s = slicesIn t .inside in
       record {
         meet = meets s n;
-        whole = intact (slicesOf t) n F;
+        whole = intact (slicesIn t) n F;
         quorum = largest s n w;
         rounds = rounds s n w;
-        lines = rw (set-sound t F (exact t .1 T) (⊆-within sub), le-ltb 12 n l) refl;
+        lines = rw (of-proper t F (table-exact t .0 c, sub), le-ltb 12 n l) refl;
         meets = D .meets-decides;
         intact = record { intact-in = D .intact-set F; befouled-rest = D .befouled-set F };
-        outside = largest-inside T w (minus-⊆ (allBelow n) F);
+        outside = largest-inside t c w (minus-⊆ (allBelow n) F);
       }
 
 pub register-as-published : RegisterAsPublished
 unfolding runText ranText
 register-as-published F image list e c =
     let t = tableOn image in
-    let T = image-table image e in
-    let same : sites (length t) ≡ sitesOn image = sites-of T in
+    let same : sitesOf t ≡ sitesOn image = image-sites image in
     let r = theRun t F list in (
-      rw (e, c) (ap (λ (m : ℕ). endLines F m (intact (slicesOf t) m F) (r .passes) (r .state) list (r .answers)) same),
+      rw (e, c) (ap (λ (m : ℕ). endLines F m (intact (slicesIn t) m F) (r .passes) (r .state) list (r .answers)) same),
       subst (λ (m : ℕ). (v : ℕ) → v < m → (v ∈ F → ⊥) →
-          (siteLine m F (intact (slicesOf t) m F) (get (r .state) (confirmed m 0)) (get (r .state) (confirmed m 1)) v
-          ≡ line (ascii "site ") (decimal v ++ (ascii " drill" ++ worthOf m F (intact (slicesOf t) m F) v)))
-          ↔ (Confirms (fbqsOf t m) v (get (r .state) (accepts 0 v)) × (Confirms (fbqsOf t m) v (get (r .state) (accepts 1 v)) → ⊥))) same
-          (drills t F (subst (Table t) (sym same) T) list),
+          (siteLine m F (intact (slicesIn t) m F) (get (r .state) (confirmed m 0)) (get (r .state) (confirmed m 1)) v
+          ≡ line (ascii "site ") (decimal v ++ (ascii " drill" ++ worthOf m F (intact (slicesIn t) m F) v)))
+          ↔ (Confirms (fbqsIn t) v (get (r .state) (accepts 0 v)) × (Confirms (fbqsIn t) v (get (r .state) (accepts 1 v)) → ⊥))) same
+          (drills t F (image-checked image e) list),
     )
 
 pub worth-as-published : WorthAsPublished
 worth-as-published F image e sub l =
     let t = tableOn image in
-    let T = image-table image e in
-    let same : sites (length t) ≡ sitesOn image = sites-of T in
+    let same : sitesOf t ≡ sitesOn image = image-sites image in
     subst (λ (m : ℕ). m ≤ 12 → (v : ℕ) → v < m → (v ∈ F → ⊥) →
-    ((worthOf m F (intact (slicesOf t) m F) v ≡ ascii " intact") ↔ Intact (fbqsOf t m) F v)
-    × ((worthOf m F (intact (slicesOf t) m F) v ≡ ascii " befouled") ↔ Befouled (fbqsOf t m) F v)) same
-    (worths t F (subst (Table t) (sym same) T)) l
+    ((worthOf m F (intact (slicesIn t) m F) v ≡ ascii " intact") ↔ Intact (fbqsIn t) F v)
+    × ((worthOf m F (intact (slicesIn t) m F) v ≡ ascii " befouled") ↔ Befouled (fbqsIn t) F v)) same
+    (worths t F (image-checked image e)) l
 
 pub verdict-as-published : VerdictAsPublished
 unfolding verdictText
 verdict-as-published F image e =
     let t = tableOn image in
-    let T = image-table image e in
-    let same : sites (length t) ≡ sitesOn image = sites-of T in
-    rw e (subst (λ (m : ℕ). F ⊆ allBelow m → m ≤ 12 → VerdictOf (fbqsOf t m) m F (judgedText F t)) same (judged t F (subst (Table t) (sym same) T)))
+    let same : sitesOf t ≡ sitesOn image = image-sites image in
+    rw e (subst (λ (m : ℕ). F ⊆ allBelow m → m ≤ 12 → VerdictOf (fbqsIn t) m F (judgedText F t)) same (judged t F (image-checked image e)))

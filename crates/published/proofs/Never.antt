@@ -29,8 +29,9 @@ use Rattle.run.specs.Run.{runCheck, roomless, listMisshapen}
 use Rattle.site_block.specs.Block.{countField, sliceField, misheaded, blockUnfilled, blockRowCheck, blockCheck}
 use Rattle.rows.specs.Row.{strange, unordered, sliceCheck, rowCheck}
 use Rattle.rows.specs.Site.{count, slice, rowUnfilled, siteCheck}
-use Rattle.table.proofs.SetCheck.{set-table}
-use Rattle.table.specs.Table.{siteOf, sites, tableMisshapen, check, setCheck, sitesCheck}
+use Rattle.sets.proofs.Groups.{few-in, set-checked}
+use Rattle.sets.specs.Groups.{Groups, lists, sitesOf, groupsCheck, outsider, setCheck}
+use Rattle.table.specs.Table.{siteOf, sites, tableMisshapen, check, sitesCheck}
 use Rattle.published.specs.Files.{SevenNever, NineNever}
 
 -- a check whose refusals have other numbers than k
@@ -93,15 +94,19 @@ module _ (k : ℕ) where
     blocks-avoid n image =
         first-avoids (λ i. blockCheck n i i (part 512 i image)) n (λ i. block-avoids n i (part 512 i image))
 
-    table-avoids : (t : List ℕ) (F : ℕ) → Avoids k (setCheck t F)
-    unfolding setCheck check sitesCheck siteCheck
-    table-avoids t F =
+    table-avoids : (t : Groups) → Avoids k (groupsCheck t)
+    unfolding check sitesCheck siteCheck
+    table-avoids (lists t) =
         let n = sites (length t) in
-        orElse-avoids (check t) (refuse (not (within F (allBelow n))) Set)
-        (orElse-avoids (refuse (tableMisshapen (length t)) Length) (sitesCheck n t) (refuse-avoids (tableMisshapen (length t)) Length (other 1 (λ z. omega (arith, z)) (λ z. omega (arith, z))))
+        orElse-avoids (refuse (tableMisshapen (length t)) Length) (sitesCheck n t) (refuse-avoids (tableMisshapen (length t)) Length (other 1 (λ z. omega (arith, z)) (λ z. omega (arith, z))))
         (first-avoids (λ v. siteCheck n v v (siteOf t v)) n
-        (λ v. let m = siteOf t v in row-avoids (sliceCheck n v v (slice m)) v (count m) (rowUnfilled m) (slice-avoids n v v (slice m)))))
-        (refuse-avoids (not (within F (allBelow n))) Set (other 10 (λ z. omega (arith, z)) (λ z. omega (arith, z))))
+        (λ v. let m = siteOf t v in row-avoids (sliceCheck n v v (slice m)) v (count m) (rowUnfilled m) (slice-avoids n v v (slice m))))
+
+    set-avoids : (t : Groups) (F : ℕ) → Avoids k (setCheck t F)
+    unfolding setCheck outsider
+    set-avoids t F =
+        let out = not (within F (allBelow (sitesOf t))) in
+        orElse-avoids (groupsCheck t) (refuse out Set) (table-avoids t) (refuse-avoids out Set (other 10 (λ z. omega (arith, z)) (λ z. omega (arith, z))))
 
 -- the reader: 7
 reading-inv : (n : ℕ) (c : Check) (r : Refusal) → toReading n c ≡ Reading.Reading.Refused r → c ≡ Refused r
@@ -172,16 +177,16 @@ enough : (n many : ℕ) → n ≤ 64 → many ≤ 16384 → roomless n many (wid
 unfolding roomless
 enough n many few short = rw (le-ltb (width 64) (width n) (omega arith), le-ltb 4096 (many / 4) (omega arith)) refl
 
-nine-list : (t : List ℕ) (F : ℕ) (list : List ℕ) → Avoids 9 (runCheck t F (length list) (width 64) 4096)
+nine-list : (t : Groups) (F : ℕ) (list : List ℕ) → Avoids 9 (runCheck t F (length list) (width 64) 4096)
 unfolding runCheck
 nine-list t F list =
-    let n = sites (length t) in
+    let n = sitesOf t in
     let many = length list in
     let room = refuse (roomless n many (width 64) 4096) Room in
-    behind 9 (setCheck t F) (orElse (refuse (listMisshapen many) Refusals.Refusal.List) room) (table-avoids 9 (inr refl) t F)
+    behind 9 (setCheck t F) (orElse (refuse (listMisshapen many) Refusals.Refusal.List) room) (set-avoids 9 (inr refl) t F)
     (λ a. behind 9 (refuse (listMisshapen many) Refusals.Refusal.List) room
     (refuse-avoids 9 (listMisshapen many) Refusals.Refusal.List (λ z. omega (arith, z)))
-    (λ b. let few = set-table t F a .few-sites in
+    (λ b. let few = few-in t (set-checked t F a) in
     let short = few-bytes many (unrefused (listMisshapen many) Refusals.Refusal.List b) in
     subst (λ (x : Bool). Avoids 9 (refuse x Room)) (sym (enough n many few short)) (sound-avoids 9)))
 

@@ -1,17 +1,16 @@
 -- The public answers to set questions are the paper's, both ways: what was asked was proper and the computed answer decides the paper's statement.
 use Prim.Native.Nat.{ℕ, zero, suc, _≤_, _<_}
 use mathlib.Core.Bool.{Bool, true, false, not}
-use mathlib.Core.List.{List}
 use mathlib.Core.Logic.{_⊎_, ⊎-elim}
 use mathlib.Core.Path.{_≡_, refl, sym, ap, _∙_, subst}
 use native.Mathlib.Omega.{arith}
 use borrow.Author.Tests.{lt-ltb, le-ltb}
 use lib.Dec.{ltb}
 use lib.Pow.{ones-lt}
-use Rattle.ground.proofs.Logic.{cases, is-false, clash}
-use Rattle.masks.proofs.Laws.Subsets.{within-⊆, ⊆-within, ⊆-antisym, ⊆-trans, ⊆-zero, ∈-below}
-use Rattle.masks.specs.Mask.{within, allBelow, _∈_, _⊆_}
-use Rattle.questions.specs.Answers.{sitesOf, quorum, largest, blocks, shared, intact, toHolds, toGreatest, toSharing, toStanding, verdictCheck, setSiteCheck}
+use Rattle.ground.proofs.Logic.{is-false, clash}
+use Rattle.masks.proofs.Laws.Subsets.{⊆-within, ⊆-antisym, ⊆-trans, ⊆-zero, ∈-below}
+use Rattle.masks.specs.Mask.{allBelow, _∈_, _⊆_}
+use Rattle.questions.specs.Answers.{quorum, largest, blocks, shared, intact, toHolds, toGreatest, toSharing, toStanding, verdictCheck, setSiteCheck}
 use Rattle.questions.specs.declared.Greatest.the-variants.{Set}
 use Rattle.questions.specs.declared.Holds.the-variants.{Yes, No}
 use Rattle.questions.specs.declared.Sharing as Sharing
@@ -20,36 +19,26 @@ use Rattle.refusals.proofs.First.{orElse-sound, kept}
 use Rattle.refusals.specs.declared.Check.{Check}
 use Rattle.refusals.specs.declared.Check.the-variants.{Sound, Refused}
 use Rattle.refusals.specs.declared.Refusal as Refusal
-use Rattle.sets.proofs.Decides.{table-decides}
-use Rattle.sets.proofs.Lawful.{table-lawful}
+use Rattle.sets.proofs.Groups.{lawful, table-exact, table-decides, set-checked, set-of-sites, no-outsider}
 use Rattle.sets.proofs.Quorum.{round-⊆, round-slice, ∈-round, largest-after, rounds-drop, largest-still}
+use Rattle.sets.specs.Groups.{Groups, sitesOf, fbqsIn, slicesIn, groupsCheck, Checked, setCheck}
 use Rattle.sets.specs.Paper.{Fbqs, Intact}
 use Rattle.sets.specs.Quorum as SetQuorum
-use Rattle.sets.specs.Slices.{fbqsOf, slicesOf}
-use Rattle.table.proofs.Exact.{exact}
-use Rattle.table.proofs.SetCheck.{set-table, set-sound}
-use Rattle.table.specs.Table.{check, setCheck, Table}
 use Rattle.verdicts.proofs.Decides.{table-verdicts}
 use Rattle.verdicts.specs.Decides.{Apart}
 use Rattle.verdicts.specs.Verdicts as Verdicts
 use Rattle.published.specs.Sets.{named, Proper, Round, Rounds, LargestInside, IntactSites, QuorumAsPublished, BlocksAsPublished, LargestAsPublished, SharedAsPublished, IntactAsPublished}
 
 -- what was asked was proper, and the other way
-set-inside : (t : List ℕ) (set : ℕ) → setCheck t set ≡ Sound → set ⊆ allBelow (sitesOf t)
+pub proper-of : (t : Groups) (set : ℕ) → setCheck t set ≡ Sound → Proper t set
+proper-of t set e = (table-exact t .0 (set-checked t set e), set-of-sites t set e)
+
+pub of-proper : (t : Groups) (set : ℕ) → Proper t set → setCheck t set ≡ Sound
 unfolding setCheck
-set-inside t set e =
-    ⊎-elim (λ h. within-⊆ set (allBelow (sitesOf t)) h)
-    (λ h. let z = kept (not (within set (allBelow (sitesOf t)))) Refusal.Refusal.Set (orElse-sound (check t) _ e .1) in absurd (clash (ap not h) z))
-    (cases (within set (allBelow (sitesOf t))))
-
-pub proper-of : (t : List ℕ) (set : ℕ) → setCheck t set ≡ Sound → Proper t set
-proper-of t set e = (set-table t set e, set-inside t set e)
-
-pub of-proper : (t : List ℕ) (set : ℕ) → Proper t set → setCheck t set ≡ Sound
-of-proper t set p = set-sound t set (exact t .1 (p .0)) (⊆-within (p .1))
+of-proper t set p = rw (table-exact t .1 (p .0), no-outsider (sitesOf t) set (⊆-within (p .1))) refl
 
 -- at most twelve sites
-few-sites : (t : List ℕ) (c : Check) → verdictCheck t c ≡ Sound → (c ≡ Sound) × (sitesOf t ≤ 12)
+few-sites : (t : Groups) (c : Check) → verdictCheck t c ≡ Sound → (c ≡ Sound) × (sitesOf t ≤ 12)
 few-sites t c e =
     let x = orElse-sound c _ e in
     (x .0, le-of-not-lt (λ h. clash (lt-ltb 12 (sitesOf t) h) (kept (ltb 12 (sitesOf t)) Refusal.Refusal.Large (x .1))))
@@ -72,22 +61,22 @@ pub quorum-as-published : QuorumAsPublished
 unfolding quorum
 quorum-as-published t set =
     let n = sitesOf t in
-    let b = SetQuorum.quorum (slicesOf t .inside) n set in (
+    let b = SetQuorum.quorum (slicesIn t .inside) n set in (
       (
         λ e. let x = yes-inv (setCheck t set) b e in
             let p = proper-of t set (x .0) in
-            (p, table-decides t n (p .0) .quorum-decides set .0 (x .1)),
-        λ x. rw (of-proper t set (x .0), table-decides t n (x .0 .0) .quorum-decides set .1 (x .1)) refl,
+            (p, table-decides t (table-exact t .1 (p .0)) .quorum-decides set .0 (x .1)),
+        λ x. rw (of-proper t set (x .0), table-decides t (table-exact t .1 (x .0 .0)) .quorum-decides set .1 (x .1)) refl,
       ),
       (
         λ e. let x = no-inv (setCheck t set) b e in
             let p = proper-of t set (x .0) in
-            (p, λ k. clash (table-decides t n (p .0) .quorum-decides set .1 k) (x .1)),
-        λ x. rw (of-proper t set (x .0), is-false b (λ e. x .1 (table-decides t n (x .0 .0) .quorum-decides set .0 e))) refl,
+            (p, λ k. clash (table-decides t (table-exact t .1 (p .0)) .quorum-decides set .1 k) (x .1)),
+        λ x. rw (of-proper t set (x .0), is-false b (λ e. x .1 (table-decides t (table-exact t .1 (x .0 .0)) .quorum-decides set .0 e))) refl,
       ),
     )
 
-site-inside : (t : List ℕ) (set site : ℕ) → setSiteCheck t set site ≡ Sound → Proper t set × (site < sitesOf t)
+site-inside : (t : Groups) (set site : ℕ) → setSiteCheck t set site ≡ Sound → Proper t set × (site < sitesOf t)
 unfolding setSiteCheck
 site-inside t set site e =
     let y = orElse-sound (setCheck t set) _ e in
@@ -100,18 +89,18 @@ pub blocks-as-published : BlocksAsPublished
 unfolding blocks setSiteCheck
 blocks-as-published t set site =
     let n = sitesOf t in
-    let b = slicesOf t .blocked site set in (
+    let b = slicesIn t .blocked site set in (
       (
         λ e. let x = yes-inv (setSiteCheck t set site) b e in
             let y = site-inside t set site (x .0) in
-            (y .0, y .1, table-decides t n (y .0 .0) .blocked-decides site set .0 (x .1)),
-        λ x. rw (of-proper t set (x .0), lt-ltb site n (x .1), table-decides t n (x .0 .0) .blocked-decides site set .1 (x .2)) refl,
+            (y .0, y .1, table-decides t (table-exact t .1 (y .0 .0)) .blocked-decides site set .0 (x .1)),
+        λ x. rw (of-proper t set (x .0), lt-ltb site n (x .1), table-decides t (table-exact t .1 (x .0 .0)) .blocked-decides site set .1 (x .2)) refl,
       ),
       (
         λ e. let x = no-inv (setSiteCheck t set site) b e in
             let y = site-inside t set site (x .0) in
-            (y .0, y .1, λ k. clash (table-decides t n (y .0 .0) .blocked-decides site set .1 k) (x .1)),
-        λ x. rw (of-proper t set (x .0), lt-ltb site n (x .1), is-false b (λ e. x .2 (table-decides t n (x .0 .0) .blocked-decides site set .0 e))) refl,
+            (y .0, y .1, λ k. clash (table-decides t (table-exact t .1 (y .0 .0)) .blocked-decides site set .1 k) (x .1)),
+        λ x. rw (of-proper t set (x .0), lt-ltb site n (x .1), is-false b (λ e. x .2 (table-decides t (table-exact t .1 (x .0 .0)) .blocked-decides site set .0 e))) refl,
       ),
     )
 
@@ -119,12 +108,15 @@ same-of : (a b : ℕ) → (a < b → ⊥) → (b < a → ⊥) → a ≡ b
 same-of a b f g = omega (arith, f, g)
 
 -- the rounds: those that are computed are the paper's, and there are no others
-module _ {t : List ℕ} {n : ℕ} (T : Table t n) (w : ℕ) (sub : w ⊆ allBelow n) where
+module _ (t : Groups) (c : Checked t) (w : ℕ) (sub : w ⊆ allBelow (sitesOf t)) where
+  abbrev n : ℕ
+  n = sitesOf t
+
   abbrev s : ℕ → ℕ → Bool
-  s = slicesOf t .inside
+  s = slicesIn t .inside
 
   abbrev S : Fbqs
-  S = fbqsOf t n
+  S = fbqsIn t
 
   abbrev after : ℕ → ℕ
   after i = SetQuorum.after s n i w
@@ -136,8 +128,8 @@ module _ {t : List ℕ} {n : ℕ} (T : Table t n) (w : ℕ) (sub : w ⊆ allBelo
 
   is-round : (u : ℕ) → u ⊆ allBelow n → Round S u (SetQuorum.round s n u)
   is-round u l v = (
-    λ h. (round-⊆ s n u .each v h, table-lawful T .slice-inside v u (round-slice s n h)),
-    λ x. ∈-round s n (∈-below (ones-lt n) (l .each v (x .0))) (x .0) (table-lawful T .inside-slice v u (x .1 .0) (x .1 .1) (x .1 .2)),
+    λ h. (round-⊆ s n u .each v h, lawful t c .slice-inside v u (round-slice s n h)),
+    λ x. ∈-round s n (∈-below (ones-lt n) (l .each v (x .0))) (x .0) (lawful t c .inside-slice v u (x .1 .0) (x .1 .1) (x .1 .2)),
   )
 
   rounds-are : Rounds S w (SetQuorum.largest s n w) (SetQuorum.rounds s n w)
@@ -174,11 +166,11 @@ module _ {t : List ℕ} {n : ℕ} (T : Table t n) (w : ℕ) (sub : w ⊆ allBelo
     pub same-rounds : SetQuorum.rounds s n w ≡ k
     same-rounds = same-of (SetQuorum.rounds s n w) k no-more no-fewer
 
-pub largest-inside : {t : List ℕ} {n : ℕ} → Table t n → (w : ℕ) → w ⊆ allBelow n →
-    LargestInside (fbqsOf t n) w (SetQuorum.largest (slicesOf t .inside) n w) (SetQuorum.rounds (slicesOf t .inside) n w)
-largest-inside {t} {n} T w sub =
-    let G = table-decides t n T .largest-decides w in
-    record { none-or-quorum = G .none-or-quorum; inside = G .inside; contains = G .contains; rounds = rounds-are T w sub }
+pub largest-inside : (t : Groups) → Checked t → (w : ℕ) → w ⊆ allBelow (sitesOf t) →
+    LargestInside (fbqsIn t) w (SetQuorum.largest (slicesIn t .inside) (sitesOf t) w) (SetQuorum.rounds (slicesIn t .inside) (sitesOf t) w)
+largest-inside t c w sub =
+    let G = table-decides t c .largest-decides w in
+    record { none-or-quorum = G .none-or-quorum; inside = G .inside; contains = G .contains; rounds = rounds-are t c w sub }
 
 greatest-inv : (c : Check) (s k q j : ℕ) → toGreatest c s k ≡ Set q j → (c ≡ Sound) × (s ≡ q) × (k ≡ j)
 greatest-inv Sound s k q j e = (refl, cc, cc)
@@ -188,17 +180,17 @@ pub largest-as-published : LargestAsPublished
 unfolding largest
 largest-as-published t set q k =
     let n = sitesOf t in
-    let l = SetQuorum.largest (slicesOf t .inside) n set in
-    let m = SetQuorum.rounds (slicesOf t .inside) n set in (
+    let l = SetQuorum.largest (slicesIn t .inside) n set in
+    let m = SetQuorum.rounds (slicesIn t .inside) n set in (
       λ e. let x = greatest-inv (setCheck t set) l m q k e in
           let p = proper-of t set (x .0) in
-          (p, subst (λ (z : ℕ). LargestInside (named t) set q z) (x .2) (subst (λ (z : ℕ). LargestInside (named t) set z m) (x .1) (largest-inside (p .0) set (p .1)))),
+          (p, subst (λ (z : ℕ). LargestInside (named t) set q z) (x .2) (subst (λ (z : ℕ). LargestInside (named t) set z m) (x .1) (largest-inside t (set-checked t set (x .0)) set (p .1)))),
       λ x. let p = x .0 in
           let L = x .1 in
-          let G = table-decides t n (p .0) .largest-decides set in
+          let G = table-decides t (table-exact t .1 (p .0)) .largest-decides set in
           let down : l ⊆ q = ⊎-elim (λ e. subst (λ (z : ℕ). z ⊆ q) (sym e) (⊆-zero q)) (λ h. L .contains l h (G .inside)) (G .none-or-quorum) in
           let up : q ⊆ l = ⊎-elim (λ e. subst (λ (z : ℕ). z ⊆ l) (sym e) (⊆-zero l)) (λ h. G .contains q h (L .inside)) (L .none-or-quorum) in
-          rw (of-proper t set p, ⊆-antisym down up, same-rounds (p .0) set (p .1) (L .rounds)) refl,
+          rw (of-proper t set p, ⊆-antisym down up, same-rounds t (table-exact t .1 (p .0)) set (p .1) (L .rounds)) refl,
     )
 
 -- shared sites
@@ -223,25 +215,23 @@ pub shared-as-published : SharedAsPublished
 unfolding shared
 shared-as-published t =
     let n = sitesOf t in
-    let s = slicesOf t .inside in
+    let s = slicesIn t .inside in
     let p = Verdicts.firstApart s n in
     let m = Verdicts.meets s n in (
       (
-        λ e. let x = meet-inv (verdictCheck t (check t)) m p (Verdicts.beside s n p) e in
-            let y = few-sites t (check t) (x .0) in
-            let T = exact t .0 (y .0) in
-            (T, y .1, table-verdicts t n T .meets-decides .0 (x .1)),
-        λ x. rw (exact t .1 (x .0), le-ltb 12 n (x .1), table-verdicts t n (x .0) .meets-decides .1 (x .2)) refl,
+        λ e. let x = meet-inv (verdictCheck t (groupsCheck t)) m p (Verdicts.beside s n p) e in
+            let y = few-sites t (groupsCheck t) (x .0) in
+            (table-exact t .0 (y .0), y .1, table-verdicts t (y .0) .meets-decides .0 (x .1)),
+        λ x. rw (table-exact t .1 (x .0), le-ltb 12 n (x .1), table-verdicts t (table-exact t .1 (x .0)) .meets-decides .1 (x .2)) refl,
       ),
       λ a b. (
-        λ e. let x = apart-inv (verdictCheck t (check t)) m p (Verdicts.beside s n p) a b e in
-            let y = few-sites t (check t) (x .0) in
-            let T = exact t .0 (y .0) in
-            (T, y .1, subst (λ (z : ℕ). Apart (named t) z b) (x .2) (subst (λ (z : ℕ). Apart (named t) p z) (x .3) (table-verdicts t n T .apart-decides (x .1)))),
-        λ x. let D = table-verdicts t n (x .0) in
+        λ e. let x = apart-inv (verdictCheck t (groupsCheck t)) m p (Verdicts.beside s n p) a b e in
+            let y = few-sites t (groupsCheck t) (x .0) in
+            (table-exact t .0 (y .0), y .1, subst (λ (z : ℕ). Apart (named t) z b) (x .2) (subst (λ (z : ℕ). Apart (named t) p z) (x .3) (table-verdicts t (y .0) .apart-decides (x .1)))),
+        λ x. let D = table-verdicts t (table-exact t .1 (x .0)) in
             let f : m ≡ false = is-false m (λ e. D .meets-decides .0 e a b (x .2 .first) (x .2 .second) (x .2 .no-common)) in
             let o = one-pair (D .apart-decides f) (x .2) in
-            rw (exact t .1 (x .0), le-ltb 12 n (x .1), f, o .0) (ap (Sharing.Sharing.Apart a) (ap (Verdicts.beside s n) (sym (o .0)) ∙ o .1)),
+            rw (table-exact t .1 (x .0), le-ltb 12 n (x .1), f, o .0) (ap (Sharing.Sharing.Apart a) (ap (Verdicts.beside s n) (sym (o .0)) ∙ o .1)),
       ),
     )
 
@@ -254,13 +244,13 @@ pub intact-as-published : IntactAsPublished
 unfolding intact
 intact-as-published t F m =
     let n = sitesOf t in
-    let i = Verdicts.intact (slicesOf t) n F in (
+    let i = Verdicts.intact (slicesIn t) n F in (
       λ e. let x = standing-inv (verdictCheck t (setCheck t F)) i m e in
           let y = few-sites t (setCheck t F) (x .0) in
           let p = proper-of t F (y .0) in
-          let D = table-verdicts t n (p .0) in
+          let D = table-verdicts t (set-checked t F (y .0)) in
           (p, y .1, subst (IntactSites (named t) n F) (x .1) (record { intact-in = D .intact-set F; befouled-rest = D .befouled-set F })),
-      λ x. let D = table-verdicts t n (x .0 .0) in
+      λ x. let D = table-verdicts t (table-exact t .1 (x .0 .0)) in
           let same : i ≡ m =
           ⊆-antisym (record { each = λ v h. x .2 .intact-in v .1 (D .intact-set F v .0 h) }) (record { each = λ v h. D .intact-set F v .1 (x .2 .intact-in v .0 h) }) in
           rw (of-proper t F (x .0), le-ltb 12 n (x .1), same) refl,

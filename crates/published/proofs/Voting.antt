@@ -3,21 +3,27 @@ use Prim.Native.Nat.{ℕ}
 use mathlib.Core.Bool.{Bool, true, _||_}
 use mathlib.Core.List.{List}
 use mathlib.Core.Logic.{inl, inr, ⊎-elim, _↔_}
-use mathlib.Core.Path.{_≡_, refl, sym, ap, _∙_, subst}
+use mathlib.Core.Path.{_≡_, sym, ap, _∙_, subst}
 use lib.Bits.{bitOr}
 use Rattle.ground.proofs.Logic.{cases, or-i, or-e}
 use Rattle.masks.proofs.Laws.Apart.{apart-⊆}
 use Rattle.masks.proofs.Laws.Single.{∈-or}
 use Rattle.masks.proofs.Laws.Subsets.{mem, ⊆-refl, or-⊆-l, or-⊆-r, minus-again}
 use Rattle.masks.specs.Mask.{single, others, _∈_}
+use Rattle.refusals.proofs.First.{orElse-sound, kept}
+use Rattle.refusals.specs.declared.Check.the-variants.{Sound}
+use Rattle.refusals.specs.declared.Refusal.the-variants.{Unsound}
+use Rattle.rules.proofs.Exact.{sound-of}
 use Rattle.rules.proofs.WorkWays.{table-rests}
 use Rattle.rules.specs.Rules.{accepting, confirming}
-use Rattle.rules.specs.Sound.{Sound as SoundState}
+use Rattle.rules.specs.Sound.{Sound as SoundState, unsound}
 use Rattle.rules.specs.State.{votes, accepts, get}
 use Rattle.rules.specs.Theorems.{Rests}
+use Rattle.sets.proofs.Groups.{set-checked}
+use Rattle.sets.specs.Groups.{Groups, sitesOf, setCheck, questions}
 use Rattle.sets.specs.Paper.{Fbqs, Blocking}
 use Rattle.sets.specs.Promises.{Questions, Promises}
-use Rattle.voting.proofs.StepWays.{sound-table, sound-state}
+use Rattle.voting.specs.Step.{soundCheck}
 use Rattle.published.specs.Voting.{Confirms, Published, AcceptsAsPublished, ConfirmsAsPublished, StateAsPublished}
 
 module _ {S : ℕ → Fbqs} {Q : Questions} (P : Promises S Q) (v : ℕ) where
@@ -69,5 +75,17 @@ of-state {S} {Q} {n} {F} {s} R T v side hv hs f =
       (λ h. c .0 (sym ec ∙ h .holds), λ x. mem (ec ∙ c .1 x)),
     )
 
+-- what is not refused with 18: the table and the set are taken, and the state is sound
+module _ (t : Groups) (F : ℕ) (s : List ℕ) (e : soundCheck t F s ≡ Sound) where
+  pub set-taken : setCheck t F ≡ Sound
+  unfolding soundCheck
+  set-taken = orElse-sound (setCheck t F) _ e .0
+
+  pub state-taken : SoundState (questions t) (sitesOf t) F s
+  unfolding soundCheck
+  state-taken =
+      let bad = unsound (questions t) (sitesOf t) F s in
+      sound-of (questions t) (sitesOf t) F s (kept bad Unsound (orElse-sound (setCheck t F) _ e .1))
+
 pub state-as-published : StateAsPublished
-state-as-published t F s e = of-state (table-rests (sound-table t F s refl e)) (sound-state t F s refl e)
+state-as-published t F s e = of-state (table-rests t (set-checked t F (set-taken t F s e))) (state-taken t F s e)

@@ -31,26 +31,27 @@ use Rattle.refusals.specs.declared.Check.{Check}
 use Rattle.refusals.specs.declared.Check.the-variants.{Sound, Refused}
 use Rattle.rules.specs.Rules.{accepting, confirming, nowAccepts, nowConfirms, hears, taken, outOfRange, crooked, against, unsent, answer}
 use Rattle.rules.specs.State.{width, add}
-use Rattle.run.specs.Examples.{tableA, tableB, tableApart}
+use Rattle.run.specs.Examples.{tableA, rowsB, tableB, tableApart}
 use Rattle.run.specs.Run.{runCheck, roomless, ran, listMisshapen}
 use Rattle.run.specs.Theorems.{Taken}
+use Rattle.sets.specs.Groups.{Groups, lists, Checked, setCheck}
 use Rattle.sets.specs.Promises.{questionsOf}
 use Rattle.sets.specs.Quorum as Quorum
 use Rattle.sets.specs.Slices.{slicesOf}
 use Rattle.rows.specs.Row.{strange, unordered, sliceCheck, rowCheck}
 use Rattle.rows.specs.Site.{rowUnfilled, siteCheck}
-use Rattle.table.specs.Table.{tableMisshapen, sitesCheck, check, setCheck}
+use Rattle.table.specs.Table.{tableMisshapen, sitesCheck, check}
 use Rattle.verdicts.specs.Verdicts as Verdicts
 use Rattle.votes.specs.Passes.{passes, run}
 use Rattle.votes.specs.Vote.{fresh, runOf}
 use Rattle.published.proofs.Runs.{never-unsound}
 use Rattle.published.specs.Witnesses.{late, imageB, Witnesses}
 
-a-sound : check tableA ≡ Sound
+a-sound : Checked tableA
 unfolding check tableMisshapen sitesCheck siteCheck rowCheck sliceCheck strange unordered rowUnfilled some first has within
 a-sound = refl
 
-b-sound : check tableB ≡ Sound
+b-sound : Checked tableB
 unfolding check tableMisshapen sitesCheck siteCheck rowCheck sliceCheck strange unordered rowUnfilled some first has within
 b-sound = refl
 
@@ -122,19 +123,19 @@ below-at [] e i = omega arith
 below-at (x ∷ l) e zero = ltb-true x 64 (and-l (ltb x 64) (below l) e)
 below-at (x ∷ l) e (suc i) = below-at l (and-r (ltb x 64) (below l) e) i
 
-b-small : below tableB ≡ true
+b-small : below rowsB ≡ true
 unfolding below
 b-small = refl
 
-b-words : Words tableB
-b-words i = let h = below-at tableB b-small i in omega (arith, h)
+b-words : Words rowsB
+b-words i = let h = below-at rowsB b-small i in omega (arith, h)
 
-b-written : write tableB (length (replicate {A = ℕ} 2048 0)) ≡ Writing.Writing.Sites 4
+b-written : write rowsB (length (replicate {A = ℕ} 2048 0)) ≡ Writing.Writing.Sites 4
 unfolding write writeCheck check tableMisshapen sitesCheck siteCheck rowCheck sliceCheck strange unordered rowUnfilled some first has within
 b-written = refl
 
-read-back : (read imageB 4032 ≡ Reading.Reading.Sites 4) × (readInto (Reading.Reading.Sites 4) imageB (replicate 4032 0) ≡ tableB ++ drop 252 (replicate 4032 0))
-read-back = write-then-read tableB (replicate 2048 0) (replicate 4032 0) 4 b-words b-written (omega arith)
+read-back : (read imageB 4032 ≡ Reading.Reading.Sites 4) × (readInto (Reading.Reading.Sites 4) imageB (replicate 4032 0) ≡ rowsB ++ drop 252 (replicate 4032 0))
+read-back = write-then-read rowsB (replicate 2048 0) (replicate 4032 0) 4 b-words b-written (omega arith)
 
 reads-sound : (n : ℕ) (c : Check) (m : ℕ) → toReading n c ≡ Reading.Reading.Sites m → c ≡ Sound
 reads-sound n Sound m e = refl
@@ -148,17 +149,17 @@ b-image = reads-sound _ (readCheck imageB 4032) 4 (read-back .0)
 b-blocks : length imageB / 512 ≡ 4
 b-blocks = read-taken imageB 4032 4 (read-back .0) .1
 
-b-loads : loads 4 imageB ≡ tableB
+b-loads : loads 4 imageB ≡ rowsB
 unfolding readInto
 b-loads =
     sym (take-at (loads 4 imageB) (drop 252 (replicate 4032 0)) 252 (length-loads 4 imageB)) ∙ ap (take 252) (read-back .1)
-    ∙ take-at tableB (drop 252 (replicate 4032 0)) 252 refl
+    ∙ take-at rowsB (drop 252 (replicate 4032 0)) 252 refl
 
 b-table : tableOn imageB ≡ tableB
-b-table = ap (λ (k : ℕ). loads k imageB) b-blocks ∙ b-loads
+b-table = ap lists (ap (λ (k : ℕ). loads k imageB) b-blocks ∙ b-loads)
 
 b-list : runCheck (tableOn imageB) 0 (length late) (width 64) 4096 ≡ Sound
-b-list = ap (λ (t : List ℕ). runCheck t 0 (length late) (width 64) 4096) b-table ∙ b-runs
+b-list = ap (λ (t : Groups). runCheck t 0 (length late) (width 64) 4096) b-table ∙ b-runs
 
 pub witnesses : Witnesses
 witnesses = record {

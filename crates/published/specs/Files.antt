@@ -43,7 +43,8 @@ fbqsRead image = fbqsIn (tableOn image)
 abbrev pub ReadAsFiled : Type 0
 ReadAsFiled =
     (image : List ℕ) → imageCheck image ≡ Sound →
-    SoundTable (tableOn image) × (sitesOf (tableOn image) ≡ sitesOn image) × ((v q : ℕ) → v < sitesOn image → fbqsOn image .Slice v q ↔ fbqsRead image .Slice v q)
+    SoundTable (tableOn image) × (sitesOf (tableOn image) ≡ sitesOn image)
+    × ((v q : ℕ) → v < sitesOn image → fbqsOn image .Slice v q ↔ fbqsRead image .Slice v q)
 
 -- the seven lines of a verdict, of n sites over S, those of F faulty: "n; F; `yes` or `no` for shared sites; intact set; befouled set; largest quorum
 -- outside F; its rounds"

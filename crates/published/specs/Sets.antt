@@ -1,6 +1,5 @@
 -- The set questions in the words of 004, section 3.1: each public answer, both ways, for every table of any length.
 use Prim.Native.Nat.{ℕ, suc, _≤_, _<_}
-use mathlib.Core.List.{List}
 use mathlib.Core.Logic.{_⊎_, _↔_}
 use mathlib.Core.Path.{_≡_}
 use Rattle.masks.specs.Mask.{minus, others, allBelow, _∈_, _⊆_}

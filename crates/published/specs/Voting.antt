@@ -4,7 +4,6 @@ use mathlib.Core.Bool.{true}
 use mathlib.Core.List.{List}
 use mathlib.Core.Logic.{_⊎_, _↔_}
 use mathlib.Core.Path.{_≡_}
-use lib.ListN.{length}
 use Rattle.masks.specs.Mask.{others, _∈_, _⊆_}
 use Rattle.refusals.specs.declared.Check.the-variants.{Sound}
 use Rattle.rules.specs.Rules.{accepting, confirming}

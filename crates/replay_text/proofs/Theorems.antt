@@ -15,7 +15,7 @@ use Rattle.replay_text.specs.Replay.{askedCheck, replayCheck, replayText
 use Rattle.replay_text.specs.Theorems.{ReplayPrintsRun}
 use Rattle.run.specs.Run.{runCheck}
 use Rattle.run_text.specs.Run.{ranText, runText}
-use Rattle.table.specs.Table.{setCheck}
+use Rattle.sets.specs.Groups.{setCheck}
 
 -- a run that is refused for the table or the mask says so, whatever the list is
 stopped : (r : Refusal) (a b x : Check) (text : List ℕ) → orElse a b ≡ Refused r → explained r ≡ unless a explained (unless (orElse b x) explained text)

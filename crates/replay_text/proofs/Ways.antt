@@ -1,5 +1,5 @@
 -- The ways out of what is printed of a replay: one law for each.
-use Prim.Native.Nat.{ℕ, _*_, _≤_}
+use Prim.Native.Nat.{ℕ, _≤_}
 use mathlib.Core.List.{List}
 use mathlib.Core.Path.{_≡_, refl, sym, ap, _∙_}
 use native.Mathlib.Omega.{arith}
@@ -7,10 +7,8 @@ use lib.Dec.{ltb}
 use lib.ListN.{length, take, drop}
 use lib.Seq.{take-at}
 use borrow.Author.Tests.{le-ltb}
-use Rattle.check_text.proofs.Ways.{image-sound, image-refused}
-use Rattle.image_blocks.proofs.Load.{loads-front}
-use Rattle.image_blocks.specs.Image.{loads}
-use Rattle.image.specs.Read.{read, readInto}
+use Rattle.check_text.proofs.Ways.{image-sound, image-refused, loaded, loaded-sites}
+use Rattle.image.specs.Read.{read}
 use Rattle.image.specs.declared.Reading.{Reading}
 use Rattle.journal.proofs.Checking.{Whole, whole, listed-taken, listed-stopped}
 use Rattle.journal.specs.Journal.{callCount, journalCheck, toChecked, check, listCheck, listed, listInto}
@@ -24,7 +22,7 @@ use Rattle.refusals.specs.declared.Refusal.{Refusal}
 use Rattle.refusals.specs.declared.Refusal.the-variants.{Room}
 use Rattle.replay_text.specs.Replay.{askedCheck, replayCheck, replayText}
 use Rattle.run_text.specs.Run.{runText}
-use Rattle.table.specs.Table.{setCheck}
+use Rattle.sets.specs.Groups.{outsider, setCheck}
 
 -- the list of a journal
 module _ (journal : List ℕ) where
@@ -61,12 +59,10 @@ module _ (F : ℕ) (image : List ℕ) where
   unfolding askedCheck
   asked-refused r h = rw (image-refused image r h) refl
 
-  pub asked-read : (n : ℕ) (t room : List ℕ) → read image 4032 ≡ Reading.Sites n → t ≡ take (63 * n) (readInto (Reading.Sites n) image room)
-      → setCheck t F ≡ askedCheck F image
-  unfolding askedCheck readInto
-  asked-read n t room h e =
-      let s = image-sound image n h in
-      ap (λ (x : List ℕ). setCheck x F) (e ∙ loads-front n image (drop (63 * n) room) ∙ ap (λ (k : ℕ). loads k image) (sym (s .1))) ∙ rw (s .0) refl
+  -- a table that was read is not refused, so that 10 is left
+  pub asked-read : (n : ℕ) → read image 4032 ≡ Reading.Sites n → outsider n F ≡ askedCheck F image
+  unfolding askedCheck setCheck
+  asked-read n h = let s = image-sound image n h in rw (s .0, s .1, loaded image n h, loaded-sites image n) refl
 
 -- of a replay
 module _ (F : ℕ) (image journal : List ℕ) where

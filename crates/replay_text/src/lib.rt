@@ -15,10 +15,7 @@ fn asked(faulty: u64, image: &[u8]) -> Check
     let mut table = [0u64; 4032];
     let q = image::read(image, &mut table);
     match q {
-        Reading::Sites(n) => {
-            let end = 63 * (n as usize);
-            table::check_set(&table[..end], faulty)
-        }
+        Reading::Sites(n) => sets::check_set(n as usize, faulty),
         Reading::Refused(r) => Check::Refused(r),
     }
 }

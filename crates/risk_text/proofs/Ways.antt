@@ -15,13 +15,15 @@ use Rattle.lines.proofs.Lengths.{length-line}
 use Rattle.lines.specs.Lines.{newline, line}
 use Rattle.masks.specs.Mask.{size}
 use Rattle.refusal_lines.specs.Refused.{explained}
-use Rattle.refusals.specs.declared.Check.the-variants.{Sound, Refused}
+use Rattle.refusals.specs.declared.Check.the-variants.{Refused}
 use Rattle.refusals.specs.declared.Refusal.{Refusal}
 use Rattle.refusals.specs.declared.Refusal.the-variants.{Large}
 use Rattle.risk.proofs.RiskLaws.{first-counts}
 use Rattle.risk.specs.Risk.{takenAlong, firstRuin}
-use Rattle.sets.specs.Slices.{Slices, slicesOf}
-use Rattle.table.specs.Table.{sites, check}
+use Rattle.sets.proofs.Groups.{same-rules}
+use Rattle.sets.specs.Groups.{Groups, lists, sitesOf, slicesIn, groupsCheck, Checked}
+use Rattle.sets.specs.Rows.{rulesOf}
+use Rattle.sets.specs.Slices.{Slices}
 use Rattle.text.proofs.Width.{length-decimal}
 use Rattle.text.specs.Text.{ascii, decimal}
 use Rattle.risk_text.specs.Inner.{riskRead, firstLines}
@@ -54,18 +56,22 @@ module _ (r : Slices) (n : ℕ) where
   all-lines first e = rw (e, first-counts r n) refl
 
 -- on a table that is read
-module _ (t : List ℕ) where
-  pub read-refused : (r : Refusal) → check t ≡ Refused r → explained r ≡ riskRead t
+module _ (t : Groups) where
+  pub read-refused : (r : Refusal) → groupsCheck t ≡ Refused r → explained r ≡ riskRead t
   unfolding riskRead
   read-refused r e = rw e refl
 
-  pub read-large : check t ≡ Sound → 12 < sites (length t) → explained Large ≡ riskRead t
+  pub read-large : Checked t → 12 < sitesOf t → explained Large ≡ riskRead t
   unfolding riskRead
-  read-large e l = rw (e, lt-ltb 12 (sites (length t)) l) refl
+  read-large e l = rw (e, lt-ltb 12 (sitesOf t) l) refl
 
-  pub read-lines : check t ≡ Sound → sites (length t) ≤ 12 → riskLines (sites (length t)) (slicesOf t) ≡ riskRead t
+  table-lines : Checked t → sitesOf t ≤ 12 → riskLines (sitesOf t) (slicesIn t) ≡ riskRead t
   unfolding riskRead
-  read-lines e l = rw (e, le-ltb 12 (sites (length t)) l) refl
+  table-lines e l = rw (e, le-ltb 12 (sitesOf t) l) refl
+
+-- its rows say the same
+pub read-lines : (t : List ℕ) → Checked (lists t) → sitesOf (lists t) ≤ 12 → riskLines (sitesOf (lists t)) (rulesOf t) ≡ riskRead (lists t)
+read-lines t e l = ap (riskLines (sitesOf (lists t))) (same-rules t e) ∙ table-lines (lists t) e l
 
 -- on an image
 module _ (image : List ℕ) where
@@ -74,8 +80,8 @@ module _ (image : List ℕ) where
   risk-refused r h = rw (image-refused image r h) refl
 
   pub risk-taken : (n : ℕ) (t room : List ℕ) → read image 4032 ≡ Reading.Sites n → t ≡ take (63 * n) (readInto (Reading.Sites n) image room)
-      → riskRead t ≡ riskText image
+      → riskRead (lists t) ≡ riskText image
   unfolding riskText riskRead readInto
   risk-taken n t room h e =
       let s = image-sound image n h in
-      ap riskRead (e ∙ loads-front n image (drop (63 * n) room) ∙ ap (λ (k : ℕ). loads k image) (sym (s .1))) ∙ rw (s .0) refl
+      ap (λ (x : List ℕ). riskRead (lists x)) (e ∙ loads-front n image (drop (63 * n) room) ∙ ap (λ (k : ℕ). loads k image) (sym (s .1))) ∙ rw (s .0) refl

@@ -1,13 +1,11 @@
 -- The parts of the text that single functions write.
 use Prim.Native.Nat.{ℕ}
 use mathlib.Core.List.{List, _++_}
-use lib.ListN.{length}
 use Rattle.check_text.specs.Table.{unless}
 use Rattle.lines.specs.Lines.{line}
 use Rattle.members.specs.Members.{members}
 use Rattle.questions.specs.Answers.{verdictCheck}
 use Rattle.refusal_lines.specs.Refused.{explained}
-use Rattle.table.specs.Table.{check}
 use Rattle.text.specs.Text.{ascii, decimal, mask}
 use Rattle.risk_text.specs.RiskText.{riskLines}
 use Rattle.sets.specs.Groups.{Groups, slicesIn, sitesOf, groupsCheck}

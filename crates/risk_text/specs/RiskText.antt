@@ -1,7 +1,6 @@
 -- What `desk risk` prints of an image.
 use Prim.Native.Nat.{ℕ}
 use mathlib.Core.List.{List, _++_}
-use lib.ListN.{length}
 use Rattle.check_text.specs.Table.{imageCheck, unless, tableOn}
 use Rattle.ground.specs.Pieces.{cat}
 use Rattle.lines.specs.Lines.{line}
@@ -11,7 +10,6 @@ use Rattle.refusal_lines.specs.Refused.{explained}
 use Rattle.risk.specs.Risk.{takenAlong, fewest, firstRuin}
 use Rattle.sets.specs.Groups.{slicesIn, sitesOf, groupsCheck}
 use Rattle.sets.specs.Slices.{Slices}
-use Rattle.table.specs.Table.{check}
 use Rattle.text.specs.Text.{ascii, decimal, mask}
 
 -- "`site V K` for each site: how many other sites are befouled if it alone is faulty"

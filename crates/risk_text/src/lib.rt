@@ -6,8 +6,8 @@ ghost use Rattle.io.specs.Counts.{Counts};
 ghost use Rattle.masks.specs.Mask.{size};
 ghost use Rattle.risk_text.specs.RiskText.{riskLine, riskLines, riskText};
 ghost use Rattle.risk_text.specs.Inner.{riskRead, firstLines};
-ghost use Rattle.sets.specs.Slices.{slicesOf};
-ghost use Rattle.table.specs.Table.{Table};
+ghost use Rattle.sets.specs.Groups.{lists};
+ghost use Rattle.sets.specs.Rows.{Rows, rulesOf};
 ghost use Rattle.text.specs.Written.{Writes};
 use check_text::ROOM;
 use image::Reading;
@@ -20,10 +20,10 @@ const MOST: usize = 12;
 // `site V K`
 fn put_site(room: &mut [u8], at: usize, table: &[u64], n: usize, v: u64) -> usize
     requires { ⌜ at + 47 ≤ length (now room) ⌝ }
-    requires { ⌜ Table (now table) n ⌝ }
+    requires { ⌜ Rows (now table) n ⌝ }
     requires { ⌜ n ≤ 12 ⌝ }
     requires { ⌜ v < n ⌝ }
-    ensures { λ r. ⌜ Writes (riskLine (slicesOf (now (table .entry))) n v) (now (room .entry)) at r (now (room .exit)) ⌝ }
+    ensures { λ r. ⌜ Writes (riskLine (rulesOf (now (table .entry))) n v) (now (room .entry)) at r (now (room .exit)) ⌝ }
 {
     let others = risk_search::taken_along(table, n, v);
     let at = text::put(room, at, b"site ");
@@ -34,9 +34,9 @@ fn put_site(room: &mut [u8], at: usize, table: &[u64], n: usize, v: u64) -> usiz
 // The line of each site.
 fn put_sites(room: &mut [u8], table: &[u64], n: usize) -> usize
     requires { ⌜ 47 * n ≤ length (now room) ⌝ }
-    requires { ⌜ Table (now table) n ⌝ }
+    requires { ⌜ Rows (now table) n ⌝ }
     requires { ⌜ n ≤ 12 ⌝ }
-    ensures { λ r. ⌜ Writes (cat (riskLine (slicesOf (now (table .entry))) n) n) (now (room .entry)) 0 r (now (room .exit)) ⌝ }
+    ensures { λ r. ⌜ Writes (cat (riskLine (rulesOf (now (table .entry))) n) n) (now (room .entry)) 0 r (now (room .exit)) ⌝ }
 {
     let mut end: usize = 0;
     let mut v: u64 = 0;
@@ -61,9 +61,9 @@ fn put_first(room: &mut [u8], at: usize, first: u64) -> usize
 // The lines of a checked table.
 fn put_risk(room: &mut [u8], table: &[u64], n: usize) -> usize
     requires { ⌜ 1000 ≤ length (now room) ⌝ }
-    requires { ⌜ Table (now table) n ⌝ }
+    requires { ⌜ Rows (now table) n ⌝ }
     requires { ⌜ n ≤ 12 ⌝ }
-    ensures { λ r. ⌜ Writes (riskLines n (slicesOf (now (table .entry)))) (now (room .entry)) 0 r (now (room .exit)) ⌝ }
+    ensures { λ r. ⌜ Writes (riskLines n (rulesOf (now (table .entry)))) (now (room .entry)) 0 r (now (room .exit)) ⌝ }
 {
     let at = put_sites(room, table, n);
     let first = risk_search::first_ruin(table, n);
@@ -73,7 +73,7 @@ fn put_risk(room: &mut [u8], table: &[u64], n: usize) -> usize
 // The risk of a table that is read: its lines, or the refusal and what it means.
 fn risk_read(table: &[u64], room: &mut [u8]) -> usize
     requires { ⌜ 1000 ≤ length (now room) ⌝ }
-    ensures { λ r. ⌜ Writes (riskRead (now (table .entry))) (now (room .entry)) 0 r (now (room .exit)) ⌝ }
+    ensures { λ r. ⌜ Writes (riskRead (lists (now (table .entry)))) (now (room .entry)) 0 r (now (room .exit)) ⌝ }
 {
     let q = table::check(table);
     if let Check::Refused(r) = q {

@@ -28,11 +28,10 @@ use Rattle.questions.specs.Answers as Answers
 use Rattle.refusals.proofs.First.{orElse-sound}
 use Rattle.run_text.specs.Inner.{wholeOf}
 use Rattle.run_text.specs.Run.{ranText, runText}
-use Rattle.run.proofs.RunWays.{Fits, fits}
+use Rattle.run.proofs.RunWays.{Fits, run-fits}
 use Rattle.run.specs.Run.{runCheck, theRun, toRan, ran, stateInto, answersInto}
 use Rattle.run.specs.declared.Ran.{Ran}
-use Rattle.sets.specs.Slices.{slicesOf}
-use Rattle.table.specs.Table.{sites, setCheck}
+use Rattle.sets.specs.Groups.{Groups, lists, sitesOf, slicesIn, setCheck}
 use Rattle.verdicts.specs.Verdicts as Verdicts
 use Rattle.rules.specs.State.{width}
 
@@ -51,11 +50,11 @@ in-front result room left k h e l =
     ap (take k) e ∙ take-at result (drop k room) k n
 
 -- up to 12 sites a verdict is given where the run is
-judged : (t : List ℕ) (F : ℕ) → setCheck t F ≡ Sound → ltb 12 (sites (length t)) ≡ false → verdictCheck t (setCheck t F) ≡ Sound
+judged : (t : Groups) (F : ℕ) → setCheck t F ≡ Sound → ltb 12 (sitesOf t) ≡ false → verdictCheck t (setCheck t F) ≡ Sound
 judged t F c l = ap (λ (x : Check). verdictCheck t x) c ∙ ap (λ (b : Bool). refuse b Large) l
 
 -- on a table that is read
-module _ (t : List ℕ) (F : ℕ) (list : List ℕ) where
+module _ (t : Groups) (F : ℕ) (list : List ℕ) where
   pub ran-refused : (r : Refusal) → Ran.Refused r ≡ ran t F list 262 4096 → explained r ≡ ranText F t list
   unfolding ranText ran
   ran-refused r h = rw (ran-stopped (runCheck t F (length list) 262 4096) (theRun t F list .passes) r h) refl
@@ -67,27 +66,27 @@ module _ (t : List ℕ) (F : ℕ) (list : List ℕ) where
 
     -- up to 12 sites what is known is who is intact; above, the lines do not depend on it
     known-lines : (p : ℕ) (s a : List ℕ)
-        → endLines F (sites (length t)) (wholeOf (Answers.intact t F)) p s list a ≡ endLines F (sites (length t)) (Verdicts.intact (slicesOf t) (sites (length t)) F) p s list a
+        → endLines F (sitesOf t) (wholeOf (Answers.intact t F)) p s list a ≡ endLines F (sitesOf t) (Verdicts.intact (slicesIn t) (sitesOf t) F) p s list a
     unfolding runCheck Answers.intact
     known-lines p s a =
-        let n = sites (length t) in
+        let n = sitesOf t in
         let c : setCheck t F ≡ Sound = orElse-sound (setCheck t F) _ (whole .0) .0 in
         ⊎-elim
-        (λ l. end-above-twelve F n (wholeOf (Answers.intact t F)) (Verdicts.intact (slicesOf t) n F) p s list a (ltb-true 12 n l))
-        (λ l. ap (λ (x : Check). endLines F n (wholeOf (toStanding x (Verdicts.intact (slicesOf t) n F))) p s list a) (judged t F c l))
+        (λ l. end-above-twelve F n (wholeOf (Answers.intact t F)) (Verdicts.intact (slicesIn t) n F) p s list a (ltb-true 12 n l))
+        (λ l. ap (λ (x : Check). endLines F n (wholeOf (toStanding x (Verdicts.intact (slicesIn t) n F))) p s list a) (judged t F c l))
         (cases (ltb 12 n))
 
-    pub fitting : Fits t (length list) 262 4096
-    fitting = fits t F (length list) 262 4096 (whole .0)
+    pub fitting : Fits (sitesOf t) (length list) 262 4096
+    fitting = run-fits t F (length list) 262 4096 (whole .0)
 
     -- the state that stands in front of its room
     pub ended-state : (states s : List ℕ) → length states ≡ 262 → length s ≡ 262 → s ≡ stateInto (Ran.Passes p) t F list states →
-        take (width (sites (length t))) s ≡ theRun t F list .state
+        take (width (sitesOf t)) s ≡ theRun t F list .state
     unfolding stateInto
     ended-state states s ls ks es =
-        in-front (theRun t F list .state) states s (width (sites (length t))) (omega (arith, fitting .states)) es (ks ∙ sym ls)
+        in-front (theRun t F list .state) states s (width (sitesOf t)) (omega (arith, fitting .states)) es (ks ∙ sym ls)
 
-    pub ran-ended : (n w k : ℕ) (states answers s a : List ℕ) → n ≡ sites (length t) → w ≡ wholeOf (Answers.intact t F) → k ≡ width n → length states ≡ 262 → length answers ≡ 4096
+    pub ran-ended : (n w k : ℕ) (states answers s a : List ℕ) → n ≡ sitesOf t → w ≡ wholeOf (Answers.intact t F) → k ≡ width n → length states ≡ 262 → length answers ≡ 4096
         → length s ≡ 262 → length a ≡ 4096
         → s ≡ stateInto (Ran.Passes p) t F list states → a ≡ answersInto (Ran.Passes p) t F list answers
         → endLines F n w p (take k s) list (take (length list / 4) a) ≡ ranText F t list
@@ -104,8 +103,8 @@ module _ (F : ℕ) (image list : List ℕ) where
   run-refused r h = rw (image-refused image r h) refl
 
   pub run-taken : (n : ℕ) (t room : List ℕ) → read image 4032 ≡ Reading.Sites n → t ≡ take (63 * n) (readInto (Reading.Sites n) image room)
-      → ranText F t list ≡ runText F image list
+      → ranText F (lists t) list ≡ runText F image list
   unfolding runText readInto
   run-taken n t room h e =
       let s = image-sound image n h in
-      ap (λ (x : List ℕ). ranText F x list) (e ∙ loads-front n image (drop (63 * n) room) ∙ ap (λ (k : ℕ). loads k image) (sym (s .1))) ∙ rw (s .0) refl
+      ap (λ (x : List ℕ). ranText F (lists x) list) (e ∙ loads-front n image (drop (63 * n) room) ∙ ap (λ (k : ℕ). loads k image) (sym (s .1))) ∙ rw (s .0) refl

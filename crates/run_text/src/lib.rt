@@ -7,6 +7,7 @@ ghost use Rattle.text.specs.Written.{Writes};
 ghost use Rattle.questions.specs.Answers.{intact};
 ghost use Rattle.run_text.specs.Inner.{wholeOf};
 ghost use Rattle.run_text.specs.Run.{ranText, runText};
+ghost use Rattle.sets.specs.Groups.{lists};
 use image::Reading;
 use questions::Standing;
 use run::Ran;
@@ -16,7 +17,7 @@ pub const ROOM: usize = 589824;
 
 // The sites that are intact, or nobody where that is not known.
 fn whole(table: &[u64], faulty: u64) -> u64
-    ensures { λ r. ⌜ r ≡ wholeOf (intact (now (table .entry)) faulty) ⌝ }
+    ensures { λ r. ⌜ r ≡ wholeOf (intact (lists (now (table .entry))) faulty) ⌝ }
 {
     let standing = verdict_questions::intact(table, faulty);
     match standing {
@@ -30,7 +31,7 @@ fn run_read(table: &[u64], n: usize, faulty: u64, list: &[u8], room: &mut [u8]) 
     requires { ⌜ 589824 ≤ length (now room) ⌝ }
     requires { ⌜ length (now table) ≡ 63 * n ⌝ }
     requires { ⌜ n ≤ 64 ⌝ }
-    ensures { λ r. ⌜ Writes (ranText faulty (now (table .entry)) (now (list .entry))) (now (room .entry)) 0 r (now (room .exit)) ⌝ }
+    ensures { λ r. ⌜ Writes (ranText faulty (lists (now (table .entry))) (now (list .entry))) (now (room .entry)) 0 r (now (room .exit)) ⌝ }
 {
     let mut state = [0u64; 262];
     let mut answers = [0u8; 4096];

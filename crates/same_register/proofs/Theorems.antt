@@ -8,10 +8,11 @@ use lib.ListN.{length, getD}
 use Rattle.ground.proofs.Every.{every-of, every-at}
 use Rattle.ground.proofs.Logic.{and-l, and-r, and-i, clash}
 use Rattle.pass.specs.Calls.{calls, callAt}
-use Rattle.run.proofs.Public.{fit, any-order}
+use Rattle.run.proofs.Public.{is-checked, fit, any-order}
 use Rattle.same_calls.proofs.Listed.{whole, at-mem, mem-at, has-mem, mem-has}
 use Rattle.same_calls.specs.Same.{hasCall, hasThat, covers, sameLists, proposed}
 use Rattle.same_register.specs.Theorems.{SameIsExact, NoBoth, SameRegisters}
+use Rattle.sets.proofs.Groups.{few-in}
 use Rattle.votes.specs.Call.{Call, call}
 use Rattle.votes.specs.Passes.{Within}
 
@@ -50,5 +51,5 @@ same-registers t F a stateA answersA p b stateB answersB q A B e none =
     let fa = fit A .four in
     let fb = fit B .four in
     any-order t F a stateA answersA p b stateB answersB q A B
-    (λ v h out m₀ m₁. clash (and-i (proposes a b fa v 0 m₀) (proposes a b fa v 1 m₁)) (none v (omega (arith, h, fit A .table .few-sites))))
+    (λ v h out m₀ m₁. clash (and-i (proposes a b fa v 0 m₀) (proposes a b fa v 1 m₁)) (none v (omega (arith, h, few-in t (is-checked A)))))
     (covers-within a b fa fb (and-l (covers a b) (covers b a) e), covers-within b a fb fa (and-r (covers a b) (covers b a) e)) .0

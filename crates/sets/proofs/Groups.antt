@@ -1,5 +1,5 @@
 -- A checked table of whichever form is lawful; and one in memory stands in rows, whose answers are its own.
-use Prim.Native.Nat.{ℕ}
+use Prim.Native.Nat.{ℕ, _≤_}
 use mathlib.Core.Bool.{true, false}
 use mathlib.Core.List.{List}
 use mathlib.Core.Logic.{_↔_}
@@ -31,6 +31,10 @@ table-exact (lists t) = exact t
 -- its sites are those below n, checked or not
 pub sites-in : (t : Groups) → fbqsIn t .sites ≡ allBelow (sitesOf t)
 sites-in (lists t) = refl
+
+-- and a checked table has no more than 64
+pub few-in : (t : Groups) → Checked t → sitesOf t ≤ 64
+few-in (lists t) c = checked t c .few-sites
 
 pub table-is-fbqs : TableIsFbqs
 table-is-fbqs t c = lawful t c .well-formed

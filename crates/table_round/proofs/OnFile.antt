@@ -12,7 +12,7 @@ use Rattle.ground.proofs.Logic.{cases}
 use Rattle.ground.proofs.Numbers.{same?}
 use Rattle.check_text.proofs.Ways.{image-sound}
 use Rattle.check_text.proofs.Ways.{reads}
-use Rattle.check_text.specs.Table.{sitesOn, tableOn, imageCheck}
+use Rattle.check_text.specs.Table.{sitesOn, imageCheck, rowsOn}
 use Rattle.image.proofs.ReadLaws.{blocks-shape, read-taken, loads-sound}
 use Rattle.image.proofs.RoundTrip.{read-then-write, write-then-read}
 use Rattle.image.specs.Read.{read, readInto}
@@ -66,7 +66,7 @@ made-then-checked text out n e o =
     (w, image-sound _ n (sym (ap (read _) k) ∙ r) .0)
 
 module _ (image : List ℕ) (c : imageCheck image ≡ Sound) where
-  same : tableIn (show (tableOn image)) ≡ tableOn image
+  same : tableIn (show (rowsOn image)) ≡ rowsOn image
   same =
       let n : ℕ = sitesOn image in
       let r = read-taken image 4032 n (reads image c) in
@@ -84,7 +84,7 @@ show-then-write image out bytes c room =
     let k = long image c in
     let h = ap (read image) (length-replicate {A = ℕ} 4032 0) ∙ reads image c in
     let w = read-then-write image z out n bytes h (omega arith) in
-    let e : tableIn (show (tableOn image)) ≡ take (63 * n) (loads n image ++ drop (63 * n) z) =
+    let e : tableIn (show (rowsOn image)) ≡ take (63 * n) (loads n image ++ drop (63 * n) z) =
     same image c ∙ sym (loads-front n image (drop (63 * n) z)) in (
       ap (λ (t : List ℕ). write t (length out)) e ∙ w .0,
       ap (λ (t : List ℕ). writeInto (Writing.Writing.Sites n) t out) e ∙ w .1 ∙ ap (λ (j : ℕ). image ++ drop j out) (sym k),

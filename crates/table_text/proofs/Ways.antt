@@ -2,20 +2,15 @@
 use Prim.Native.Nat.{ℕ, _*_}
 use mathlib.Core.List.{List}
 use mathlib.Core.Path.{_≡_, refl, sym, ap, _∙_}
-use native.Mathlib.Omega.{arith}
-use lib.ListN.{length, take, drop}
+use lib.ListN.{take, drop}
 use lib.Seq.{take-at}
 use Rattle.check_text.proofs.Ways.{image-sound, image-refused}
-use Rattle.image.proofs.ReadLaws.{read-taken, blocks-shape, loads-table}
 use Rattle.image.specs.Read.{read, readInto}
 use Rattle.image.specs.declared.Reading.{Reading}
 use Rattle.image_blocks.specs.Image.{loads}
 use Rattle.image_blocks.proofs.Load.{length-loads}
 use Rattle.refusal_lines.specs.Refused.{explained}
-use Rattle.refusals.specs.declared.Check.the-variants.{Sound}
 use Rattle.refusals.specs.declared.Refusal.{Refusal}
-use Rattle.table.proofs.Exact.{exact}
-use Rattle.table.specs.Table.{check, sites}
 use Rattle.table_shown.specs.Show.{show}
 use Rattle.table_text.specs.ShowText.{showText}
 
@@ -28,13 +23,6 @@ module _ (image : List ℕ) where
     pub in-front : (room table : List ℕ) → table ≡ readInto (Reading.Sites n) image room → take (63 * n) table ≡ loads n image
     unfolding readInto
     in-front room table e = ap (take (63 * n)) e ∙ take-at (loads n image) (drop (63 * n) room) (63 * n) (length-loads n image)
-
-    pub sound : check (loads n image) ≡ Sound
-    sound =
-        let t = read-taken image 4032 n h in
-        let b = blocks-shape (length image) (t .0) in
-        let z : sites (length (loads n image)) ≡ n = omega (arith, length-loads n image) in
-        exact (loads n image) .1 (rw z (loads-table n image (rw (sym (t .1)) (b .1)) (rw (sym (t .1)) (b .2)) (t .2)))
 
     pub shown-sound : show (loads n image) ≡ showText image
     unfolding showText

@@ -4,6 +4,7 @@ ghost use Prim.Native.Nat.{_+_, _*_, _≤_};
 ghost use mathlib.Core.List.{_++_};
 ghost use lib.ListN.{length};
 ghost use Rattle.io.specs.Counts.{Counts};
+ghost use Rattle.sets.specs.Groups.{lists};
 ghost use Rattle.text.specs.Written.{Writes};
 ghost use Rattle.verdict_sites.specs.Sites.{parted, fourSets, judgedSites, verdictSites};
 use check_text::ROOM;
@@ -56,7 +57,7 @@ fn spell(table: &[u64], sites: u64, faulty: u64, room: &mut [u8]) -> usize
     requires { ⌜ 1500 ≤ length (now room) ⌝ }
     requires { ⌜ length (now table) ≡ 63 * sites ⌝ }
     requires { ⌜ sites ≤ 64 ⌝ }
-    ensures { λ r. ⌜ Writes (judgedSites faulty (now (table .entry))) (now (room .entry)) 0 r (now (room .exit)) ⌝ }
+    ensures { λ r. ⌜ Writes (judgedSites faulty (lists (now (table .entry)))) (now (room .entry)) 0 r (now (room .exit)) ⌝ }
 {
     let standing = verdict_questions::intact(table, faulty);
     match standing {

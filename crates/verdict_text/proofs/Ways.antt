@@ -16,6 +16,7 @@ use Rattle.refusals.specs.declared.Refusal.{Refusal}
 use Rattle.refusals.specs.declared.Refusal.the-variants.{Length}
 use Rattle.check_text.proofs.Ways.{image-sound, image-refused}
 use Rattle.judged_text.specs.Judged.{judgedText}
+use Rattle.sets.specs.Groups.{lists}
 use Rattle.verdict_text.specs.Verdict.{verdictText, inputText}
 
 -- the verdict on an image
@@ -25,11 +26,11 @@ module _ (image : List ℕ) (F : ℕ) where
   verdict-refused r h = rw (image-refused image r h) refl
 
   pub verdict-judged : (n : ℕ) (t room : List ℕ) → read image 4032 ≡ Reading.Sites n → t ≡ take (63 * n) (readInto (Reading.Sites n) image room)
-      → judgedText F t ≡ verdictText F image
+      → judgedText F (lists t) ≡ verdictText F image
   unfolding verdictText readInto
   verdict-judged n t room h e =
       let s = image-sound image n h in
-      ap (judgedText F) (e ∙ loads-front n image (drop (63 * n) room) ∙ ap (λ (k : ℕ). loads k image) (sym (s .1))) ∙ rw (s .0) refl
+      ap (λ (x : List ℕ). judgedText F (lists x)) (e ∙ loads-front n image (drop (63 * n) room) ∙ ap (λ (k : ℕ). loads k image) (sym (s .1))) ∙ rw (s .0) refl
 
 -- on what the verdict program is given
 module _ (input : List ℕ) where

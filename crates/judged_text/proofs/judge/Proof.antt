@@ -5,7 +5,7 @@ use borrow.Author.Needs.{needs}
 use denote.Ref.{now}
 use Rattle.lines.proofs.Chain.{as-text}
 use Rattle.masks.specs.Mask.{minus}
-use Rattle.questions.specs.Answers.{sitesOf}
+use Rattle.sets.specs.Groups.{lists, sitesOf}
 use Rattle.judged_text.proofs.Ways.{judged-refused, others-taken, judged-is}
 use Rattle.judged_text.specs.Inner.{met}
 use Rattle.judged_text.proofs.judge.Statement.{statement}
@@ -16,7 +16,7 @@ returns c =
     let q = c .before .before .before .before .before in
     let r = q .before .before in
     let s = r .before .before .before in
-    as-text (judged-refused (now (s .args .table)) (s .args .faulty) _ (sym (q .standing .given .1) ∙ r .intact .ensures))
+    as-text (judged-refused (lists (now (s .args .table))) (s .args .faulty) _ (sym (q .standing .given .1) ∙ r .intact .ensures))
     (c .before .before .put-refused .ensures)
 
 returns-2 : tie.Need-returns-2
@@ -28,10 +28,10 @@ returns-2 c =
     let q = b .before .before in
     let r = q .before .before in
     let s = r .before .before .before in
-    let n : s .args .sites ≡ sitesOf (now (s .args .table)) = omega arith in
+    let n : s .args .sites ≡ sitesOf (lists (now (s .args .table))) = omega arith in
     let others = o .minus .ensures ∙ ap (λ x. minus x (s .args .faulty)) (b .all-below .ensures) in
     absurd
-    (others-taken (now (s .args .table)) (s .args .faulty) _ (sym (q .standing2 .given .1) ∙ r .intact .ensures) (s .args .sites) _ n others _
+    (others-taken (lists (now (s .args .table))) (s .args .faulty) _ (sym (q .standing2 .given .1) ∙ r .intact .ensures) (s .args .sites) _ n others _
     (sym (g .greatest .given .1) ∙ l .largest .ensures))
 
 returns-3 : tie.Need-returns-3
@@ -46,10 +46,10 @@ returns-3 c =
     let q = b .before .before in
     let r = q .before .before in
     let s = r .before .before .before in
-    let n : s .args .sites ≡ sitesOf (now (s .args .table)) = omega arith in
+    let n : s .args .sites ≡ sitesOf (lists (now (s .args .table))) = omega arith in
     let others = o .minus .ensures ∙ ap (λ x. minus x (s .args .faulty)) (b .all-below .ensures) in
     as-text
-    (judged-is (now (s .args .table)) (s .args .faulty) _ (sym (q .standing2 .given .1) ∙ r .intact .ensures) (s .args .sites) _ n others _ _ _
+    (judged-is (lists (now (s .args .table))) (s .args .faulty) _ (sym (q .standing2 .given .1) ∙ r .intact .ensures) (s .args .sites) _ n others _ _ _
     (sym (g .greatest2 .given .1) ∙ l .largest .ensures) (m .meets .ensures ∙ ap met (h .shared .ensures)))
     (v .put-verdict .ensures)
 

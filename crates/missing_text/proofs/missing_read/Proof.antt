@@ -4,6 +4,7 @@ use borrow.Author.Needs.{needs}
 use denote.Ref.{now}
 use Rattle.lines.proofs.Chain.{as-text}
 use Rattle.missing_text.proofs.Ways.{verdict-refused}
+use Rattle.sets.specs.Groups.{lists}
 use Rattle.missing_text.proofs.missing_read.Statement.{statement}
 use Rattle.missing_text.proofs.missing_read.Tie as tie
 
@@ -14,7 +15,7 @@ returns : tie.Need-returns
 returns c =
     let q = c .before .before .before .before .before in
     let a = q .before .before .before .before .before .before .args in
-    as-text (verdict-refused (now (a .table)) (a .faulty) (now (a .list)) _ (sym (q .standing .given .1) ∙ q .before .before .intact .ensures)) (c .before .before .put-explained .ensures)
+    as-text (verdict-refused (lists (now (a .table))) (a .faulty) (now (a .list)) _ (sym (q .standing .given .1) ∙ q .before .before .intact .ensures)) (c .before .before .put-explained .ensures)
 
 pub missing-read-spec : {M : Type 1} → statement M
 missing-read-spec =

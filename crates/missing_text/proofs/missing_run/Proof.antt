@@ -8,8 +8,8 @@ use denote.Ref.{now}
 use Rattle.judged_text.specs.Inner.{met}
 use Rattle.lines.proofs.Chain.{as-text}
 use Rattle.missing_text.proofs.Ways.{few-sites, run-refused, lacking-is}
-use Rattle.questions.specs.Answers.{sitesOf}
 use Rattle.run.specs.Run.{stateInto}
+use Rattle.sets.specs.Groups.{lists, sitesOf}
 use Rattle.missing_text.proofs.missing_run.Statement.{statement}
 use Rattle.missing_text.proofs.missing_run.Tie as tie
 
@@ -55,7 +55,7 @@ returns c =
     let r = g .before .before .before .before in
     let s = r .before .before .before .before .before .before in
     let a = s .args in
-    as-text (run-refused (now (a .table)) (a .faulty) (now (a .list)) (a .intact) (s .pre .1 .1) _ (sym (g .ran .given .1) ∙ r .run .ensures .0)) (c .before .before .put-explained .ensures)
+    as-text (run-refused (lists (now (a .table))) (a .faulty) (now (a .list)) (a .intact) (s .pre .1 .1) _ (sym (g .ran .given .1) ∙ r .run .ensures .0)) (c .before .before .put-explained .ensures)
 
 returns-2 : tie.Need-returns-2
 returns-2 c =
@@ -67,10 +67,10 @@ returns-2 c =
     let s = q .before .before .before .before .before .before .before .before .before .before in
     let a = s .args in
     let e = q .enum-told .given .1 in
-    let n : a .n ≡ sitesOf (now (a .table)) = omega (arith, s .pre .1 .0) in
+    let n : a .n ≡ sitesOf (lists (now (a .table))) = omega (arith, s .pre .1 .0) in
     as-text
-    (lacking-is (now (a .table)) (a .faulty) (now (a .list)) (a .intact) (s .pre .1 .1) _ (sym e ∙ r .ensures .0) _ _ refl (r .kept .1 .1 .1 .0)
-    (r .ensures .1 .0 ∙ ap (λ x. stateInto x (now (a .table)) (a .faulty) (now (a .list)) _) e) (a .n) _ _ _ n
+    (lacking-is (lists (now (a .table))) (a .faulty) (now (a .list)) (a .intact) (s .pre .1 .1) _ (sym e ∙ r .ensures .0) _ _ refl (r .kept .1 .1 .1 .0)
+    (r .ensures .1 .0 ∙ ap (λ x. stateInto x (lists (now (a .table))) (a .faulty) (now (a .list)) _) e) (a .n) _ _ _ n
     (w .meets .ensures ∙ ap met (w .before .shared .ensures))
     (ap (λ i. getD (r .last .1 .1 .1 .0) i 0) (d .accepted .ensures))
     (ap (λ i. getD (r .last .1 .1 .1 .0) i 0) (l .accepted2 .ensures)))

@@ -5,7 +5,7 @@ use denote.Ref.{now}
 use Rattle.lines.proofs.Chain.{as-text}
 use Rattle.members.proofs.Laws.{cat-le}
 use Rattle.risk_text.specs.RiskText.{riskLine}
-use Rattle.sets.specs.Slices.{slicesOf}
+use Rattle.sets.specs.Rows.{rulesOf}
 use Rattle.text.proofs.Written.{then}
 use Rattle.risk_text.proofs.Ways.{length-site, all-lines}
 use Rattle.risk_text.proofs.put_risk.Statement.{statement}
@@ -14,13 +14,13 @@ use Rattle.risk_text.proofs.put_risk.Tie as tie
 put-first-requires : tie.Need-put-first-requires
 put-first-requires c κs =
     let s = c .before .before .before .before .before .before .before .before in
-    let r = slicesOf (now (s .args .table)) in
+    let r = rulesOf (now (s .args .table)) in
     omega (arith, s .pre .0, s .pre .1 .1, cat-le (riskLine r (s .args .n)) 47 (s .args .n) (λ i h. length-site r (s .args .n) i))
 
 returns : tie.Need-returns
 returns c =
     let a = c .before .before .before .before .before .before .before .before .before .before .before .args in
-    as-text (all-lines (slicesOf (now (a .table))) (a .n) _ (c .before .before .before .before .first-ruin .ensures))
+    as-text (all-lines (rulesOf (now (a .table))) (a .n) _ (c .before .before .before .before .first-ruin .ensures))
     (then (c .before .before .before .before .before .before .before .put-sites .ensures) (c .before .before .put-first .ensures) (omega arith))
 
 pub put-risk-spec : {M : Type 1} → statement M

@@ -3,7 +3,7 @@ use native.Mathlib.Omega.{arith}
 use borrow.Author.Needs.{needs}
 use denote.Ref.{now}
 use Rattle.lines.proofs.Chain.{as-text, three}
-use Rattle.sets.specs.Slices.{slicesOf}
+use Rattle.sets.specs.Rows.{rulesOf}
 use Rattle.text.proofs.Width.{length-decimal}
 use Rattle.risk_text.proofs.Ways.{site-line}
 use Rattle.risk_text.proofs.put_site.Statement.{statement}
@@ -21,7 +21,7 @@ returns c =
     let c1 = c2 .before .before .before .before in
     let k = c1 .before .before .before in
     let s = k .before .before .before in
-    as-text (site-line (slicesOf (now (s .args .table))) (s .args .n) (s .args .v) _ (k .taken-along .ensures))
+    as-text (site-line (rulesOf (now (s .args .table))) (s .args .n) (s .args .v) _ (k .taken-along .ensures))
     (three (c1 .put .ensures) (c2 .put-decimal .ensures) (c3 .line-decimal .ensures) (omega (arith, s .pre .0)))
 
 pub put-site-spec : {M : Type 1} → statement M

@@ -9,7 +9,7 @@ use Rattle.ground.specs.Pieces.{cat}
 use Rattle.lines.proofs.Chain.{as-text}
 use Rattle.members.proofs.Laws.{more, cat-none, cat-le}
 use Rattle.risk_text.specs.RiskText.{riskLine}
-use Rattle.sets.specs.Slices.{slicesOf}
+use Rattle.sets.specs.Rows.{rulesOf}
 use Rattle.text.proofs.Written.{written-nothing}
 use Rattle.text.specs.Written.{Writes}
 use Rattle.risk_text.proofs.Ways.{length-site}
@@ -18,7 +18,7 @@ use Rattle.risk_text.proofs.put_sites.Tie as tie
 
 abbrev Inv-loop : tie.InvT-loop
 Inv-loop room₀ table n end₀ v₀ room end v =
-    (v ≤ n) × (length room ≡ length room₀) × Writes (cat (riskLine (slicesOf table) n) v) room₀ 0 end room
+    (v ≤ n) × (length room ≡ length room₀) × Writes (cat (riskLine (rulesOf table) n) v) room₀ 0 end room
 
 abbrev μ-loop : tie.MeasureT-loop
 μ-loop room₀ table n end₀ v₀ room end v = n - v
@@ -28,15 +28,15 @@ loop-holds c =
     let a = c .before .before .args in (
       omega arith,
       refl,
-      as-text (sym (cat-none (riskLine (slicesOf (now (a .table))) (a .n)))) (record { place = omega arith; memory = sym (written-nothing _ _); inside = omega arith }),
+      as-text (sym (cat-none (riskLine (rulesOf (now (a .table))) (a .n)))) (record { place = omega arith; memory = sym (written-nothing _ _); inside = omega arith }),
     )
 
 put-site-requires : tie.Need-put-site-requires Inv-loop μ-loop
 put-site-requires c κs =
     let s = c .before .before .before .before .before in
     let l = c .before .before .loop in
-    let f = riskLine (slicesOf (now (s .args .table))) (s .args .n) in (
-      omega (arith, s .pre .0, l .inv .2 .place, cat-le f 47 (l .v) (λ i h. length-site (slicesOf (now (s .args .table))) (s .args .n) i)),
+    let f = riskLine (rulesOf (now (s .args .table))) (s .args .n) in (
+      omega (arith, s .pre .0, l .inv .2 .place, cat-le f 47 (l .v) (λ i h. length-site (rulesOf (now (s .args .table))) (s .args .n) i)),
       (s .pre .1 .0, (s .pre .1 .1, c .before .loop-test .taken)),
     )
 
@@ -47,7 +47,7 @@ loop-again c =
     let a = c .before .before .before .before .before .before .before .before .args in (
       omega arith,
       p .kept .0 ∙ l .inv .1,
-      more (riskLine (slicesOf (now (a .table))) (a .n)) (l .v) (l .inv .2) (p .ensures) (omega arith),
+      more (riskLine (rulesOf (now (a .table))) (a .n)) (l .v) (l .inv .2) (p .ensures) (omega arith),
     )
 
 returns : tie.Need-returns Inv-loop μ-loop
@@ -55,7 +55,7 @@ returns c =
     let l = c .before .loop in
     let a = c .before .before .before .before .args in
     let e : l .v ≡ a .n = omega arith in
-    as-text (ap (cat (riskLine (slicesOf (now (a .table))) (a .n))) e) (l .inv .2)
+    as-text (ap (cat (riskLine (rulesOf (now (a .table))) (a .n))) e) (l .inv .2)
 
 pub put-sites-spec : {M : Type 1} → statement M
 put-sites-spec =

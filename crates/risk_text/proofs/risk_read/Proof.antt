@@ -3,7 +3,8 @@ use mathlib.Core.Path.{sym, _∙_}
 use borrow.Author.Needs.{needs}
 use denote.Ref.{now}
 use Rattle.lines.proofs.Chain.{as-text}
-use Rattle.table.proofs.Exact.{checked}
+use Rattle.sets.proofs.Groups.{checked-rows}
+use Rattle.sets.specs.Groups.{lists}
 use Rattle.risk_text.proofs.Ways.{read-refused, read-large, read-lines}
 use Rattle.risk_text.proofs.risk_read.Statement.{statement}
 use Rattle.risk_text.proofs.risk_read.Tie as tie
@@ -11,20 +12,20 @@ use Rattle.risk_text.proofs.risk_read.Tie as tie
 returns : tie.Need-returns
 returns c =
     let q = c .before .before .before .before .before in
-    as-text (read-refused (now (q .before .before .before .before .before .args .table)) _ (sym (q .before .before .check .ensures) ∙ q .q .given .1)) (c .before .before .put-explained .ensures)
+    as-text (read-refused (lists (now (q .before .before .before .before .before .args .table))) _ (sym (q .before .before .check .ensures) ∙ q .q .given .1)) (c .before .before .put-explained .ensures)
 
 returns-2 : tie.Need-returns-2
 returns-2 c =
     let q = c .before .before .before .before .before in
     as-text
-    (read-large (now (q .before .before .before .before .before .args .table)) (sym (q .before .before .check .ensures) ∙ q .enum-told .given .1) (c .before .before .before .before .if1 .taken))
+    (read-large (lists (now (q .before .before .before .before .before .args .table))) (sym (q .before .before .check .ensures) ∙ q .enum-told .given .1) (c .before .before .before .before .if1 .taken))
     (c .before .before .put-explained2 .ensures)
 
 put-risk-requires : tie.Need-put-risk-requires
 put-risk-requires c κs =
     let q = c .before .before in
     let s = q .before .before .before .before .before in
-    (s .pre, (checked (now (s .args .table)) (sym (q .before .before .check .ensures) ∙ q .enum-told .given .1), c .before .if1 .left))
+    (s .pre, (checked-rows (now (s .args .table)) (sym (q .before .before .check .ensures) ∙ q .enum-told .given .1), c .before .if1 .left))
 
 returns-3 : tie.Need-returns-3
 returns-3 c =

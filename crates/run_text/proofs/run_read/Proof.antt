@@ -9,7 +9,7 @@ use denote.Ref.{now}
 use Rattle.lines.proofs.Chain.{as-text}
 use Rattle.run_text.proofs.Ended.{ran-refused, fitting, ran-ended}
 use Rattle.run.specs.Run.{stateInto, answersInto}
-use Rattle.table.specs.Table.{sites}
+use Rattle.sets.specs.Groups.{lists, sitesOf}
 use Rattle.run_text.proofs.run_read.Statement.{statement}
 use Rattle.run_text.proofs.run_read.Tie as tie
 
@@ -24,7 +24,7 @@ array-share-prefix-answers c =
     let g = c .before .before .before .before .before in
     let r = g .before .before .before .before in
     let a = r .before .before .before .before .before .before .args in
-    omega (arith, fitting (now (a .table)) (a .faulty) (now (a .list)) _ (sym (g .ran2 .given .1) ∙ r .run .ensures .0) .many, r .run .kept .1 .1 .1 .1 .0)
+    omega (arith, fitting (lists (now (a .table))) (a .faulty) (now (a .list)) _ (sym (g .ran2 .given .1) ∙ r .run .ensures .0) .many, r .run .kept .1 .1 .1 .1 .0)
 
 slice-aggregate-put-run-2 : tie.Need-slice-aggregate-put-run-2
 slice-aggregate-put-run-2 c = sym (length-take-le _ _ (array-share-prefix-answers (c .before)))
@@ -35,7 +35,7 @@ put-run-requires c κs =
     let a = s .args in
     let g = c .before .before .before .before .before .before in
     let r = g .before .before .before .before .run in
-    let f = fitting (now (a .table)) (a .faulty) (now (a .list)) _ (sym (g .ran2 .given .1) ∙ r .ensures .0) in
+    let f = fitting (lists (now (a .table))) (a .faulty) (now (a .list)) _ (sym (g .ran2 .given .1) ∙ r .ensures .0) in
     let l = length-take-le (length (now (a .list)) / 4) (r .last .1 .1 .1 .1 .0) (array-share-prefix-answers (c .before)) in
     let few : length (take (length (now (a .list)) / 4) (r .last .1 .1 .1 .1 .0)) ≤ 4096 = omega (arith, l, f .few) in
     let each : 4 * length (take (length (now (a .list)) / 4) (r .last .1 .1 .1 .1 .0)) ≤ length (now (a .list)) = omega (arith, l) in (
@@ -48,7 +48,7 @@ returns c =
     let g = c .before .before .before .before .before in
     let r = g .before .before .before .before in
     let a = r .before .before .before .before .before .before .args in
-    as-text (ran-refused (now (a .table)) (a .faulty) (now (a .list)) _ (sym (g .ran .given .1) ∙ r .run .ensures .0)) (c .before .before .put-explained .ensures)
+    as-text (ran-refused (lists (now (a .table))) (a .faulty) (now (a .list)) _ (sym (g .ran .given .1) ∙ r .run .ensures .0)) (c .before .before .put-explained .ensures)
 
 returns-2 : tie.Need-returns-2
 returns-2 c =
@@ -59,12 +59,12 @@ returns-2 c =
     let a = s .before .before .before .before .before .before .args in
     let r = s .run in
     let g = m .ran2 .given .1 in
-    let n : a .n ≡ sites (length (now (a .table))) = omega (arith, s .before .before .before .before .before .before .pre .1 .0) in
+    let n : a .n ≡ sitesOf (lists (now (a .table))) = omega (arith, s .before .before .before .before .before .before .pre .1 .0) in
     as-text
-    (ran-ended (now (a .table)) (a .faulty) (now (a .list)) _ (sym g ∙ r .ensures .0) (a .n) _ _ _ _ _ _ n (k .whole .ensures) (w .width .ensures) refl refl (r .kept .1 .1 .1 .0)
+    (ran-ended (lists (now (a .table))) (a .faulty) (now (a .list)) _ (sym g ∙ r .ensures .0) (a .n) _ _ _ _ _ _ n (k .whole .ensures) (w .width .ensures) refl refl (r .kept .1 .1 .1 .0)
     (r .kept .1 .1 .1 .1 .0)
-    (r .ensures .1 .0 ∙ ap (λ x. stateInto x (now (a .table)) (a .faulty) (now (a .list)) _) g)
-    (r .ensures .1 .1 ∙ ap (λ x. answersInto x (now (a .table)) (a .faulty) (now (a .list)) _) g))
+    (r .ensures .1 .0 ∙ ap (λ x. stateInto x (lists (now (a .table))) (a .faulty) (now (a .list)) _) g)
+    (r .ensures .1 .1 ∙ ap (λ x. answersInto x (lists (now (a .table))) (a .faulty) (now (a .list)) _) g))
     (c .before .before .put-run .ensures)
 
 pub run-read-spec : {M : Type 1} → statement M

@@ -7,13 +7,13 @@ use Prim.Native.Nat.{_*_}
 use denote.Ref.{now}
 use lib.ListN.{take}
 use lib.Seq.{length-take-le}
-use Rattle.check_text.proofs.Ways.{few}
+use Rattle.check_text.proofs.Ways.{few, loaded}
 use Rattle.image.specs.Read.{readInto}
 use Rattle.lines.proofs.Chain.{as-text, both}
 use Rattle.refusals.specs.declared.Check.the-variants.{Sound}
 use Rattle.table.specs.Table.{check}
 use Rattle.table_shown.specs.Show.{show}
-use Rattle.table_text.proofs.Ways.{in-front, sound, shown-sound, shown-refused}
+use Rattle.table_text.proofs.Ways.{in-front, shown-sound, shown-refused}
 use Rattle.table_text.proofs.show.Statement.{statement}
 use Rattle.table_text.proofs.show.Tie as tie
 
@@ -40,7 +40,7 @@ show-requires c κs =
     let r = q .before .before .before in
     let a = r .before .before .before .args in
     let h = sym (r .read .ensures .0) ∙ q .q .given .1 in
-    (ap check (in-front (now (a .image)) _ h _ _ (r .read .ensures .1 ∙ ap (λ x. readInto x (now (a .image)) _) (q .q .given .1))) ∙ sound (now (a .image)) _ h, search needs)
+    (ap check (in-front (now (a .image)) _ h _ _ (r .read .ensures .1 ∙ ap (λ x. readInto x (now (a .image)) _) (q .q .given .1))) ∙ loaded (now (a .image)) _ h, search needs)
 
 returns : tie.Need-returns
 returns c =

@@ -5,7 +5,7 @@ use borrow.Author.Needs.{needs}
 use denote.Ref.{now}
 use Rattle.lines.proofs.Chain.{as-text}
 use Rattle.masks.specs.Mask.{minus}
-use Rattle.questions.specs.Answers.{sitesOf}
+use Rattle.sets.specs.Groups.{lists, sitesOf}
 use Rattle.verdict_sites.proofs.Ways.{nothing, judged-by, judged-none}
 use Rattle.verdict_sites.proofs.spell.Statement.{statement}
 use Rattle.verdict_sites.proofs.spell.Tie as tie
@@ -13,16 +13,16 @@ use Rattle.verdict_sites.proofs.spell.Tie as tie
 returns : tie.Need-returns
 returns c =
     let a = c .before .before .before .before .before .args in
-    as-text (judged-none (now (a .table)) (a .faulty) _ (sym (c .enum-told .given .1) ∙ c .before .before .intact .ensures)) (nothing _ _ (omega arith))
+    as-text (judged-none (lists (now (a .table))) (a .faulty) _ (sym (c .enum-told .given .1) ∙ c .before .before .intact .ensures)) (nothing _ _ (omega arith))
 
 returns-2 : tie.Need-returns-2
 returns-2 c =
     let s = c .before .before .before .before .before .before .before .before .before .before .before .before in
     let a = s .args in
-    let n : a .sites ≡ sitesOf (now (a .table)) = omega arith in
+    let n : a .sites ≡ sitesOf (lists (now (a .table))) = omega arith in
     let o = c .before .before .before .before .minus .ensures ∙ ap (λ x. minus x (a .faulty)) (c .before .before .before .before .before .all-below .ensures) in
     as-text
-    (judged-by (now (a .table)) (a .faulty) n o (sym (c .before .before .before .before .before .before .before .standing .given .1) ∙ c .before .before .before .before .before .before .before .before .before .intact .ensures)
+    (judged-by (lists (now (a .table))) (a .faulty) n o (sym (c .before .before .before .before .before .before .before .standing .given .1) ∙ c .before .before .before .before .before .before .before .before .before .intact .ensures)
     (sym (c .enum-told2 .given .1) ∙ c .before .before .largest .ensures) (c .before .before .before .shared .ensures))
     (nothing _ _ (omega arith))
 
@@ -31,10 +31,10 @@ returns-3 c =
     let g = c .before .before .before .before .before in
     let q = c .before .before .before .before .before .before .before .before .before .before .before .before in
     let a = c .before .before .before .before .before .before .before .before .before .before .before .before .before .before .before .before .before .args in
-    let n : a .sites ≡ sitesOf (now (a .table)) = omega arith in
+    let n : a .sites ≡ sitesOf (lists (now (a .table))) = omega arith in
     let o = c .before .before .before .before .before .before .before .before .before .minus .ensures ∙ ap (λ x. minus x (a .faulty)) (c .before .before .before .before .before .before .before .before .before .before .all-below .ensures) in
     as-text
-    (judged-by (now (a .table)) (a .faulty) n o (sym (q .standing .given .1) ∙ q .before .before .intact .ensures)
+    (judged-by (lists (now (a .table))) (a .faulty) n o (sym (q .standing .given .1) ∙ q .before .before .intact .ensures)
     (sym (g .greatest .given .1) ∙ g .before .before .largest .ensures) (g .before .before .before .shared .ensures))
     (c .before .before .put-sets .ensures)
 
