@@ -8,7 +8,7 @@ ghost use Rattle.rules.specs.Sound.{badSide, badSite};
 ghost use Rattle.asking.specs.Inner.{Asked};
 ghost use Rattle.sets.specs.Rows.{Rows, rowQuestions};
 
-// One site and one side. The rules are asked last: they cost most.
+// One site and one side. A site that has nothing of the side is not asked further; the rules are asked last: they cost most.
 fn is_bad_side(
     table: &[u64],
     n: usize,
@@ -31,8 +31,11 @@ fn is_bad_side(
     let voted = state[places::voted(n, side)];
     let accepted = state[places::accepted(n, side)];
     let confirmed = state[places::confirmed(n, side)];
+    if !clauses::is_not_zero(v, votes, accepts, voted, accepted, confirmed) {
+        return false;
+    }
     if masks::has(faulty, v as u64) {
-        return clauses::is_not_zero(v, votes, accepts, voted, accepted, confirmed);
+        return true;
     }
     if clauses::is_not_own(v, votes, accepts, voted, accepted) {
         return true;

@@ -53,15 +53,7 @@ fn run_packed(
     if let Check::Refused(r) = q {
         return Ran::Refused(r);
     }
-    run_packed_of(
-        table,
-        table.len() / 63,
-        faulty,
-        room,
-        n,
-        state,
-        answers,
-    )
+    run_packed_of(table, table.len() / 63, faulty, room, n, state, answers)
 }
 
 // The run of a list of calls: equal in everything to the run of its bytes.

@@ -1,5 +1,4 @@
 pub mod Examples
-pub mod Order
 pub mod Row
 pub mod Site
 pub mod Coincide

@@ -34,39 +34,32 @@ pub fn check_slice(n: u64, owner: u64, place: u64, k: usize, before: u64, q: u64
     Check::Refused(Refusal::Order(place))
 }
 
-// Bit 63 is set just if p is below q: the difference has it where p and q agree in it, otherwise q. No branch.
-fn below(p: u64, q: u64) -> u64
-    ensures { λ r. ⌜ has r 63 ≡ ltb p q ⌝ }
-{
-    masks::minus(q, p) | masks::minus(std::num::wrapping_sub_u64(p, q), masks::minus(p, q))
-}
-
-// What is gathered of slices: what all have in common, what they name together, and as bit 63 whether each is above the one before.
+// What is gathered of slices: what all have in common, what they name together, and whether each is above the one before.
 pub struct Gathered {
     pub every: u64,
     pub some: u64,
-    pub ascend: u64,
+    pub ascend: bool,
 }
 
 // Of the first slice alone.
 pub fn gather_first(q: u64) -> Gathered
-    ensures { λ r. ⌜ (r .every ≡ q) × (r .some ≡ q) × (has (r .ascend) 63 ≡ true) ⌝ }
+    ensures { λ r. ⌜ (r .every ≡ q) × (r .some ≡ q) × (r .ascend ≡ true) ⌝ }
 {
     Gathered {
         every: q,
         some: q,
-        ascend: 18446744073709551615,
+        ascend: true,
     }
 }
 
 // With the slice q, and the slice before it. No branch.
 pub fn gather(g: Gathered, before: u64, q: u64) -> Gathered
-    ensures { λ r. ⌜ (r .every ≡ bitAnd (g .every) q) × (r .some ≡ bitOr (g .some) q) × (has (r .ascend) 63 ≡ has (g .ascend) 63 && ltb before q) ⌝ }
+    ensures { λ r. ⌜ (r .every ≡ bitAnd (g .every) q) × (r .some ≡ bitOr (g .some) q) × (r .ascend ≡ g .ascend && ltb before q) ⌝ }
 {
     Gathered {
         every: g.every & q,
         some: g.some | q,
-        ascend: g.ascend & below(before, q),
+        ascend: g.ascend & (before < q),
     }
 }
 
@@ -74,11 +67,9 @@ pub fn gather(g: Gathered, before: u64, q: u64) -> Gathered
 pub fn is_sound(g: Gathered, n: u64, owner: u64) -> bool
     requires { ⌜ owner < 64 ⌝ }
     requires { ⌜ n ≤ 64 ⌝ }
-    ensures { λ r. ⌜ r ≡ (has (g .ascend) 63 && has (g .every) owner) && within (g .some) (allBelow n) ⌝ }
+    ensures { λ r. ⌜ r ≡ (g .ascend && has (g .every) owner) && within (g .some) (allBelow n) ⌝ }
 {
-    masks::has(g.ascend, 63)
-        & masks::has(g.every, owner)
-        & masks::within(g.some, masks::all_below(n))
+    g.ascend & masks::has(g.every, owner) & masks::within(g.some, masks::all_below(n))
 }
 
 // True only if the owner's first many slices are sound, and then they are at any place. No branch in the loop.

@@ -11,5 +11,6 @@ pub mod Inner
 pub mod Steps
 pub mod Exact
 pub mod Ways
+pub mod Silent
 pub mod Since
 pub mod WorkWays

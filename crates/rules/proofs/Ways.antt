@@ -196,6 +196,11 @@ pub record Read (n v side h k p q r : ℕ) : Type 0 where
   pub at-accepted : q ≡ accepted n side
   pub at-confirmed : r ≡ confirmed n side
 
+pub zero-read : (n : ℕ) (s : List ℕ) (v side : ℕ) {h k p q r : ℕ} → Read n v side h k p q r →
+    notZero v (get s (votes side v)) (get s (accepts side v)) (get s (voted n side)) (get s (accepted n side)) (get s (confirmed n side))
+    ≡ notZero v (get s h) (get s k) (get s p) (get s q) (get s r)
+zero-read n s v side R = rw (R .at-votes, R .at-accepts, R .at-voted, R .at-accepted, R .at-confirmed) refl
+
 module _ (Q : Questions) (n F : ℕ) (s : List ℕ) (v side : ℕ) {h k p q r : ℕ} (R : Read n v side h k p q r) {f : Bool} (ef : f ≡ has F v) where
   abbrev unzero : Bool
   unzero = notZero v (get s h) (get s k) (get s p) (get s q) (get s r)

@@ -1,7 +1,11 @@
--- `is_bad_side` meets its contract: a faulty receiver has nothing; a correct one is tested, the rules last.
+-- `is_bad_side` meets its contract: who has nothing is not bad; a faulty receiver with something is; a correct one is tested, the rules last.
+use mathlib.Core.Path.{sym, _∙_}
 use borrow.Author.Needs.{needs}
+use borrow.Author.Tests.{not-true, not-false}
 use denote.Ref.{now}
-use Rattle.rules.proofs.Ways.{Read, side-faulty, side-own, side-sent, side-rule}
+use Rattle.rules.proofs.Silent.{silent}
+use Rattle.rules.proofs.WorkWays.{rows-rests}
+use Rattle.rules.proofs.Ways.{Read, zero-read, side-faulty, side-own, side-sent, side-rule}
 use Rattle.bad_sites.proofs.is_bad_side.Statement.{statement}
 use Rattle.bad_sites.proofs.is_bad_side.Tie as tie
 use Rattle.sets.specs.Rows.{rowQuestions}
@@ -22,47 +26,47 @@ read d =
 
 is-not-rule-requires : tie.Need-is-not-rule-requires
 is-not-rule-requires c κs =
-    let p = c .before .before .before .before .before .before .before .before .before .before .before .before .before .before .before .before .before .before .before .pre in
+    let p = c .before .before .before .before .before .before .before .before .before .before .before .before .before .before .before .before .before .before .before .before .before .pre in
     (p .0, (p .1 .1 .0, p .1 .1 .1 .1))
 
 returns : tie.Need-returns
 returns c =
-    let d = c .before .before .before in
+    let d = c .before .before in
     let b = d .before .before .before .before .before .before .before .before .before .before .before .before in
     let a = b .args in
-    let e = side-faulty (rowQuestions (now (a .table)) (a .n)) (a .n) (a .faulty) (now (a .state)) (a .v) (a .side) (read d) (c .before .before .has .ensures) (c .before .if1 .taken)
-    (c .is-not-zero .ensures) in
-    (e, b .pre .1 .1 .1 .1)
+    let z = zero-read (a .n) (now (a .state)) (a .v) (a .side) (read d) ∙ sym (c .before .is-not-zero .ensures) ∙ not-true _ (c .if1 .taken) in
+    (sym (silent (rows-rests (b .pre .0)) (a .faulty) (now (a .state)) (a .v) (a .side) (b .pre .1 .1 .0) z), b .pre .1 .1 .1 .1)
 
 returns-2 : tie.Need-returns-2
 returns-2 c =
     let d = c .before .before .before .before in
     let b = d .before .before .before .before .before .before .before .before .before .before .before .before in
-    let a = b .args in (
-      side-own (rowQuestions (now (a .table)) (a .n)) (a .n) (a .faulty) (now (a .state)) (a .v) (a .side) (read d) (c .before .before .before .has .ensures) (c .before .before .if1 .left)
-          (c .before .is-not-own .ensures) (c .if2 .taken),
-      b .pre .1 .1 .1 .1,
-    )
+    let a = b .args in
+    let zero = c .before .before .before .is-not-zero in
+    (sym (not-false _ (c .before .before .if1 .left)) ∙ side-faulty (rowQuestions (now (a .table)) (a .n)) (a .n) (a .faulty) (now (a .state)) (a .v) (a .side) (read d) (c .before .has .ensures) (c .if2 .taken) (zero .ensures), b .pre .1 .1 .1 .1)
 
 returns-3 : tie.Need-returns-3
 returns-3 c =
     let d = c .before .before .before .before .before .before in
     let b = d .before .before .before .before .before .before .before .before .before .before .before .before in
-    let a = b .args in (
-      side-sent (rowQuestions (now (a .table)) (a .n)) (a .n) (a .faulty) (now (a .state)) (a .v) (a .side) (read d) (c .before .before .before .before .before .has .ensures) (c .before .before .before .before .if1 .left)
-          (c .before .before .before .is-not-own .ensures) (c .before .before .if2 .left) (c .before .is-not-sent .ensures) (c .if3 .taken),
-      b .pre .1 .1 .1 .1,
-    )
+    let a = b .args in
+    (side-own (rowQuestions (now (a .table)) (a .n)) (a .n) (a .faulty) (now (a .state)) (a .v) (a .side) (read d) (c .before .before .before .has .ensures) (c .before .before .if2 .left) (c .before .is-not-own .ensures) (c .if3 .taken), b .pre .1 .1 .1 .1)
 
 returns-4 : tie.Need-returns-4
 returns-4 c =
     let d = c .before .before .before .before .before .before .before .before in
+    let b = d .before .before .before .before .before .before .before .before .before .before .before .before in
+    let a = b .args in (
+      side-sent (rowQuestions (now (a .table)) (a .n)) (a .n) (a .faulty) (now (a .state)) (a .v) (a .side) (read d) (c .before .before .before .before .before .has .ensures) (c .before .before .before .before .if2 .left) (c .before .before .before .is-not-own .ensures) (c .before .before .if3 .left) (c .before .is-not-sent .ensures) (c .if4 .taken),
+      b .pre .1 .1 .1 .1,
+    )
+
+returns-5 : tie.Need-returns-5
+returns-5 c =
+    let d = c .before .before .before .before .before .before .before .before .before .before in
     let a = d .before .before .before .before .before .before .before .before .before .before .before .before .args in
-    let first = c .before .before .before .before .before .before in
     let r = c .is-not-rule .ensures in (
-      side-rule (rowQuestions (now (a .table)) (a .n)) (a .n) (a .faulty) (now (a .state)) (a .v) (a .side) (read d) (first .before .has .ensures) (first .if1 .left)
-          (c .before .before .before .before .before .is-not-own .ensures) (c .before .before .before .before .if2 .left)
-          (c .before .before .before .is-not-sent .ensures) (c .before .before .if3 .left) (r .0),
+      side-rule (rowQuestions (now (a .table)) (a .n)) (a .n) (a .faulty) (now (a .state)) (a .v) (a .side) (read d) (c .before .before .before .before .before .before .before .has .ensures) (c .before .before .before .before .before .before .if2 .left) (c .before .before .before .before .before .is-not-own .ensures) (c .before .before .before .before .if3 .left) (c .before .before .before .is-not-sent .ensures) (c .before .before .if4 .left) (r .0),
       r .1,
     )
 
@@ -86,11 +90,12 @@ is-bad-side-spec =
     (λ c. search needs)
     (λ c. search needs)
     (λ c κs. search needs)
-    (λ c κs. search needs)
     returns
     (λ c κs. search needs)
     returns-2
     (λ c κs. search needs)
     returns-3
+    (λ c κs. search needs)
+    returns-4
     is-not-rule-requires
-    returns-4)
+    returns-5)
