@@ -16,7 +16,7 @@ fn of_three(word: &[u8]) -> bool {
         return true;
     }
     if check::same(word, b"same") {
-        same_shell::same_of(2, 3);
+        list_shell::same_of(2, 3);
         return true;
     }
     false

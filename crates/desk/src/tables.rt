@@ -11,7 +11,7 @@ fn of_two(word: &[u8]) -> bool {
         return true;
     }
     if check::same(word, b"risk") {
-        risk_shell::risk_of(2);
+        show_shell::risk_of(2);
         return true;
     }
     false

@@ -2,8 +2,8 @@
 use Rattle.files.proofs.Fetching.{counts}
 use borrow.Author.Needs.{needs}
 use Rattle.files.proofs.Told.{told}
-use Rattle.same_shell.proofs.same_of.Statement.{statement}
-use Rattle.same_shell.proofs.same_of.Tie as tie
+use Rattle.list_shell.proofs.same_of.Statement.{statement}
+use Rattle.list_shell.proofs.same_of.Tie as tie
 
 pub same-of-spec : {M : Type 1} → statement M
 same-of-spec =

@@ -2,8 +2,8 @@
 use Rattle.files.proofs.Fetching.{counts}
 use borrow.Author.Needs.{needs}
 use Rattle.files.proofs.Told.{told}
-use Rattle.risk_shell.proofs.risk_of.Statement.{statement}
-use Rattle.risk_shell.proofs.risk_of.Tie as tie
+use Rattle.show_shell.proofs.risk_of.Statement.{statement}
+use Rattle.show_shell.proofs.risk_of.Tie as tie
 
 pub risk-of-spec : {M : Type 1} → statement M
 risk-of-spec =
