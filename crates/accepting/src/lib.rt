@@ -5,7 +5,7 @@ ghost use lib.ListN.{length};
 ghost use Rattle.rules.specs.State.{width};
 ghost use Rattle.rules.specs.Rules.{only, nowAccepts};
 ghost use Rattle.rules.specs.Inner.{Since};
-ghost use Rattle.sets.specs.Rows.{Rows, rowQuestions};
+ghost use Rattle.sets.specs.Inner.Rows.{Rows, rowQuestions};
 
 // The site alone if b, else nobody.
 pub fn only(b: bool, v: usize) -> u64

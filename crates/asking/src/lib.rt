@@ -2,7 +2,7 @@
 ghost use mathlib.Core.Path.{_≡_};
 ghost use Prim.Native.Nat.{_<_};
 ghost use Rattle.asking.specs.Inner.{Asked};
-ghost use Rattle.sets.specs.Rows.{Rows, rowQuestions};
+ghost use Rattle.sets.specs.Inner.Rows.{Rows, rowQuestions};
 
 // The receiver belongs to the largest quorum inside w.
 pub fn in_quorum(table: &[u64], n: usize, receiver: usize, w: u64) -> bool

@@ -4,7 +4,7 @@ ghost use mathlib.Core.Bool.{false};
 ghost use Prim.Native.Nat.{_<_};
 ghost use Rattle.rules.specs.Rules.{accepting};
 ghost use Rattle.rules.specs.Inner.{New};
-ghost use Rattle.sets.specs.Rows.{Rows, rowQuestions};
+ghost use Rattle.sets.specs.Inner.Rows.{Rows, rowQuestions};
 
 // The receiver belongs to the largest quorum inside w. It does not belong to that inside before, where only the sender and the receiver are new. If the
 // sender has no slice inside w, it brings nobody in.

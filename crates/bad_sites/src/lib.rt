@@ -6,7 +6,7 @@ ghost use Rattle.ground.specs.Search.{some};
 ghost use Rattle.rules.specs.State.{width};
 ghost use Rattle.rules.specs.Sound.{badSide, badSite};
 ghost use Rattle.asking.specs.Inner.{Asked};
-ghost use Rattle.sets.specs.Rows.{Rows, rowQuestions};
+ghost use Rattle.sets.specs.Inner.Rows.{Rows, rowQuestions};
 
 // One site and one side. A site that has nothing of the side is not asked further; the rules are asked last: they cost most.
 fn is_bad_side(

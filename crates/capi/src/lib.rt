@@ -116,7 +116,8 @@ pub extern "C" fn siren_step(
     out: &mut [u64; 4],
 ) -> u64
     ensures answer { λ r. ⌜ r ≡ ofStepped (toStepped (stepCheck (lists (now (table .entry))) faulty (call kind from to side) (now (state .entry)))) .number ⌝ }
-    ensures told { λ r. ⌜ now (out .exit) ≡ ofStepped (toStepped (stepCheck (lists (now (table .entry))) faulty (call kind from to side) (now (state .entry)))) .out ⌝ }
+    ensures told { λ r.
+        ⌜ now (out .exit) ≡ ofStepped (toStepped (stepCheck (lists (now (table .entry))) faulty (call kind from to side) (now (state .entry)))) .out ⌝ }
     ensures memory { λ r. ⌜ now (state .exit) ≡ stepInto (lists (now (table .entry))) faulty (call kind from to side) (now (state .entry)) ⌝ }
 {
     said_votes::stepped(
@@ -136,9 +137,12 @@ pub extern "C" fn siren_run(
     out: &mut [u64; 4],
 ) -> u64
     ensures answer { λ r. ⌜ r ≡ runSays (lists (now (table .entry))) faulty (now (calls .entry)) (now (state .entry)) (now (answers .entry)) .number ⌝ }
-    ensures told { λ r. ⌜ now (out .exit) ≡ runSays (lists (now (table .entry))) faulty (now (calls .entry)) (now (state .entry)) (now (answers .entry)) .out ⌝ }
-    ensures states { λ r. ⌜ now (state .exit) ≡ runState (lists (now (table .entry))) faulty (now (calls .entry)) (now (state .entry)) (now (answers .entry)) ⌝ }
-    ensures bytes { λ r. ⌜ now (answers .exit) ≡ runAnswers (lists (now (table .entry))) faulty (now (calls .entry)) (now (state .entry)) (now (answers .entry)) ⌝ }
+    ensures told { λ r.
+        ⌜ now (out .exit) ≡ runSays (lists (now (table .entry))) faulty (now (calls .entry)) (now (state .entry)) (now (answers .entry)) .out ⌝ }
+    ensures states { λ r.
+        ⌜ now (state .exit) ≡ runState (lists (now (table .entry))) faulty (now (calls .entry)) (now (state .entry)) (now (answers .entry)) ⌝ }
+    ensures bytes { λ r.
+        ⌜ now (answers .exit) ≡ runAnswers (lists (now (table .entry))) faulty (now (calls .entry)) (now (state .entry)) (now (answers .entry)) ⌝ }
 {
     said_votes::ran(run::run(table, faulty, calls, state, answers), out)
 }
@@ -153,7 +157,8 @@ pub extern "C" fn siren_run_records(
     answers: &mut [u8],
     out: &mut [u64; 4],
 ) -> u64
-    ensures answer { λ r. ⌜ r ≡ runSays (lists (now (table .entry))) faulty (bytesOf (now (calls .entry))) (now (state .entry)) (now (answers .entry)) .number ⌝ }
+    ensures answer { λ r.
+        ⌜ r ≡ runSays (lists (now (table .entry))) faulty (bytesOf (now (calls .entry))) (now (state .entry)) (now (answers .entry)) .number ⌝ }
     ensures told { λ r.
         ⌜ now (out .exit) ≡ runSays (lists (now (table .entry))) faulty (bytesOf (now (calls .entry))) (now (state .entry)) (now (answers .entry)) .out ⌝ }
     ensures states { λ r.

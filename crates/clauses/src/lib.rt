@@ -4,7 +4,7 @@ ghost use Prim.Native.Nat.{_<_};
 ghost use Rattle.rules.specs.Rules.{accepting};
 ghost use Rattle.rules.specs.Sound.{differ, notZero, notOwn, notRule, notSent};
 ghost use Rattle.asking.specs.Inner.{Asked};
-ghost use Rattle.sets.specs.Rows.{Rows, rowQuestions};
+ghost use Rattle.sets.specs.Inner.Rows.{Rows, rowQuestions};
 
 // One test holds and not the other.
 fn differ(a: bool, b: bool) -> bool

@@ -7,7 +7,7 @@ ghost use Rattle.masks.specs.Mask.{_∈_};
 ghost use Rattle.rules.specs.State.{accepts, confirmed, width, get};
 ghost use Rattle.rules.specs.Rules.{confirming, nowConfirms};
 ghost use Rattle.rules.specs.Inner.{New};
-ghost use Rattle.sets.specs.Rows.{Rows, rowQuestions};
+ghost use Rattle.sets.specs.Inner.Rows.{Rows, rowQuestions};
 
 // The receiver confirms if the rule says so. If it has confirmed, nothing is asked.
 pub fn now_confirms(

@@ -35,7 +35,7 @@ use Rattle.sets.specs.Slices.{slicesOf}
 use Rattle.sets.proofs.Quorum.{quorum-of, quorum-some, quorum-slice, quorum-below}
 use Rattle.sets.proofs.Rows.{listed-inside}
 use Rattle.sets.proofs.Slices.{inside-of, inside-ex, no-slice}
-use Rattle.sets.specs.Rows.{Rows, rulesOf}
+use Rattle.sets.specs.Inner.Rows.{Rows, rulesOf}
 use Rattle.table.specs.Table.{countOf, sliceOf}
 
 -- the sets without a site, as words
@@ -263,7 +263,11 @@ module _ {t : List ℕ} {n : ℕ} (rows : Rows t n) {word : ℕ} (h : Held t 6 w
       and-i
       (h .each u l
       ∙ every-of 6 (λ y. not (has u y) || slicesOf t .inside y u)
-      (λ y ly. ⊎-elim (λ k. or-i (not (has u y)) (slicesOf t .inside y u) (sym (listed-inside (rows .listed y (∈-below (ones-lt n) (quorum-below (rulesOf t .inside) n e .each y (mem k)))) u) ∙ quorum-slice (rulesOf t .inside) n e (mem k))) (λ k. ap (λ (c : Bool). not c || slicesOf t .inside y u) k) (cases (has u y))))
+      (λ y ly. ⊎-elim
+      (λ k.
+      let l = ∈-below (ones-lt n) (quorum-below (rulesOf t .inside) n e .each y (mem k)) in
+      or-i (not (has u y)) (slicesOf t .inside y u) (sym (listed-inside (rows .listed y l) u) ∙ quorum-slice (rulesOf t .inside) n e (mem k)))
+      (λ k. ap (λ (c : Bool). not c || slicesOf t .inside y u) k) (cases (has u y))))
       (ap not (has-single 0 u ∙ ne-eqb u 0 (quorum-some (rulesOf t .inside) n e))))
     where
       member : (u : ℕ) → u < 64 → every 6 (λ y. not (has u y) || slicesOf t .inside y u) ≡ true → (v : ℕ) → v ∈ u → slicesOf t .inside v u ≡ true

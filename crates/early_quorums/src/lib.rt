@@ -4,7 +4,7 @@ ghost use Prim.Native.Nat.{_<_};
 ghost use Rattle.ground.specs.Search.{least};
 ghost use Rattle.sets.specs.Quorum.{quorum};
 ghost use Rattle.early_quorums.specs.Inner.{Without, Sets, Held};
-ghost use Rattle.sets.specs.Rows.{Rows, rulesOf};
+ghost use Rattle.sets.specs.Inner.Rows.{Rows, rulesOf};
 
 // The sets without site x.
 fn without(x: usize) -> u64

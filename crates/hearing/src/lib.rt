@@ -5,7 +5,7 @@ ghost use lib.ListN.{length};
 ghost use Rattle.rules.specs.State.{votes, accepts, width, get};
 ghost use Rattle.rules.specs.Rules.{hears, taken};
 ghost use Rattle.rules.specs.Inner.{InRange, Since};
-ghost use Rattle.sets.specs.Rows.{Rows, rowQuestions};
+ghost use Rattle.sets.specs.Inner.Rows.{Rows, rowQuestions};
 ghost use Rattle.votes.specs.Call.{call};
 
 // The site votes, and hears its own vote.

@@ -28,7 +28,7 @@ use Rattle.sets.specs.Slices.{slicesOf}
 use Rattle.sets.proofs.Quorum.{round-⊆, round-slice, ∈-round, round-lt}
 use Rattle.sets.proofs.Rows.{rows-lawful, listed-inside}
 use Rattle.sets.proofs.Slices.{inside-of, inside-ex}
-use Rattle.sets.specs.Rows.{Rows, rulesOf}
+use Rattle.sets.specs.Inner.Rows.{Rows, rulesOf}
 use Rattle.table.specs.Table.{countOf, sliceOf}
 
 -- what holds of each place of a list, and of the value that one place gets

@@ -8,7 +8,7 @@ use mathlib.Core.Path.{_≡_}
 use lib.Bits.{bitOr}
 use lib.ListN.{length, getD}
 use Rattle.masks.specs.Mask.{has, within, allBelow, _∈_}
-use Rattle.sets.specs.Rows.{Rows, rulesOf}
+use Rattle.sets.specs.Inner.Rows.{Rows, rulesOf}
 use Rattle.sets.specs.Slices.{slicesOf}
 use Rattle.table.specs.Table.{countOf, sliceOf}
 

@@ -5,7 +5,7 @@ ghost use lib.Bits.{bitAnd};
 ghost use Prim.Native.Nat.{_<_, _≤_, _+_, _*_, _^_};
 ghost use Rattle.sets.specs.Quorum.{round};
 ghost use Rattle.holders.specs.Inner.{Marked, Handed, Handing, Spread, Holds};
-ghost use Rattle.sets.specs.Rows.{Rows, rulesOf};
+ghost use Rattle.sets.specs.Inner.Rows.{Rows, rulesOf};
 
 // Each slice of site v marks the set that it is.
 fn mark_site(table: &[u64], n: usize, v: usize, words: &mut [u64; 1024])

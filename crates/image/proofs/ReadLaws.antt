@@ -26,7 +26,7 @@ use Rattle.sets.proofs.Lawful.{table-lawful}
 use Rattle.sets.proofs.Rows.{rows-lawful}
 use Rattle.sets.proofs.WholeQuorum as whole
 use Rattle.sets.specs.Quorum.{largest}
-use Rattle.sets.specs.Rows.{Rows, rulesOf}
+use Rattle.sets.specs.Inner.Rows.{Rows, rulesOf}
 use Rattle.sets.specs.Slices.{slicesOf}
 use Rattle.site_block.proofs.Block.{block-sound}
 use Rattle.site_block.specs.Block.{blockCheck}

@@ -6,7 +6,7 @@ ghost use lib.Bits.{bitOr};
 ghost use Rattle.masks.specs.Mask.{minus, allBelow};
 ghost use Rattle.verdicts.specs.Verdicts.{dispensable, intact};
 ghost use Rattle.holders.specs.Inner.{Holds};
-ghost use Rattle.sets.specs.Rows.{Rows, rulesOf};
+ghost use Rattle.sets.specs.Inner.Rows.{Rows, rulesOf};
 
 // b is dispensable.
 fn is_dispensable(table: &[u64], n: usize, list: &[u64; 1024], b: u64) -> bool

@@ -14,7 +14,7 @@ use Rattle.masks.proofs.Laws.Single.{single-∈}
 use Rattle.masks.proofs.Laws.Subsets.{⊆-refl, ⊆-trans, within-⊆, ⊆-within, ∈-minus}
 use Rattle.masks.specs.Mask.{within, single, minus, allBelow, _∈_, _⊆_}
 use Rattle.one_round.specs.Inner.Places.{Place, Places, Placed, SlicesHeld}
-use Rattle.sets.specs.Rows.{Rows, rulesOf}
+use Rattle.sets.specs.Inner.Rows.{Rows, rulesOf}
 use Rattle.table.specs.Table.{sliceOf}
 
 -- site v, or another one

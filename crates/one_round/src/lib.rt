@@ -9,7 +9,7 @@ ghost use Rattle.sets.specs.Quorum.{round};
 ghost use Rattle.one_round.specs.Inner.First.{lowest};
 ghost use Rattle.one_round.specs.Inner.Places.{Places, Placed, SlicesHeld};
 ghost use Rattle.one_round.specs.Inner.Swept.{Swept};
-ghost use Rattle.sets.specs.Rows.{Rows, rulesOf};
+ghost use Rattle.sets.specs.Inner.Rows.{Rows, rulesOf};
 
 // Slice i of site v is inside w.
 fn is_inside(table: &[u64], n: usize, v: usize, i: u8, w: u64) -> bool

@@ -26,11 +26,12 @@ use Rattle.rules.specs.Rules.{answer, against, taken}
 use Rattle.rules.specs.Sound.{Sound}
 use Rattle.rules.specs.State.{voted, width, get, Below}
 use Rattle.rules.specs.Theorems.{Rests}
-use Rattle.rules.specs.Vote.{vote, voteOf, rowVote}
+use Rattle.rules.specs.Vote.{vote, voteOf}
+use Rattle.rules.specs.Inner.{rowVote}
 use Rattle.sets.specs.Groups.{Groups, Checked}
 use Rattle.sets.specs.Paper.{Fbqs}
 use Rattle.sets.specs.Promises.{Questions}
-use Rattle.sets.specs.Rows.{Rows}
+use Rattle.sets.specs.Inner.Rows.{Rows}
 use Rattle.votes.specs.Call.{Call}
 use Rattle.votes.specs.Inner.{Lawful, Fits}
 use Rattle.votes.specs.Vote.{Vote, fresh, step}

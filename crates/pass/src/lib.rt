@@ -2,10 +2,10 @@
 ghost use mathlib.Core.Path.{_≡_};
 ghost use Prim.Native.Nat.{_+_, _*_, _<_};
 ghost use lib.ListN.{length};
-ghost use Rattle.rules.specs.Vote.{rowVote};
+ghost use Rattle.rules.specs.Inner.{rowVote};
 ghost use Rattle.pass.specs.Calls.{calls, callAt};
 ghost use Rattle.pass.specs.Inner.{Passed};
-ghost use Rattle.sets.specs.Rows.{Rows};
+ghost use Rattle.sets.specs.Inner.Rows.{Rows};
 ghost use Rattle.votes.specs.Inner.{Works};
 use refusals::Check;
 

@@ -2,10 +2,10 @@
 ghost use mathlib.Core.Path.{_≡_};
 ghost use Prim.Native.Nat.{_*_, _≤_};
 ghost use lib.ListN.{length, replicate};
-ghost use Rattle.rules.specs.Vote.{rowVote};
+ghost use Rattle.rules.specs.Inner.{rowVote};
 ghost use Rattle.pass.specs.Calls.{calls};
 ghost use Rattle.passes.specs.Inner.{Begun, Whole};
-ghost use Rattle.sets.specs.Rows.{Rows};
+ghost use Rattle.sets.specs.Inner.Rows.{Rows};
 
 // Passes after a first one that changed the state, until one changes nothing: how many, the first and the last counted.
 fn run_on(

@@ -19,7 +19,7 @@ use Rattle.refusals.specs.declared.Refusal.the-variants.{Range, Large}
 use Rattle.sets.proofs.Groups.{same-rules}
 use Rattle.sets.specs.Groups.{Groups, lists, sitesOf, groupsCheck, Checked, outsider, setCheck}
 use Rattle.sets.specs.Quorum as Quorum
-use Rattle.sets.specs.Rows.{rulesOf}
+use Rattle.sets.specs.Inner.Rows.{rulesOf}
 use Rattle.table.specs.Table.{sites}
 use Rattle.verdicts.specs.Verdicts as Verdicts
 

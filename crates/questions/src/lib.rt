@@ -7,7 +7,7 @@ ghost use Rattle.refusals.specs.First.{orElse, refuse};
 ghost use Rattle.refusals.specs.declared.Refusal as Refused;
 ghost use Rattle.sets.specs.Groups.{lists, outsider};
 ghost use Rattle.sets.specs.Quorum as Quorum;
-ghost use Rattle.sets.specs.Rows.{Rows, rulesOf};
+ghost use Rattle.sets.specs.Inner.Rows.{Rows, rulesOf};
 ghost use Rattle.questions.specs.Answers.{toHolds, quorum, toGreatest, largest, blocks};
 use refusals::Check;
 use refusals::Refusal;
@@ -95,7 +95,8 @@ pub fn largest(table: &[u64], set: u64) -> Greatest
 // Does the set block the site? Of rows: 10, 11, then the answer.
 pub fn blocks_of(rows: &[u64], n: usize, set: u64, site: u64) -> Holds
     requires { ⌜ Rows (now rows) n ⌝ }
-    ensures { λ r. ⌜ r ≡ toHolds (orElse (outsider n set) (refuse (not (ltb site n)) (Refused.Refusal.Range 0))) (rulesOf (now (rows .entry)) .blocked site set) ⌝ }
+    ensures { λ r.
+        ⌜ r ≡ toHolds (orElse (outsider n set) (refuse (not (ltb site n)) (Refused.Refusal.Range 0))) (rulesOf (now (rows .entry)) .blocked site set) ⌝ }
 {
     let q = sets::check_set(n, set);
     if let Check::Refused(r) = q {

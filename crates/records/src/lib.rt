@@ -4,7 +4,7 @@ ghost use lib.ListN.{length};
 ghost use Rattle.run.specs.Run.{ran, stateInto, answersInto};
 ghost use Rattle.records.specs.Inner.{RowEnded, TableEnded};
 ghost use Rattle.sets.specs.Groups.{lists};
-ghost use Rattle.sets.specs.Rows.{Rows};
+ghost use Rattle.sets.specs.Inner.Rows.{Rows};
 ghost use Rattle.packing.specs.Pack.{bytesOf};
 use packing::Call;
 use refusals::Check;
@@ -23,7 +23,8 @@ pub fn run_packed_of(
 ) -> Ran
     requires { ⌜ Rows (now rows) sites ⌝ }
     ensures { λ r.
-        ⌜ RowEnded (now (rows .entry)) sites faulty (now (room .entry)) n (now (state .entry)) (now (answers .entry)) r (now (state .exit)) (now (answers .exit)) ⌝ }
+        ⌜ RowEnded (now (rows .entry)) sites faulty (now (room .entry)) n (now (state .entry)) (now (answers .entry))
+        r (now (state .exit)) (now (answers .exit)) ⌝ }
 {
     if 4096 < n {
         let q = run::check_of(sites, faulty, 16388, state.len(), answers.len());
@@ -47,7 +48,8 @@ fn run_packed(
     answers: &mut [u8],
 ) -> Ran
     ensures { λ r.
-        ⌜ TableEnded (lists (now (table .entry))) faulty (now (room .entry)) n (now (state .entry)) (now (answers .entry)) r (now (state .exit)) (now (answers .exit)) ⌝ }
+        ⌜ TableEnded (lists (now (table .entry))) faulty (now (room .entry)) n (now (state .entry)) (now (answers .entry))
+        r (now (state .exit)) (now (answers .exit)) ⌝ }
 {
     let q = table::check(table);
     if let Check::Refused(r) = q {
@@ -64,7 +66,8 @@ pub fn run_records(
     state: &mut [u64],
     answers: &mut [u8],
 ) -> Ran
-    ensures answer { λ r. ⌜ r ≡ ran (lists (now (table .entry))) faulty (bytesOf (now (calls .entry))) (length (now (state .entry))) (length (now (answers .entry))) ⌝ }
+    ensures answer { λ r.
+        ⌜ r ≡ ran (lists (now (table .entry))) faulty (bytesOf (now (calls .entry))) (length (now (state .entry))) (length (now (answers .entry))) ⌝ }
     ensures states { λ r. ⌜ now (state .exit) ≡ stateInto r (lists (now (table .entry))) faulty (bytesOf (now (calls .entry))) (now (state .entry)) ⌝ }
     ensures bytes { λ r. ⌜ now (answers .exit) ≡ answersInto r (lists (now (table .entry))) faulty (bytesOf (now (calls .entry))) (now (answers .entry)) ⌝ }
 {

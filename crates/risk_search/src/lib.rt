@@ -5,7 +5,7 @@ ghost use Prim.Native.Nat.{_≤_, _<_};
 ghost use lib.Dec.{ltb};
 ghost use Rattle.masks.specs.Mask.{size};
 ghost use Rattle.risk.specs.Risk.{takenAlong, ruinous, firstRuin};
-ghost use Rattle.sets.specs.Rows.{Rows, rulesOf};
+ghost use Rattle.sets.specs.Inner.Rows.{Rows, rulesOf};
 
 // How many other sites are befouled if site v alone is faulty.
 pub fn taken_along(table: &[u64], n: usize, v: u64) -> u32

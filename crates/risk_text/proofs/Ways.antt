@@ -22,7 +22,7 @@ use Rattle.risk.proofs.RiskLaws.{first-counts}
 use Rattle.risk.specs.Risk.{takenAlong, firstRuin}
 use Rattle.sets.proofs.Groups.{same-rules}
 use Rattle.sets.specs.Groups.{Groups, lists, sitesOf, slicesIn, groupsCheck, Checked}
-use Rattle.sets.specs.Rows.{rulesOf}
+use Rattle.sets.specs.Inner.Rows.{rulesOf}
 use Rattle.sets.specs.Slices.{Slices}
 use Rattle.text.proofs.Width.{length-decimal}
 use Rattle.text.specs.Text.{ascii, decimal}

@@ -7,7 +7,7 @@ ghost use Rattle.masks.specs.Mask.{size};
 ghost use Rattle.risk_text.specs.RiskText.{riskLine, riskLines, riskText};
 ghost use Rattle.risk_text.specs.Inner.{riskRead, firstLines};
 ghost use Rattle.sets.specs.Groups.{lists};
-ghost use Rattle.sets.specs.Rows.{Rows, rulesOf};
+ghost use Rattle.sets.specs.Inner.Rows.{Rows, rulesOf};
 ghost use Rattle.text.specs.Written.{Writes};
 use check_text::ROOM;
 use image::Reading;

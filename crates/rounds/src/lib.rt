@@ -3,7 +3,7 @@ ghost use mathlib.Core.Path.{_≡_};
 ghost use Prim.Native.Nat.{_<_};
 ghost use Rattle.masks.specs.Mask.{has};
 ghost use Rattle.sets.specs.Quorum.{largest, rounds};
-ghost use Rattle.sets.specs.Rows.{Rows, rulesOf};
+ghost use Rattle.sets.specs.Inner.Rows.{Rows, rulesOf};
 
 // The set left and the number of rounds that dropped somebody.
 pub struct SetLeft {

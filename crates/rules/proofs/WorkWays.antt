@@ -21,7 +21,8 @@ use Rattle.votes.specs.Inner.{Works}
 use Rattle.rules.specs.Vote.{vote}
 use Rattle.sets.proofs.Rows.{rows-promises}
 use Rattle.sets.specs.Groups.{questions, Groups, sitesOf, fbqsIn, Checked}
-use Rattle.sets.specs.Rows.{Rows, rulesOf, rowQuestions, closure}
+use Rattle.sets.specs.Forms.{closure}
+use Rattle.sets.specs.Inner.Rows.{Rows, rulesOf, rowQuestions}
 
 -- what the rules rest on, of a checked table and of rows
 pub table-rests : (t : Groups) → Checked t → Rests (λ v. fbqsIn t) (questions t) (sitesOf t)

@@ -8,7 +8,10 @@ use Rattle.masks.specs.Mask.{has, _∈_}
 use Rattle.sets.specs.Promises.{Questions}
 use Rattle.rules.specs.Rules.{accepting, confirming}
 use Rattle.rules.specs.State.{votes, accepts, voted, accepted, confirmed, get}
+use Rattle.rules.specs.Vote.{vote}
+use Rattle.sets.specs.Inner.Rows.{rowQuestions}
 use Rattle.votes.specs.Call.{Call}
+use Rattle.votes.specs.Vote.{Vote}
 
 -- a call whose numbers are in range
 pub record InRange (n : ℕ) (c : Call) : Type 0 where
@@ -37,3 +40,7 @@ pub record Since (Q : Questions) (n sender receiver side votesBefore acceptsBefo
   pub confirmed-then : confirming Q receiver acceptsBefore ≡ true → receiver ∈ get s (confirmed n side)
   -- its own accept is heard by itself
   pub own-heard : receiver ∈ get s (accepted n side) → receiver ∈ get s (accepts side receiver)
+
+-- the vote of the rows of n sites, those of F faulty
+abbrev pub rowVote : List ℕ → ℕ → ℕ → Vote
+rowVote rows n F = vote (rowQuestions rows n) n F

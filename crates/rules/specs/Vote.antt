@@ -7,7 +7,6 @@ use Rattle.rules.specs.Sound.{Sound}
 use Rattle.rules.specs.State.{width, Below}
 use Rattle.sets.specs.Groups.{questions, Groups, sitesOf}
 use Rattle.sets.specs.Promises.{Questions}
-use Rattle.sets.specs.Rows.{rowQuestions}
 use Rattle.votes.specs.Vote.{Vote}
 
 -- of n sites, those of F faulty; "the list proposes both sides to no correct site"
@@ -24,7 +23,3 @@ vote Q n F = record {
 -- of a table, the sites of F faulty
 abbrev pub voteOf : Groups → ℕ → Vote
 voteOf t F = vote (questions t) (sitesOf t) F
-
--- of the rows of n sites, as the functions inside know it
-abbrev pub rowVote : List ℕ → ℕ → ℕ → Vote
-rowVote rows n F = vote (rowQuestions rows n) n F

@@ -25,7 +25,8 @@ use Rattle.sets.specs.Groups.{Groups, lists, sitesOf, groupsCheck, Checked, out
 use Rattle.sets.specs.Promises.{Questions}
 use Rattle.table.specs.Table.{sites}
 use Rattle.rules.specs.State.{width}
-use Rattle.rules.specs.Vote.{vote, rowVote}
+use Rattle.rules.specs.Vote.{vote}
+use Rattle.rules.specs.Inner.{rowVote}
 use Rattle.votes.specs.Passes.{Run}
 use Rattle.votes.specs.Vote.{runOf}
 

@@ -8,7 +8,7 @@ use Rattle.refusals.specs.declared.Check.{Check}
 use Rattle.refusals.specs.declared.Refusal as Refusal
 use Rattle.refusals.specs.declared.Refusal.the-variants.{Room}
 use Rattle.rules.specs.State.{width}
-use Rattle.rules.specs.Vote.{rowVote}
+use Rattle.rules.specs.Inner.{rowVote}
 use Rattle.run.specs.Run.{listMisshapen, roomless, toRan, front}
 use Rattle.run.specs.declared.Ran.{Ran}
 use Rattle.sets.specs.Groups.{outsider}

@@ -1,9 +1,10 @@
-// The run of a list of calls, given as bytes: passes from first to last until a pass changes nothing. The table is checked first; the rest is asked of its rows.
+// The run of a list of calls, given as bytes: passes from first to last until a pass changes nothing. The table is checked first;
+// the rest is asked of its rows.
 ghost use mathlib.Core.Path.{_≡_};
 ghost use lib.ListN.{length};
 ghost use Prim.Native.Nat.{_≤_};
 ghost use Rattle.sets.specs.Groups.{lists};
-ghost use Rattle.sets.specs.Rows.{Rows};
+ghost use Rattle.sets.specs.Inner.Rows.{Rows};
 ghost use Rattle.run.specs.Inner.{rowRunCheck, rowRan, rowStateInto, rowAnswersInto};
 ghost use Rattle.run.specs.Run.{runCheck, ran, stateInto, answersInto};
 use refusals::Check;

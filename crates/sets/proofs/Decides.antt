@@ -11,7 +11,7 @@ use Rattle.masks.specs.Mask.{others}
 use Rattle.sets.specs.Decides.{Greatest, Decides}
 use Rattle.sets.specs.Paper.{Fbqs, Quorum, Blocking}
 use Rattle.sets.specs.Quorum.{quorum, largest}
-use Rattle.sets.specs.Rows.{Lawful}
+use Rattle.sets.specs.Forms.{LawfulSlices}
 use Rattle.sets.specs.Slices.{Slices}
 use Rattle.sets.proofs.Lawful.{Answers, inside-answers}
 use Rattle.sets.proofs.Quorum.{quorum-of, quorum-some, quorum-below, quorum-slice, largest-⊆, largest-still, largest-quorum, largest-greatest, largest-after, rounds-drop, rounds-few}
@@ -47,7 +47,7 @@ module _ {S : Fbqs} {s : ℕ → ℕ → Bool} {n : ℕ} (answers : Answers S s 
 
 -- of a lawful table
 
-module _ {S : Fbqs} {r : Slices} {n : ℕ} (lawful : Lawful S r n) where
+module _ {S : Fbqs} {r : Slices} {n : ℕ} (lawful : LawfulSlices S r n) where
   pub blocked-is : (v w : ℕ) → (r .blocked v w ≡ true) ↔ Blocking S v (others w v)
   blocked-is v w = (
     λ e q x z. lawful .blocked-slice v w q e x z,

@@ -14,14 +14,15 @@ use Rattle.refusals.specs.declared.Refusal.the-variants.{Set}
 use Rattle.sets.specs.Decides.{TableIsFbqs, TableDecides, TablePromises}
 use Rattle.sets.specs.Groups.{Groups, lists, sitesOf, fbqsIn, slicesIn, groupsCheck, SoundTable, Checked, outsider, setCheck, questions}
 use Rattle.sets.specs.Promises.{questionsOf}
-use Rattle.sets.specs.Rows.{Rows, rulesOf, rowQuestions, Lawful}
+use Rattle.sets.specs.Forms.{LawfulSlices}
+use Rattle.sets.specs.Inner.Rows.{Rows, rulesOf, rowQuestions}
 use Rattle.sets.proofs.Decides.{decides}
 use Rattle.sets.proofs.Lawful.{table-lawful}
 use Rattle.sets.proofs.Promises.{promises}
 use Rattle.table.proofs.Exact.{checked, exact}
 use Rattle.table.specs.Table.{sites, Table}
 
-pub lawful : (t : Groups) → Checked t → Lawful (fbqsIn t) (slicesIn t) (sitesOf t)
+pub lawful : (t : Groups) → Checked t → LawfulSlices (fbqsIn t) (slicesIn t) (sitesOf t)
 lawful (lists t) c = table-lawful (checked t c)
 
 -- the check takes exactly the sound tables

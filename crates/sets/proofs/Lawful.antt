@@ -12,7 +12,7 @@ use Rattle.masks.proofs.Laws.Members.{has-zero}
 use Rattle.masks.proofs.Laws.Subsets.{mem, ⊆-refl, ⊆-trans, ∈-below, or-⊆, or-⊆-l, or-⊆-r, minus-⊆, ∈-minus, minus-not-in}
 use Rattle.masks.specs.Mask.{has, minus, others, allBelow, _∈_, _⊆_}
 use Rattle.sets.specs.Paper.{Fbqs, WellFormed, delete}
-use Rattle.sets.specs.Rows.{Lawful}
+use Rattle.sets.specs.Forms.{LawfulSlices}
 use Rattle.sets.specs.Slices.{Slices, fbqsOf, slicesOf}
 use Rattle.sets.proofs.Quorum.{Rule}
 use Rattle.sets.proofs.Slices.{inside-of, inside-ex, deleted-inside, blocked-meets, unblocked-misses}
@@ -26,7 +26,7 @@ pub record Answers (S : Fbqs) (s : ℕ → ℕ → Bool) (n : ℕ) : Type 0 wher
   pub slice : (v u : ℕ) → s v u ≡ true → (q : ℕ) × S .Slice v q × (q ⊆ u)
   pub inside : (v u q : ℕ) → v ∈ S .sites → S .Slice v q → q ⊆ u → s v u ≡ true
 
-module _ {S : Fbqs} {r : Slices} {n : ℕ} (lawful : Lawful S r n) where
+module _ {S : Fbqs} {r : Slices} {n : ℕ} (lawful : LawfulSlices S r n) where
   pub inside-grows : Rule (r .inside)
   inside-grows =
       record { grows = λ v a b sub e. let x = lawful .slice-inside v a e in lawful .inside-slice v b (x .0) (x .1) (⊆-trans (x .2) sub) }
@@ -87,7 +87,7 @@ module _ {t : List ℕ} {n : ℕ} (table : Table t n) where
         belongs = λ v q h x. subst (λ (y : ℕ). v ∈ y) (sym (x .2)) (table .owner v (x .0) (∈-below (ones-lt n) h) (x .1));
       }
 
-  pub table-lawful : Lawful (fbqsOf t n) (slicesOf t) n
+  pub table-lawful : LawfulSlices (fbqsOf t n) (slicesOf t) n
   table-lawful =
       record {
         all-sites = refl;

@@ -11,13 +11,13 @@ use Rattle.masks.specs.Mask.{single, others, _∈_, _⊆_}
 use Rattle.sets.specs.Paper.{Fbqs, Quorum}
 use Rattle.sets.specs.Promises.{Promises, questionsOf}
 use Rattle.sets.specs.Quorum.{largest}
-use Rattle.sets.specs.Rows.{Lawful}
+use Rattle.sets.specs.Forms.{LawfulSlices}
 use Rattle.sets.specs.Slices.{Slices}
 use Rattle.sets.proofs.Decides.{quorum-is, is-quorum, blocked-is}
 use Rattle.sets.proofs.Lawful.{inside-answers, inside-grows}
 use Rattle.sets.proofs.Quorum.{largest-⊆, largest-quorum, largest-greatest, largest-grows}
 
-module _ {S : Fbqs} {r : Slices} {n : ℕ} (lawful : Lawful S r n) where
+module _ {S : Fbqs} {r : Slices} {n : ℕ} (lawful : LawfulSlices S r n) where
   abbrev big : ℕ → ℕ
   big w = largest (r .inside) n w
 

@@ -13,7 +13,8 @@ use Rattle.masks.specs.Mask.{has, within, minus, others, allBelow}
 use Rattle.sets.specs.Forms.{Form}
 use Rattle.sets.specs.Promises.{Promises, questionsOf}
 use Rattle.sets.specs.Quorum.{largest}
-use Rattle.sets.specs.Rows.{ListedRow, Rows, rulesOf, rowQuestions, closure, Lawful}
+use Rattle.sets.specs.Forms.{closure, LawfulSlices}
+use Rattle.sets.specs.Inner.Rows.{ListedRow, Rows, rulesOf, rowQuestions}
 use Rattle.sets.specs.Slices.{slicesOf}
 use Rattle.sets.proofs.Forms.{form-lawful}
 use Rattle.sets.proofs.Promises.{promises}
@@ -67,7 +68,7 @@ module _ {t : List ℕ} {n : ℕ} (rows : Rows t n) where
         blocked-rest = blocked-by-rest;
       }
 
-  pub rows-lawful : Lawful (closure (rulesOf t) n) (rulesOf t) n
+  pub rows-lawful : LawfulSlices (closure (rulesOf t) n) (rulesOf t) n
   rows-lawful = form-lawful (rulesOf t) n rows-form
 
   pub rows-promises : Promises (λ v. closure (rulesOf t) n) (rowQuestions t n)

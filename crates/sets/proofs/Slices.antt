@@ -15,7 +15,7 @@ use Rattle.ground.proofs.Some.{some-of, some-ex}
 use Rattle.ground.specs.Search.{some}
 use Rattle.masks.proofs.Laws.Subsets.{within-⊆, ⊆-within, minus-within}
 use Rattle.masks.specs.Mask.{has, within, others, _⊆_}
-use Rattle.sets.specs.Rows.{ListedRow, Rows}
+use Rattle.sets.specs.Inner.Rows.{ListedRow, Rows}
 use Rattle.sets.specs.Slices.{slicesOf}
 use Rattle.table.specs.Table.{countOf, sliceOf}
 

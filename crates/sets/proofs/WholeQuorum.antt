@@ -7,13 +7,13 @@ use Rattle.masks.proofs.Laws.Subsets.{⊆-refl, not-in-zero}
 use Rattle.masks.specs.Mask.{allBelow, _∈_}
 use Rattle.sets.specs.Paper.{Fbqs, Quorum}
 use Rattle.sets.specs.Quorum.{quorum, largest}
-use Rattle.sets.specs.Rows.{Lawful}
+use Rattle.sets.specs.Forms.{LawfulSlices}
 use Rattle.sets.specs.Slices.{Slices}
 use Rattle.sets.proofs.Decides.{is-quorum}
 use Rattle.sets.proofs.Lawful.{inside-answers}
 use Rattle.sets.proofs.Quorum.{quorum-some, quorum-still, largest-stop}
 
-module _ {S : Fbqs} {r : Slices} {n : ℕ} (lawful : Lawful S r n) (some-site : 0 < n) where
+module _ {S : Fbqs} {r : Slices} {n : ℕ} (lawful : LawfulSlices S r n) (some-site : 0 < n) where
   -- "quorum availability is trivially met since the set V of servers is a quorum"
   pub sites-quorum : Quorum S (S .sites)
   sites-quorum =

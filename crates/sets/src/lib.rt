@@ -5,7 +5,7 @@ ghost use Prim.Native.Nat.{ℕ, _<_, _≤_};
 ghost use Rattle.masks.specs.Mask.{within};
 ghost use Rattle.table.specs.Table.{countOf, sliceOf};
 ghost use Rattle.sets.specs.Groups.{outsider};
-ghost use Rattle.sets.specs.Rows.{Rows, rulesOf};
+ghost use Rattle.sets.specs.Inner.Rows.{Rows, rulesOf};
 ghost use Rattle.sets.specs.Quorum.{quorum};
 use refusals::Check;
 use refusals::Refusal;

@@ -5,7 +5,7 @@ ghost use Prim.Native.Nat.{_≤_};
 ghost use lib.Dec.{eqb};
 ghost use Rattle.verdicts.specs.Verdicts.{beside, firstApart};
 ghost use Rattle.shared_sites.specs.Inner.{besideFirst};
-ghost use Rattle.sets.specs.Rows.{Rows, rulesOf};
+ghost use Rattle.sets.specs.Inner.Rows.{Rows, rulesOf};
 
 pub mod search;
 

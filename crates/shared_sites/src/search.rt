@@ -5,7 +5,7 @@ ghost use lib.Bits.{bitAnd};
 ghost use Rattle.sets.specs.Quorum.{largest};
 ghost use Rattle.verdicts.specs.Verdicts.{apart, firstApart};
 ghost use Rattle.holders.specs.Inner.{Holds};
-ghost use Rattle.sets.specs.Rows.{Rows, rulesOf};
+ghost use Rattle.sets.specs.Inner.Rows.{Rows, rulesOf};
 
 // The largest quorum inside w, which has no member of b.
 fn largest(table: &[u64], n: usize, list: &[u64; 1024], b: u64, w: u64) -> u64

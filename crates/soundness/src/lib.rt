@@ -7,7 +7,7 @@ ghost use Rattle.ground.specs.Search.{some};
 ghost use Rattle.masks.specs.Mask.{within, allBelow};
 ghost use Rattle.rules.specs.State.{get};
 ghost use Rattle.rules.specs.Sound.{unsound};
-ghost use Rattle.sets.specs.Rows.{Rows, rowQuestions};
+ghost use Rattle.sets.specs.Inner.Rows.{Rows, rowQuestions};
 
 // A bit at or above n in one of the state's numbers.
 fn some_bit_above(n: usize, state: &[u64]) -> bool

@@ -3,8 +3,8 @@ ghost use mathlib.Core.Path.{_≡_};
 ghost use Rattle.refusals.specs.declared.Check as Answer;
 ghost use Rattle.rules.specs.Rules.{answer};
 ghost use Rattle.rules.specs.Sound.{Sound};
-ghost use Rattle.rules.specs.Vote.{rowVote};
-ghost use Rattle.sets.specs.Rows.{Rows, rowQuestions};
+ghost use Rattle.rules.specs.Inner.{rowVote};
+ghost use Rattle.sets.specs.Inner.Rows.{Rows, rowQuestions};
 ghost use Rattle.votes.specs.Call.{call};
 ghost use Rattle.votes.specs.Inner.{Works};
 use refusals::Check;
@@ -52,7 +52,8 @@ pub fn work(
 ) -> Worked
     requires { ⌜ Rows (now table) n ⌝ }
     requires { ⌜ Sound (rowQuestions (now table) n) n faulty (now state) ⌝ }
-    ensures { λ r. ⌜ Works (rowVote (now (table .entry)) n faulty) (call kind from to side) (now (state .entry)) (r .answer) (r .changed) (now (state .exit)) ⌝ }
+    ensures { λ r.
+        ⌜ Works (rowVote (now (table .entry)) n faulty) (call kind from to side) (now (state .entry)) (r .answer) (r .changed) (now (state .exit)) ⌝ }
 {
     let a = answers::answer(n, faulty, state, kind, from, to, side);
     let Check::Sound = a else {

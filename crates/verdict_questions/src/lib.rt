@@ -5,7 +5,7 @@ ghost use lib.Dec.{ltb};
 ghost use Rattle.refusals.specs.First.{orElse, refuse};
 ghost use Rattle.refusals.specs.declared.Refusal as Refused;
 ghost use Rattle.sets.specs.Groups.{lists, outsider};
-ghost use Rattle.sets.specs.Rows.{Rows, rulesOf};
+ghost use Rattle.sets.specs.Inner.Rows.{Rows, rulesOf};
 ghost use Rattle.questions.specs.Answers.{toSharing, shared, toStanding, intact};
 ghost use Rattle.verdicts.specs.Verdicts as Verdicts;
 use questions::Sharing;

@@ -14,7 +14,7 @@ use Rattle.masks.specs.Mask.{minus, allBelow, _∈_, _⊆_}
 use Rattle.sets.proofs.Decides.{quorum-is, is-quorum}
 use Rattle.sets.proofs.Lawful.{Answers, inside-answers, deleted-answers}
 use Rattle.sets.proofs.Groups.{lawful}
-use Rattle.sets.specs.Rows.{Lawful}
+use Rattle.sets.specs.Forms.{LawfulSlices}
 use Rattle.sets.specs.Paper.{Fbqs, Quorum, Intersection, Dispensable, Intact, Befouled}
 use Rattle.sets.specs.Quorum.{quorum}
 use Rattle.sets.specs.Slices.{Slices}
@@ -43,7 +43,7 @@ module _ {S : Fbqs} {s : ℕ → ℕ → Bool} {n : ℕ} (answers : Answers S s 
       }
 
 -- of a lawful table
-module _ {S : Fbqs} {r : Slices} {n : ℕ} (lawful : Lawful S r n) where
+module _ {S : Fbqs} {r : Slices} {n : ℕ} (lawful : LawfulSlices S r n) where
   to-sites : {b : ℕ} → b ⊆ allBelow n → b ⊆ S .sites
   to-sites {b} sub = subst (λ (x : ℕ). b ⊆ x) (sym (lawful .all-sites)) sub
 

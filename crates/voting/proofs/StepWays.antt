@@ -12,11 +12,12 @@ use Rattle.refusals.specs.declared.Refusal.the-variants.{Unsound}
 use Rattle.rules.proofs.Exact.{sound-of}
 use Rattle.rules.specs.Rules.{answer}
 use Rattle.rules.specs.Sound.{Sound, unsound}
-use Rattle.rules.specs.Vote.{vote, rowVote}
+use Rattle.rules.specs.Vote.{vote}
+use Rattle.rules.specs.Inner.{rowVote}
 use Rattle.sets.proofs.Groups.{same-questions}
 use Rattle.sets.specs.Groups.{Groups, lists, groupsCheck, Checked, outsider, setCheck}
 use Rattle.sets.specs.Promises.{Questions}
-use Rattle.sets.specs.Rows.{rowQuestions}
+use Rattle.sets.specs.Inner.Rows.{rowQuestions}
 use Rattle.table.specs.Table.{sites}
 use Rattle.votes.specs.Call.{Call}
 use Rattle.votes.specs.Inner.{Works}

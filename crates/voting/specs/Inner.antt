@@ -6,9 +6,9 @@ use Rattle.refusals.specs.declared.Check.{Check}
 use Rattle.refusals.specs.declared.Refusal.the-variants.{Unsound}
 use Rattle.rules.specs.Rules.{answer}
 use Rattle.rules.specs.Sound.{unsound}
-use Rattle.rules.specs.Vote.{rowVote}
+use Rattle.rules.specs.Inner.{rowVote}
 use Rattle.sets.specs.Groups.{outsider}
-use Rattle.sets.specs.Rows.{rowQuestions}
+use Rattle.sets.specs.Inner.Rows.{rowQuestions}
 use Rattle.votes.specs.Call.{Call}
 use Rattle.votes.specs.Vote.{step, ifTaken}
 

@@ -1,7 +1,7 @@
 // The public calls of the voting: the soundness of a state, and the step. Of each the table is checked first; the rest is asked of its rows.
 ghost use mathlib.Core.Path.{_≡_};
 ghost use Rattle.sets.specs.Groups.{lists};
-ghost use Rattle.sets.specs.Rows.{Rows};
+ghost use Rattle.sets.specs.Inner.Rows.{Rows};
 ghost use Rattle.voting.specs.Inner.{rowSound, rowStep, rowStepInto};
 ghost use Rattle.voting.specs.Step.{soundCheck, stepCheck, toStepped, stepInto};
 ghost use Rattle.votes.specs.Call.{call};

@@ -6,7 +6,7 @@ use Rattle.rules.proofs.Since.{unaccepted, new-read}
 use Rattle.rules.proofs.WorkWays.{accepted-way, accepts-way}
 use Rattle.accepting.proofs.now_accepts.Statement.{statement}
 use Rattle.accepting.proofs.now_accepts.Tie as tie
-use Rattle.sets.specs.Rows.{rowQuestions}
+use Rattle.sets.specs.Inner.Rows.{rowQuestions}
 
 returns : tie.Need-returns
 returns c =

@@ -10,7 +10,7 @@ use Rattle.asking.proofs.AskedLaws.{asked-now}
 use Rattle.asking.proofs.belongs.Statement.{statement}
 use Rattle.asking.proofs.belongs.Tie as tie
 use Rattle.sets.proofs.Rows.{rows-promises, quorum-asked, slice-asked}
-use Rattle.sets.specs.Rows.{rowQuestions}
+use Rattle.sets.specs.Inner.Rows.{rowQuestions}
 
 returns : tie.Need-returns
 returns c =

@@ -5,7 +5,7 @@ use Rattle.rules.proofs.Since.{unblocked-then, no-quorum-then, new-either}
 use Rattle.rules.proofs.WorkWays.{accepts-by-blocking, accepts-by-quorum}
 use Rattle.asking_since.proofs.now_accepting.Statement.{statement}
 use Rattle.asking_since.proofs.now_accepting.Tie as tie
-use Rattle.sets.specs.Rows.{rowQuestions}
+use Rattle.sets.specs.Inner.Rows.{rowQuestions}
 
 now-blocked-requires : tie.Need-now-blocked-requires
 now-blocked-requires c κs =

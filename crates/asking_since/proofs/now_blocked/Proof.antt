@@ -4,7 +4,7 @@ use borrow.Author.Needs.{needs}
 use denote.Ref.{now}
 use Rattle.asking_since.proofs.now_blocked.Statement.{statement}
 use Rattle.asking_since.proofs.now_blocked.Tie as tie
-use Rattle.sets.specs.Rows.{rowQuestions}
+use Rattle.sets.specs.Inner.Rows.{rowQuestions}
 
 returns : tie.Need-returns
 returns c =

@@ -6,7 +6,7 @@ use Rattle.rules.proofs.Since.{sender-without}
 use Rattle.rules.proofs.WorkWays.{rows-rests}
 use Rattle.asking_since.proofs.now_in_quorum.Statement.{statement}
 use Rattle.asking_since.proofs.now_in_quorum.Tie as tie
-use Rattle.sets.specs.Rows.{rowQuestions}
+use Rattle.sets.specs.Inner.Rows.{rowQuestions}
 
 returns : tie.Need-returns
 returns c =

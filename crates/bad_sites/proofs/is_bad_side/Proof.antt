@@ -8,7 +8,7 @@ use Rattle.rules.proofs.WorkWays.{rows-rests}
 use Rattle.rules.proofs.Ways.{Read, zero-read, side-faulty, side-own, side-sent, side-rule}
 use Rattle.bad_sites.proofs.is_bad_side.Statement.{statement}
 use Rattle.bad_sites.proofs.is_bad_side.Tie as tie
-use Rattle.sets.specs.Rows.{rowQuestions}
+use Rattle.sets.specs.Inner.Rows.{rowQuestions}
 
 -- the five places, once they are read
 read : (d : tie.After-shared-slice-known7) →
@@ -42,22 +42,26 @@ returns-2 c =
     let d = c .before .before .before .before in
     let b = d .before .before .before .before .before .before .before .before .before .before .before .before in
     let a = b .args in
+    let Q = rowQuestions (now (a .table)) (a .n) in
     let zero = c .before .before .before .is-not-zero in
-    (sym (not-false _ (c .before .before .if1 .left)) ∙ side-faulty (rowQuestions (now (a .table)) (a .n)) (a .n) (a .faulty) (now (a .state)) (a .v) (a .side) (read d) (c .before .has .ensures) (c .if2 .taken) (zero .ensures), b .pre .1 .1 .1 .1)
+    (sym (not-false _ (c .before .before .if1 .left)) ∙ side-faulty Q (a .n) (a .faulty) (now (a .state)) (a .v) (a .side) (read d) (c .before .has .ensures) (c .if2 .taken) (zero .ensures), b .pre .1 .1 .1 .1)
 
 returns-3 : tie.Need-returns-3
 returns-3 c =
     let d = c .before .before .before .before .before .before in
     let b = d .before .before .before .before .before .before .before .before .before .before .before .before in
     let a = b .args in
-    (side-own (rowQuestions (now (a .table)) (a .n)) (a .n) (a .faulty) (now (a .state)) (a .v) (a .side) (read d) (c .before .before .before .has .ensures) (c .before .before .if2 .left) (c .before .is-not-own .ensures) (c .if3 .taken), b .pre .1 .1 .1 .1)
+    let Q = rowQuestions (now (a .table)) (a .n) in
+    (side-own Q (a .n) (a .faulty) (now (a .state)) (a .v) (a .side) (read d) (c .before .before .before .has .ensures) (c .before .before .if2 .left) (c .before .is-not-own .ensures) (c .if3 .taken), b .pre .1 .1 .1 .1)
 
 returns-4 : tie.Need-returns-4
 returns-4 c =
     let d = c .before .before .before .before .before .before .before .before in
     let b = d .before .before .before .before .before .before .before .before .before .before .before .before in
-    let a = b .args in (
-      side-sent (rowQuestions (now (a .table)) (a .n)) (a .n) (a .faulty) (now (a .state)) (a .v) (a .side) (read d) (c .before .before .before .before .before .has .ensures) (c .before .before .before .before .if2 .left) (c .before .before .before .is-not-own .ensures) (c .before .before .if3 .left) (c .before .is-not-sent .ensures) (c .if4 .taken),
+    let a = b .args in
+    let Q = rowQuestions (now (a .table)) (a .n) in (
+      side-sent Q (a .n) (a .faulty) (now (a .state)) (a .v) (a .side) (read d) (c .before .before .before .before .before .has .ensures) (c .before .before .before .before .if2 .left)
+          (c .before .before .before .is-not-own .ensures) (c .before .before .if3 .left) (c .before .is-not-sent .ensures) (c .if4 .taken),
       b .pre .1 .1 .1 .1,
     )
 
@@ -65,8 +69,11 @@ returns-5 : tie.Need-returns-5
 returns-5 c =
     let d = c .before .before .before .before .before .before .before .before .before .before in
     let a = d .before .before .before .before .before .before .before .before .before .before .before .before .args in
+    let Q = rowQuestions (now (a .table)) (a .n) in
     let r = c .is-not-rule .ensures in (
-      side-rule (rowQuestions (now (a .table)) (a .n)) (a .n) (a .faulty) (now (a .state)) (a .v) (a .side) (read d) (c .before .before .before .before .before .before .before .has .ensures) (c .before .before .before .before .before .before .if2 .left) (c .before .before .before .before .before .is-not-own .ensures) (c .before .before .before .before .if3 .left) (c .before .before .before .is-not-sent .ensures) (c .before .before .if4 .left) (r .0),
+      side-rule Q (a .n) (a .faulty) (now (a .state)) (a .v) (a .side) (read d) (c .before .before .before .before .before .before .before .has .ensures)
+          (c .before .before .before .before .before .before .if2 .left) (c .before .before .before .before .before .is-not-own .ensures) (c .before .before .before .before .if3 .left)
+          (c .before .before .before .is-not-sent .ensures) (c .before .before .if4 .left) (r .0),
       r .1,
     )
 

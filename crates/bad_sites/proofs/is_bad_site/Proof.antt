@@ -4,7 +4,7 @@ use denote.Ref.{now}
 use Rattle.rules.proofs.Ways.{site-drill, site-live}
 use Rattle.bad_sites.proofs.is_bad_site.Statement.{statement}
 use Rattle.bad_sites.proofs.is_bad_site.Tie as tie
-use Rattle.sets.specs.Rows.{rowQuestions}
+use Rattle.sets.specs.Inner.Rows.{rowQuestions}
 
 is-bad-side-requires : tie.Need-is-bad-side-requires
 is-bad-side-requires c κs =

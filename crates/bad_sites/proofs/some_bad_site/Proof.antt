@@ -14,7 +14,7 @@ use Rattle.rules.proofs.WorkWays.{rows-rests}
 use Rattle.rules.specs.Sound.{badSite}
 use Rattle.bad_sites.proofs.some_bad_site.Statement.{statement}
 use Rattle.bad_sites.proofs.some_bad_site.Tie as tie
-use Rattle.sets.specs.Rows.{rowQuestions}
+use Rattle.sets.specs.Inner.Rows.{rowQuestions}
 
 abbrev Inv-loop : tie.InvT-loop
 Inv-loop table n faulty state asked₀ v₀ asked v =

@@ -4,7 +4,7 @@ use denote.Ref.{now}
 use Rattle.rules.proofs.WorkWays.{accepts-by-blocking, accepts-by-quorum}
 use Rattle.clauses.proofs.is_accepting.Statement.{statement}
 use Rattle.clauses.proofs.is_accepting.Tie as tie
-use Rattle.sets.specs.Rows.{rowQuestions}
+use Rattle.sets.specs.Inner.Rows.{rowQuestions}
 
 returns : tie.Need-returns
 returns c =

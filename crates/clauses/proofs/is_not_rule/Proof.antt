@@ -4,7 +4,7 @@ use denote.Ref.{now}
 use Rattle.rules.proofs.Ways.{rule-accepted, rule-confirmed}
 use Rattle.clauses.proofs.is_not_rule.Statement.{statement}
 use Rattle.clauses.proofs.is_not_rule.Tie as tie
-use Rattle.sets.specs.Rows.{rowQuestions}
+use Rattle.sets.specs.Inner.Rows.{rowQuestions}
 
 returns : tie.Need-returns
 returns c =

@@ -6,7 +6,7 @@ use Rattle.rules.proofs.Since.{unconfirmed, new-read}
 use Rattle.rules.proofs.WorkWays.{confirmed-way, confirms-way}
 use Rattle.confirming.proofs.now_confirms.Statement.{statement}
 use Rattle.confirming.proofs.now_confirms.Tie as tie
-use Rattle.sets.specs.Rows.{rowQuestions}
+use Rattle.sets.specs.Inner.Rows.{rowQuestions}
 
 returns : tie.Need-returns
 returns c =

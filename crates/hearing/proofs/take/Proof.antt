@@ -6,7 +6,7 @@ use Rattle.rules.proofs.WorkWays.{taken-way}
 use Rattle.votes.specs.Call.{call}
 use Rattle.hearing.proofs.take.Statement.{statement}
 use Rattle.hearing.proofs.take.Tie as tie
-use Rattle.sets.specs.Rows.{rowQuestions}
+use Rattle.sets.specs.Inner.Rows.{rowQuestions}
 
 hear-requires : tie.Need-hear-requires
 hear-requires c κs =

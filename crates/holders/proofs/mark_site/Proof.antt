@@ -17,7 +17,7 @@ use Rattle.table.proofs.Table.{count-at, slice-at}
 use Rattle.table.specs.Table.{countOf}
 use Rattle.holders.proofs.mark_site.Tie as tie
 use Rattle.masks.proofs.Laws.Subsets.{below-⊆}
-use Rattle.sets.specs.Rows.{ListedRow}
+use Rattle.sets.specs.Inner.Rows.{ListedRow}
 
 abbrev Inv-loop : tie.InvT-loop
 Inv-loop table n v words₀ many i₀ words i = (i ≤ many) × (many ≤ 62) × Marked table v i words

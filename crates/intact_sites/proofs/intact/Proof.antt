@@ -15,7 +15,7 @@ use Rattle.verdicts.proofs.VerdictLaws.{intact-outside, intact-left, intact-not
 use Rattle.intact_sites.proofs.intact.Statement.{statement}
 use Rattle.intact_sites.proofs.intact.Tie as tie
 use Rattle.sets.proofs.Rows.{rows-lawful}
-use Rattle.sets.specs.Rows.{rulesOf}
+use Rattle.sets.specs.Inner.Rows.{rulesOf}
 
 -- f is a set of the sites, as it was asked
 sites : (f n : ℕ) {all : ℕ} {r : Bool} → all ≡ allBelow n → r ≡ within f all → r ≡ true → f ⊆ allBelow n

@@ -19,7 +19,7 @@ use Rattle.one_round.proofs.first_round.Statement.{statement}
 use Rattle.sets.proofs.Quorum.{round-slice}
 use Rattle.sets.specs.Quorum.{round}
 use Rattle.one_round.proofs.first_round.Tie as tie
-use Rattle.sets.specs.Rows.{rulesOf}
+use Rattle.sets.specs.Inner.Rows.{rulesOf}
 
 abbrev Inv-loop : tie.InvT-loop
 Inv-loop table n w places₀ stay₀ rest₀ places stay rest =

@@ -18,7 +18,7 @@ use Rattle.one_round.proofs.round_from.Statement.{statement}
 use Rattle.sets.proofs.Quorum.{round-slice}
 use Rattle.sets.specs.Quorum.{round}
 use Rattle.one_round.proofs.round_from.Tie as tie
-use Rattle.sets.specs.Rows.{rulesOf}
+use Rattle.sets.specs.Inner.Rows.{rulesOf}
 
 abbrev Inv-loop : tie.InvT-loop
 Inv-loop table n w places₀ held₀ stay₀ rest₀ places held stay rest =

@@ -20,7 +20,7 @@ use Rattle.sets.proofs.Quorum.{largest-⊆-round}
 use Rattle.sets.specs.Quorum.{round, largest}
 use Rattle.one_round.proofs.sweep_through.Tie as tie
 use Rattle.sets.proofs.Rows.{rows-lawful}
-use Rattle.sets.specs.Rows.{rulesOf}
+use Rattle.sets.specs.Inner.Rows.{rulesOf}
 
 abbrev Inv-loop : tie.InvT-loop
 Inv-loop table n w places₀ left₀ rest₀ places left rest =

@@ -5,7 +5,7 @@ use mathlib.Core.List.{List}
 use mathlib.Core.Path.{_≡_}
 use lib.ListN.{length, getD}
 use Rattle.masks.specs.Mask.{within, _∈_, _⊆_}
-use Rattle.sets.specs.Rows.{rulesOf}
+use Rattle.sets.specs.Inner.Rows.{rulesOf}
 use Rattle.table.specs.Table.{countOf, sliceOf}
 
 -- in the table t number k is a slice of site v, and none before it is inside w

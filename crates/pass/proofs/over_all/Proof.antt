@@ -8,7 +8,7 @@ use lib.ListN.{length}
 use Rattle.pass.proofs.Lawful.{rows-vote}
 use Rattle.pass.proofs.Turns.{after-none, after-more, after-all}
 use Rattle.pass.specs.Inner.{After}
-use Rattle.rules.specs.Vote.{rowVote}
+use Rattle.rules.specs.Inner.{rowVote}
 use Rattle.pass.proofs.over_all.Statement.{statement}
 use Rattle.pass.proofs.over_all.Tie as tie
 

@@ -6,7 +6,7 @@ use Rattle.pass.proofs.Turns.{works-at}
 use Rattle.pass.proofs.work_at.Statement.{statement}
 use Rattle.pass.proofs.work_at.Tie as tie
 use Rattle.rules.proofs.Inner.{works-refused}
-use Rattle.rules.specs.Vote.{rowVote}
+use Rattle.rules.specs.Inner.{rowVote}
 use Rattle.taking.proofs.Handed.{same-answer}
 use Rattle.votes.specs.Call.{call}
 

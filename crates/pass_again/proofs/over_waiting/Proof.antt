@@ -8,7 +8,7 @@ use lib.ListN.{length, getD}
 use Rattle.pass.proofs.Lawful.{rows-vote}
 use Rattle.pass_again.proofs.Rounds.{amid-none, amid-below, amid-waits, amid-more, amid-all}
 use Rattle.pass_again.specs.Inner.{Amid}
-use Rattle.rules.specs.Vote.{rowVote}
+use Rattle.rules.specs.Inner.{rowVote}
 use Rattle.pass_again.proofs.over_waiting.Statement.{statement}
 use Rattle.pass_again.proofs.over_waiting.Tie as tie
 

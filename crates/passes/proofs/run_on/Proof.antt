@@ -6,7 +6,7 @@ use borrow.Author.Tests.{not-true, not-false}
 use denote.Ref.{now}
 use lib.ListN.{length}
 use Rattle.pass.proofs.Lawful.{rows-vote}
-use Rattle.rules.specs.Vote.{rowVote}
+use Rattle.rules.specs.Inner.{rowVote}
 use Rattle.passes.proofs.Going.{begun-between, between-few, between-more, between-done}
 use Rattle.passes.specs.Inner.{Between}
 use Rattle.passes.proofs.run_on.Statement.{statement}

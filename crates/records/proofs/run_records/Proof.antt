@@ -213,7 +213,8 @@ module _ {M : Type 1} (𝓤 : URA M) (H : Heap 𝓤) (A : Atoms 𝓤) (W : Given
   abbrev Lasts-run : Type 0
   Lasts-run = Unit {0} × (Unit {0} × (Unit {0} × (Unit {0} × (List ℕ × (List ℕ × Unit {0})))))
 
-  exits : (r : Ran) (w : Val) (s′ a′ : List ℕ) → r ≡ ran (lists (now t)) F (bytesOf (now c)) (length (now s)) (length (now a)) → s′ ≡ stateInto r (lists (now t)) F (bytesOf (now c)) (now s) → a′ ≡ answersInto r (lists (now t)) F (bytesOf (now c)) (now a)
+  exits : (r : Ran) (w : Val) (s′ a′ : List ℕ) → r ≡ ran (lists (now t)) F (bytesOf (now c)) (length (now s)) (length (now a))
+      → s′ ≡ stateInto r (lists (now t)) F (bytesOf (now c)) (now s) → a′ ≡ answersInto r (lists (now t)) F (bytesOf (now c)) (now a)
       → length s′ ≡ length (now s) → length a′ ≡ length (now a)
       → ent 𝓤 (⋆ 𝓤 H A (Toks ∷ ‵ (R.the-row .own r (w ∷ [])) ∷ ‵ (finally u8 (a .name) a′) ∷ ‵ ftrue ∷ ‵ (finally u64 (s .name) s′) ∷ [])) (Post w)
   exits r w s′ a′ er es ea ls la =
@@ -276,7 +277,8 @@ module _ {M : Type 1} (𝓤 : URA M) (H : Heap 𝓤) (A : Atoms 𝓤) (W : Given
         use1 W (later (some (λ (r : Ran). (Toks-run ν ⊛ ‵ (R.the-row .own r (w ∷ []))) ⊛ raw (ensured 𝓤 H A run-packed.ended (run-packed.clauses 𝓤 H A mem run) (κ₀, (ν ∷ [], (κ₂, (κ₃, tt)))) (given-run l₆ η) tt r)))) (id⊢ 𝓤 _) $
         await ! tt $ pick ! (λ r.
         split ! $ move ! (1 ∷ []) $
-        use1 W (some (λ (zs : Lasts-run). ‵ (lasts run-packed.ended (κ₀, (ν ∷ [], (κ₂, (κ₃, tt)))) (given-run l₆ η) zs) ⊛ raw (fact 𝓤 (TableEnded (lists (now t)) F ps n (now s) (now a) r (zs .1 .1 .1 .1 .0) (zs .1 .1 .1 .1 .1 .0))))) (id⊢ 𝓤 _) $
+        use1 W (some (λ (zs : Lasts-run). ‵ (lasts run-packed.ended (κ₀, (ν ∷ [], (κ₂, (κ₃, tt)))) (given-run l₆ η) zs)
+        ⊛ raw (fact 𝓤 (TableEnded (lists (now t)) F ps n (now s) (now a) r (zs .1 .1 .1 .1 .0) (zs .1 .1 .1 .1 .1 .0))))) (id⊢ 𝓤 _) $
         pick ! (λ zs.
         split ! $ move ! (1 ∷ []) $ heard ! (TableEnded (lists (now t)) F ps n (now s) (now a) r (zs .1 .1 .1 .1 .0) (zs .1 .1 .1 .1 .1 .0)) (λ ended.
         -- what is said of the last values: nothing of the first four

@@ -8,7 +8,7 @@ use Rattle.risk.specs.Inner.{Best}
 use Rattle.risk.proofs.RiskLaws.{best-none, best-taken, best-passed, best-end}
 use Rattle.risk_search.proofs.first_ruin.Statement.{statement}
 use Rattle.risk_search.proofs.first_ruin.Tie as tie
-use Rattle.sets.specs.Rows.{rulesOf}
+use Rattle.sets.specs.Inner.Rows.{rulesOf}
 
 abbrev Inv-loop : tie.InvT-loop
 Inv-loop table n end best₀ f₀ best f = Best (rulesOf table) n f best

@@ -11,7 +11,7 @@ use Rattle.masks.specs.Mask.{size}
 use Rattle.risk.specs.Risk.{ruinous}
 use Rattle.risk_search.proofs.is_better.Statement.{statement}
 use Rattle.risk_search.proofs.is_better.Tie as tie
-use Rattle.sets.specs.Rows.{rulesOf}
+use Rattle.sets.specs.Inner.Rows.{rulesOf}
 
 returns : tie.Need-returns
 returns c =

@@ -7,7 +7,7 @@ use Rattle.risk.specs.Risk.{takenAlong}
 use Rattle.verdicts.specs.Verdicts.{intact}
 use Rattle.risk_search.proofs.taken_along.Statement.{statement}
 use Rattle.risk_search.proofs.taken_along.Tie as tie
-use Rattle.sets.specs.Rows.{rulesOf}
+use Rattle.sets.specs.Inner.Rows.{rulesOf}
 
 returns : tie.Need-returns
 unfolding takenAlong

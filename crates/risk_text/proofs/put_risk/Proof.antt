@@ -5,7 +5,7 @@ use denote.Ref.{now}
 use Rattle.lines.proofs.Chain.{as-text}
 use Rattle.members.proofs.Laws.{cat-le}
 use Rattle.risk_text.specs.RiskText.{riskLine}
-use Rattle.sets.specs.Rows.{rulesOf}
+use Rattle.sets.specs.Inner.Rows.{rulesOf}
 use Rattle.text.proofs.Written.{then}
 use Rattle.risk_text.proofs.Ways.{length-site, all-lines}
 use Rattle.risk_text.proofs.put_risk.Statement.{statement}

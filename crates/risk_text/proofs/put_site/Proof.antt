@@ -3,7 +3,7 @@ use native.Mathlib.Omega.{arith}
 use borrow.Author.Needs.{needs}
 use denote.Ref.{now}
 use Rattle.lines.proofs.Chain.{as-text, three}
-use Rattle.sets.specs.Rows.{rulesOf}
+use Rattle.sets.specs.Inner.Rows.{rulesOf}
 use Rattle.text.proofs.Width.{length-decimal}
 use Rattle.risk_text.proofs.Ways.{site-line}
 use Rattle.risk_text.proofs.put_site.Statement.{statement}

@@ -9,7 +9,7 @@ use Rattle.ground.specs.Pieces.{cat}
 use Rattle.lines.proofs.Chain.{as-text}
 use Rattle.members.proofs.Laws.{more, cat-none, cat-le}
 use Rattle.risk_text.specs.RiskText.{riskLine}
-use Rattle.sets.specs.Rows.{rulesOf}
+use Rattle.sets.specs.Inner.Rows.{rulesOf}
 use Rattle.text.proofs.Written.{written-nothing}
 use Rattle.text.specs.Written.{Writes}
 use Rattle.risk_text.proofs.Ways.{length-site}

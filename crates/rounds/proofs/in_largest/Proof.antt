@@ -17,7 +17,7 @@ use Rattle.sets.proofs.Quorum.{∈-round, round-slice, largest-stop, largest-st
 use Rattle.rounds.proofs.in_largest.Statement.{statement}
 use Rattle.rounds.proofs.in_largest.Tie as tie
 use Rattle.sets.proofs.Rows.{rows-lawful}
-use Rattle.sets.specs.Rows.{rulesOf}
+use Rattle.sets.specs.Inner.Rows.{rulesOf}
 
 abbrev Inv-loop : tie.InvT-loop
 Inv-loop table n v w places₀ set₀ places set =

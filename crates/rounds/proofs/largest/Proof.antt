@@ -12,7 +12,7 @@ use Rattle.one_round.proofs.Places.{held-all}
 use Rattle.sets.proofs.Quorum.{smaller, largest-stop, largest-step, rounds-stop, rounds-step, rounds-few}
 use Rattle.rounds.proofs.largest.Statement.{statement}
 use Rattle.rounds.proofs.largest.Tie as tie
-use Rattle.sets.specs.Rows.{rulesOf}
+use Rattle.sets.specs.Inner.Rows.{rulesOf}
 
 abbrev Inv-loop : tie.InvT-loop
 Inv-loop table n w places₀ set₀ held₀ count₀ places set held count =

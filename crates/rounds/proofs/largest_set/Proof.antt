@@ -11,7 +11,7 @@ use Rattle.sets.proofs.Quorum.{largest-stop, largest-step}
 use Rattle.rounds.proofs.largest_set.Statement.{statement}
 use Rattle.rounds.proofs.largest_set.Tie as tie
 use Rattle.sets.proofs.Rows.{rows-lawful}
-use Rattle.sets.specs.Rows.{rulesOf}
+use Rattle.sets.specs.Inner.Rows.{rulesOf}
 
 abbrev Inv-loop : tie.InvT-loop
 Inv-loop table n w places₀ set₀ places set = Places table n set places × (largest (rulesOf table .inside) n set ≡ largest (rulesOf table .inside) n w)

@@ -14,7 +14,7 @@ use Rattle.ground.proofs.Logic.{clash}
 use Rattle.masks.proofs.Laws.Subsets.{mem, within-⊆, ∈-below}
 use Rattle.masks.specs.Mask.{within, allBelow, _∈_, _⊆_}
 use Rattle.sets.specs.Quorum.{quorum}
-use Rattle.sets.specs.Rows.{rulesOf}
+use Rattle.sets.specs.Inner.Rows.{rulesOf}
 use Rattle.sets.proofs.Quorum.{quorum-of, quorum-empty, quorum-outside, quorum-lacks}
 use Rattle.sets.proofs.is_quorum.Statement.{statement}
 use Rattle.sets.proofs.is_quorum.Tie as tie

@@ -5,7 +5,7 @@ use borrow.Author.Needs.{needs}
 use denote.Ref.{now}
 use Rattle.masks.specs.Mask.{minus}
 use Rattle.sets.specs.Quorum.{largest}
-use Rattle.sets.specs.Rows.{rulesOf}
+use Rattle.sets.specs.Inner.Rows.{rulesOf}
 use Rattle.verdicts.specs.Verdicts.{beside}
 use Rattle.shared_sites.proofs.beside.Statement.{statement}
 use Rattle.shared_sites.proofs.beside.Tie as tie

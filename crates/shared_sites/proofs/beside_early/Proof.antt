@@ -7,7 +7,7 @@ use denote.Ref.{now}
 use Rattle.verdicts.specs.Verdicts.{beside}
 use Rattle.shared_sites.proofs.beside_early.Statement.{statement}
 use Rattle.shared_sites.proofs.beside_early.Tie as tie
-use Rattle.sets.specs.Rows.{rulesOf}
+use Rattle.sets.specs.Inner.Rows.{rulesOf}
 
 returns : tie.Need-returns
 returns c =

@@ -6,7 +6,7 @@ use denote.Ref.{now}
 use Rattle.shared_sites.proofs.Pairs.{beside-none, beside-some, early-first, early-second}
 use Rattle.shared_sites.proofs.two_apart.Statement.{statement}
 use Rattle.shared_sites.proofs.two_apart.Tie as tie
-use Rattle.sets.specs.Rows.{rulesOf}
+use Rattle.sets.specs.Inner.Rows.{rulesOf}
 
 returns : tie.Need-returns
 returns c =

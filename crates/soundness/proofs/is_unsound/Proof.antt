@@ -3,7 +3,7 @@ use native.Mathlib.Omega.{arith}
 use borrow.Author.Needs.{needs}
 use denote.Ref.{now}
 use Rattle.rules.proofs.Ways.{unsound-length, unsound-bit, unsound-both, unsound-site}
-use Rattle.sets.specs.Rows.{rowQuestions}
+use Rattle.sets.specs.Inner.Rows.{rowQuestions}
 use Rattle.soundness.proofs.is_unsound.Statement.{statement}
 use Rattle.soundness.proofs.is_unsound.Tie as tie
 

@@ -4,7 +4,7 @@ use native.Mathlib.Omega.{arith}
 use borrow.Author.Needs.{needs}
 use denote.Ref.{now}
 use Rattle.questions.proofs.Answers.{shared-large, shared-meet, shared-apart}
-use Rattle.sets.specs.Rows.{rulesOf}
+use Rattle.sets.specs.Inner.Rows.{rulesOf}
 use Rattle.shared_sites.proofs.Pairs.{some-beside}
 use Rattle.verdict_questions.proofs.shared_of.Statement.{statement}
 use Rattle.verdict_questions.proofs.shared_of.Tie as tie

@@ -11,7 +11,7 @@ use Rattle.verdicts.specs.Inner.{Gathered}
 use Rattle.verdicts.proofs.VerdictLaws.{gathered-none, gathered-more, gathered-end, gathered-all}
 use Rattle.intact_sites.proofs.search.intact.Statement.{statement}
 use Rattle.intact_sites.proofs.search.intact.Tie as tie
-use Rattle.sets.specs.Rows.{rulesOf}
+use Rattle.sets.specs.Inner.Rows.{rulesOf}
 
 abbrev Inv-loop : tie.InvT-loop
 Inv-loop table n list f end correct set₀ b₀ set b = (f ⊆ b) × Gathered (rulesOf table) n f b set

@@ -14,7 +14,7 @@ use Rattle.intact_sites.proofs.search.is_dispensable.Statement.{stateme
 use Rattle.intact_sites.proofs.search.is_dispensable.Tie as tie
 use Rattle.sets.proofs.Lawful.{deleted-none}
 use Rattle.sets.proofs.Rows.{rows-lawful}
-use Rattle.sets.specs.Rows.{rulesOf}
+use Rattle.sets.specs.Inner.Rows.{rulesOf}
 
 round-requires : tie.Need-round-requires
 round-requires c κs =

@@ -9,7 +9,7 @@ use Rattle.masks.specs.Mask.{within, minus, allBelow}
 use Rattle.verdicts.proofs.VerdictLaws.{spared-known}
 use Rattle.intact_sites.proofs.search.spared.Statement.{statement}
 use Rattle.intact_sites.proofs.search.spared.Tie as tie
-use Rattle.sets.specs.Rows.{rulesOf}
+use Rattle.sets.specs.Inner.Rows.{rulesOf}
 
 returns : tie.Need-returns
 returns c =

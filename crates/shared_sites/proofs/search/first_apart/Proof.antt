@@ -14,7 +14,7 @@ use Rattle.masks.specs.Mask.{minus, allBelow}
 use Rattle.verdicts.specs.Verdicts.{apart}
 use Rattle.sets.proofs.Lawful.{deleted-stays, deleted-answers}
 use Rattle.sets.proofs.Rows.{rows-lawful}
-use Rattle.sets.specs.Rows.{rulesOf}
+use Rattle.sets.specs.Inner.Rows.{rulesOf}
 use Rattle.verdicts.proofs.VerdictLaws.{apart-empty, first-apart-found, first-apart-half, none-apart-next}
 use Rattle.shared_sites.proofs.search.first_apart.Statement.{statement}
 use Rattle.shared_sites.proofs.search.first_apart.Tie as tie

@@ -13,7 +13,7 @@ use Rattle.masks.specs.Mask.{minus, allBelow}
 use Rattle.sets.specs.Quorum.{largest}
 use Rattle.sets.proofs.Lawful.{deleted-stays, deleted-answers}
 use Rattle.sets.proofs.Rows.{rows-lawful}
-use Rattle.sets.specs.Rows.{rulesOf}
+use Rattle.sets.specs.Inner.Rows.{rulesOf}
 use Rattle.verdicts.proofs.VerdictLaws.{apart-moved, apart-still, beside-rest}
 use Rattle.shared_sites.proofs.search.is_apart.Statement.{statement}
 use Rattle.shared_sites.proofs.search.is_apart.Tie as tie

@@ -7,7 +7,7 @@ use Rattle.masks.proofs.Laws.Apart.{apart-⊆}
 use Rattle.masks.proofs.Laws.Subsets.{⊆-refl}
 use Rattle.sets.specs.Quorum.{largest}
 use Rattle.sets.proofs.Quorum.{round-⊆, round-lt, smaller, largest-stop, largest-step}
-use Rattle.sets.specs.Rows.{rulesOf}
+use Rattle.sets.specs.Inner.Rows.{rulesOf}
 use Rattle.shared_sites.proofs.search.largest.Statement.{statement}
 use Rattle.shared_sites.proofs.search.largest.Tie as tie
 

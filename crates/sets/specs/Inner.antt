@@ -1,0 +1,2 @@
+-- What the functions inside ask of a table.
+pub mod Rows
