@@ -9,20 +9,18 @@ ghost use Rattle.rules.specs.State.{get};
 ghost use Rattle.rules.specs.Sound.{unsound};
 ghost use Rattle.sets.specs.Inner.Rows.{Rows, rowQuestions};
 
-// A bit at or above n in one of the state's numbers.
+// A bit at or above n in one of the state's numbers. No branch in the loop.
 fn some_bit_above(n: usize, state: &[u64]) -> bool
     requires { ⌜ n ≤ 64 ⌝ }
     ensures { λ r. ⌜ r ≡ some (length (now (state .entry))) (λ i. not (within (get (now (state .entry)) i) (allBelow n))) ⌝ }
 {
-    let all = masks::all_below(n as u64);
+    let mut any = 0u64;
     let mut i: usize = 0;
     while i < state.len() {
-        if !masks::within(state[i], all) {
-            return true;
-        }
+        any = any | state[i];
         i += 1;
     }
-    false
+    !masks::within(any, masks::all_below(n as u64))
 }
 
 // The state is unsound.

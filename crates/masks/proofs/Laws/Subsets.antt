@@ -105,6 +105,13 @@ member-of m ne = go m ne
 pub minus-again : (a b : ℕ) → minus (minus a b) b ≡ minus a b
 minus-again a b = ⊆-antisym (minus-⊆ (minus a b) b) (record { each = λ v h. ∈-minus h (minus-not-in a h) })
 
+-- two sets together are inside a set if each is
+pub or-within : (a b u : ℕ) → within (bitOr a b) u ≡ within a u && within b u
+or-within a b u =
+    iff (within (bitOr a b) u) (within a u && within b u)
+    (λ e. let s = within-⊆ (bitOr a b) u e in and-i (⊆-within (⊆-trans (or-⊆-l a b) s)) (⊆-within (⊆-trans (or-⊆-r a b) s)))
+    (λ e. ⊆-within (or-⊆ (within-⊆ a u (and-l (within a u) (within b u) e)) (within-⊆ b u (and-r (within a u) (within b u) e))))
+
 pub minus-within : (q b u : ℕ) → within (minus q b) u ≡ within q (bitOr u b)
 minus-within q b u =
     iff (within (minus q b) u) (within q (bitOr u b))
