@@ -17,7 +17,7 @@ use Rattle.refusals.specs.declared.Check.the-variants.{Sound, Refused}
 use Rattle.refusals.specs.declared.Refusal.{Refusal}
 use Rattle.refusals.specs.declared.Refusal.the-variants.{Range, Large}
 use Rattle.sets.proofs.Groups.{same-rules}
-use Rattle.sets.specs.Groups.{Groups, lists, sitesOf, groupsCheck, Checked, outsider, setCheck}
+use Rattle.sets.specs.Groups.{Groups, lists, groupsCheck, Checked, outsider, setCheck}
 use Rattle.sets.specs.Quorum as Quorum
 use Rattle.sets.specs.Inner.Rows.{rulesOf}
 use Rattle.table.specs.Table.{sites}

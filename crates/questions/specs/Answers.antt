@@ -1,9 +1,7 @@
 -- The public set questions: "Set questions: table, 10, 11, 16." Each asks for its refusals in that order, and answers by the definitions of sets.
 use Prim.Native.Nat.{ℕ}
 use mathlib.Core.Bool.{Bool, true, false, not}
-use mathlib.Core.List.{List}
 use lib.Dec.{ltb}
-use lib.ListN.{length}
 use Rattle.questions.specs.declared.Greatest.{Greatest}
 use Rattle.questions.specs.declared.Holds.{Holds}
 use Rattle.questions.specs.declared.Holds.the-variants.{Yes, No}

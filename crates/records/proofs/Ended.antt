@@ -1,10 +1,10 @@
 -- How a run of calls that stand packed ends: more calls than the room holds are refused as 16,388 bytes are, fewer run as their bytes.
 use Prim.Native.Nat.{ℕ, _*_, _≤_, _<_}
 use mathlib.Core.List.{List}
-use mathlib.Core.Path.{_≡_, sym, ap, subst, _∙_}
+use mathlib.Core.Path.{_≡_, ap, subst, _∙_}
 use native.Mathlib.Omega.{arith}
 use lib.ListN.{length, take}
-use Rattle.records.specs.Inner.{Ended, RowEnded, TableEnded}
+use Rattle.records.specs.Inner.{RowEnded, TableEnded}
 use Rattle.refusals.specs.declared.Check.the-variants.{Sound, Refused}
 use Rattle.refusals.specs.declared.Refusal as Refusal
 use Rattle.run.proofs.RunWays.{long-alike, fits, row-refused, check-refused, ran-refused, ran-rows, states-rows, answers-rows}

@@ -1,6 +1,5 @@
 -- The computed risk is that of the paper's intact and befouled sites: what is proved of a checked table, for every n.
 use Prim.Native.Nat.{ℕ, _≤_}
-use mathlib.Core.List.{List}
 use mathlib.Core.Logic.{_↔_}
 use mathlib.Core.Path.{_≡_}
 use Rattle.masks.specs.Mask.{single, size, _∈_, _⊆_}

@@ -226,7 +226,7 @@ module _ (Q : Questions) (n F : ℕ) (s : List ℕ) (v side : ℕ) {h k p q r : 
   side-heard t e = e ∙ sym (bad ∙ rw (sym ef ∙ t) refl)
 
 -- what was read of a correct site: o, w and u are what the tests of its own, of what was sent and of the rules said
-module _ {unowned unruled unheard : Bool} {o : Bool} (eo : o ≡ unowned) where
+module _ (unowned unruled unheard : Bool) {o : Bool} (eo : o ≡ unowned) where
   pub heard-own : o ≡ true → true ≡ unowned || (unruled || unheard)
   heard-own t = rw (sym eo ∙ t) refl
 

@@ -1,6 +1,5 @@
 -- The vote of 01, as a run knows it.
 use Prim.Native.Nat.{ℕ, _<_}
-use mathlib.Core.List.{List}
 use Rattle.masks.specs.Mask.{_∈_}
 use Rattle.rules.specs.Rules.{answer, taken}
 use Rattle.rules.specs.Sound.{Sound}

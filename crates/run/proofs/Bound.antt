@@ -6,7 +6,6 @@ use mathlib.Core.Logic.{_⊎_, inl, inr, ⊎-elim}
 use mathlib.Core.Path.{_≡_, refl, sym, ap, subst, _∙_}
 use native.Mathlib.Decide.{decLt}
 use native.Mathlib.Omega.{arith}
-use lib.ListN.{length}
 use Rattle.ground.proofs.Numbers.{same?, two}
 use Rattle.ground.specs.Alike.{alike}
 use Rattle.masks.proofs.Laws.AllBelow.{in-all}

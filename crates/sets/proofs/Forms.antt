@@ -1,14 +1,13 @@
 -- What a form shows is enough: its tests are lawful. And promises of each receiver's own view are the promises of the family.
 use Prim.Native.Nat.{ℕ}
-use mathlib.Core.Bool.{Bool, true, false, not}
-use mathlib.Core.Path.{_≡_, refl, sym, _∙_}
+use mathlib.Core.Path.{refl, sym, _∙_}
 use lib.Bits.{bitAnd}
 use borrow.Author.Tests.{not-false}
 use Rattle.ground.proofs.Logic.{clash, not-t}
 use Rattle.masks.proofs.Laws.Apart.{⊆-minus, ⊆-minus-apart}
 use Rattle.masks.proofs.Laws.Subsets.{⊆-refl, and-⊆-l, and-⊆-r, minus-⊆}
 use Rattle.masks.specs.Mask.{minus, others, allBelow}
-use Rattle.sets.specs.Forms.{Form, FormLawful, ViewsPromise}
+use Rattle.sets.specs.Forms.{FormLawful, ViewsPromise}
 
 pub form-lawful : FormLawful
 form-lawful r n F =

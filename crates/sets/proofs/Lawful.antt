@@ -1,7 +1,7 @@
 -- Tests that are lawful: what is asked of a table, whole or with some sites deleted, is answered about its slices. All that the paper's statements and the
 -- voting ask of the table follows from it (Decides, Promises, WholeQuorum). A checked table in memory is lawful.
 use Prim.Native.Nat.{ℕ}
-use mathlib.Core.Bool.{Bool, true, false, _&&_, not}
+use mathlib.Core.Bool.{Bool, true, _&&_, not}
 use mathlib.Core.List.{List}
 use mathlib.Core.Path.{_≡_, refl, sym, ap, ap₂, _∙_, subst, fun-ext}
 use lib.Bits.{bitAnd, bitOr, or-zero-r}

@@ -1,7 +1,6 @@
 -- The public calls: "Step, its call handed over as four byte values: table, 10 (faulty set), 18, 11, 13, 12, 14, 15."
 use Prim.Native.Nat.{ℕ}
 use mathlib.Core.List.{List}
-use lib.ListN.{length}
 use Rattle.refusals.specs.First.{orElse, refuse}
 use Rattle.refusals.specs.declared.Check.{Check}
 use Rattle.refusals.specs.declared.Check.the-variants.{Sound}

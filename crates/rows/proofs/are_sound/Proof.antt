@@ -5,7 +5,6 @@ use native.Mathlib.Omega.{arith}
 use lib.ListN.{getD}
 use borrow.Author.Needs.{needs}
 use denote.Ref.{now}
-use Rattle.masks.specs.Mask.{has}
 use Rattle.rows.specs.Site.{slice}
 use Rattle.rows.proofs.Row.{Gathers, gathers-first, gathers-more, gathers-sound}
 use Rattle.rows.proofs.are_sound.Statement.{statement}

@@ -5,7 +5,6 @@ use native.Mathlib.Omega.{arith}
 use borrow.Author.Needs.{needs}
 use denote.Ref.{now}
 use Rattle.le.specs.Le.{field}
-use Rattle.masks.specs.Mask.{has}
 use Rattle.rows.proofs.Row.{Gathers, gathers-first, gathers-more, gathers-sound}
 use Rattle.site_block.specs.Block.{sliceField}
 use Rattle.site_block.proofs.are_sound.Statement.{statement}

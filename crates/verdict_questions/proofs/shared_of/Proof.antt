@@ -1,7 +1,6 @@
 -- `shared_of` meets its contract: 16, or whether all meet, or two that do not.
 use mathlib.Core.Path.{sym, _∙_}
 use native.Mathlib.Omega.{arith}
-use borrow.Author.Needs.{needs}
 use denote.Ref.{now}
 use Rattle.questions.proofs.Answers.{shared-large, shared-meet, shared-apart}
 use Rattle.sets.specs.Inner.Rows.{rulesOf}
