@@ -1,44 +1,14 @@
 // Number 18, site by site: what the rules do not explain of a site, on one side or the other.
 ghost use mathlib.Core.Path.{_≡_};
-ghost use mathlib.Core.Bool.{_||_};
 ghost use Prim.Native.Nat.{_<_};
 ghost use lib.ListN.{length};
 ghost use Rattle.ground.specs.Search.{some};
 ghost use Rattle.rules.specs.State.{width};
-ghost use Rattle.rules.specs.Sound.{notOwn, notRule, notSent, badSide, badSite};
+ghost use Rattle.rules.specs.Sound.{badSide, badSite};
 ghost use Rattle.asking.specs.Inner.{Asked};
 ghost use Rattle.sets.specs.Inner.Rows.{Rows, rowQuestions};
 
-// One correct site and one side, of what was read of it. The rules are asked last: they cost most.
-fn is_bad_heard(
-    table: &[u64],
-    n: usize,
-    faulty: u64,
-    v: usize,
-    votes: u64,
-    accepts: u64,
-    voted: u64,
-    accepted: u64,
-    confirmed: u64,
-    asked: &mut [u64; 2],
-) -> bool
-    requires { ⌜ Rows (now table) n ⌝ }
-    requires { ⌜ v < n ⌝ }
-    requires { ⌜ Asked (rowQuestions (now table) n) n (now asked) ⌝ }
-    ensures { λ r. ⌜ r ≡ notOwn v votes accepts voted accepted
-        || (notRule (rowQuestions (now (table .entry)) n) v votes accepts accepted confirmed || notSent faulty votes accepts voted accepted) ⌝ }
-    ensures { λ r. ⌜ Asked (rowQuestions (now (table .entry)) n) n (now (asked .exit)) ⌝ }
-{
-    if clauses::is_not_own(v, votes, accepts, voted, accepted) {
-        return true;
-    }
-    if clauses::is_not_sent(faulty, votes, accepts, voted, accepted) {
-        return true;
-    }
-    clauses::is_not_rule(table, n, v, votes, accepts, accepted, confirmed, asked)
-}
-
-// One site and one side. A site that has nothing of the side is not asked further.
+// One site and one side. A site that has nothing of the side is not asked further; the rules are asked last: they cost most.
 fn is_bad_side(
     table: &[u64],
     n: usize,
@@ -67,18 +37,13 @@ fn is_bad_side(
     if masks::has(faulty, v as u64) {
         return true;
     }
-    is_bad_heard(
-        table,
-        n,
-        faulty,
-        v,
-        votes,
-        accepts,
-        voted,
-        accepted,
-        confirmed,
-        asked,
-    )
+    if clauses::is_not_own(v, votes, accepts, voted, accepted) {
+        return true;
+    }
+    if clauses::is_not_sent(faulty, votes, accepts, voted, accepted) {
+        return true;
+    }
+    clauses::is_not_rule(table, n, v, votes, accepts, accepted, confirmed, asked)
 }
 
 // One site, both sides.

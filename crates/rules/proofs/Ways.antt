@@ -222,20 +222,16 @@ module _ (Q : Questions) (n F : ℕ) (s : List ℕ) (v side : ℕ) {h k p q r : 
   pub side-faulty : f ≡ true → {b : Bool} → b ≡ unzero → b ≡ badSide Q n F s v side
   side-faulty t e = e ∙ sym (bad ∙ rw (sym ef ∙ t, or-false unzero) refl)
 
-  pub side-heard : f ≡ false → {b : Bool} → b ≡ unowned || (unruled || unheard) → b ≡ badSide Q n F s v side
-  side-heard t e = e ∙ sym (bad ∙ rw (sym ef ∙ t) refl)
+  module _ (t : f ≡ false) {own : Bool} (eo : own ≡ unowned) where
+    pub side-own : own ≡ true → true ≡ badSide Q n F s v side
+    side-own o = sym (bad ∙ rw (sym ef ∙ t, sym eo ∙ o) refl)
 
--- what was read of a correct site: o, w and u are what the tests of its own, of what was sent and of the rules said
-module _ (unowned unruled unheard : Bool) {o : Bool} (eo : o ≡ unowned) where
-  pub heard-own : o ≡ true → true ≡ unowned || (unruled || unheard)
-  heard-own t = rw (sym eo ∙ t) refl
+    module _ (o : own ≡ false) {none : Bool} (es : none ≡ unheard) where
+      pub side-sent : none ≡ true → true ≡ badSide Q n F s v side
+      side-sent u = sym (bad ∙ rw (sym ef ∙ t, sym eo ∙ o, sym es ∙ u, or-true unruled) refl)
 
-  module _ (t : o ≡ false) {w : Bool} (ew : w ≡ unheard) where
-    pub heard-sent : w ≡ true → true ≡ unowned || (unruled || unheard)
-    heard-sent k = rw (sym eo ∙ t, sym ew ∙ k, or-true unruled) refl
-
-    pub heard-rule : w ≡ false → {u : Bool} → u ≡ unruled → u ≡ unowned || (unruled || unheard)
-    heard-rule k e = e ∙ rw (sym eo ∙ t, sym ew ∙ k, or-false unruled) refl
+      pub side-rule : none ≡ false → {b : Bool} → b ≡ unruled → b ≡ badSide Q n F s v side
+      side-rule u e = e ∙ sym (bad ∙ rw (sym ef ∙ t, sym eo ∙ o, sym es ∙ u, or-false unruled) refl)
 
 -- d is what the test of the first side said
 module _ (Q : Questions) (n F : ℕ) (s : List ℕ) (v : ℕ) {d : Bool} (ed : d ≡ badSide Q n F s v 0) where
