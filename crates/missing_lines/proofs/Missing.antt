@@ -15,7 +15,7 @@ use Rattle.lines.proofs.Lengths.{length-line}
 use Rattle.lines.specs.Lines.{line}
 use Rattle.liveness.specs.Complete.{lacks, isComplete}
 use Rattle.masks.specs.Mask.{has}
-use Rattle.missing_lines.specs.Missing.{missingLine, missingFrom, missingLines, sideLines}
+use Rattle.missing_lines.specs.Missing.{missingLine, missingFrom, missingLines, sideLines, unmet}
 use Rattle.register.proofs.Rows.{length-rows}
 use Rattle.same_calls.specs.Same.{hasCall}
 use Rattle.text.proofs.Width.{length-decimal}
@@ -118,3 +118,8 @@ length-side n among side list accepters h =
     either : (b : Bool) (A B : List ℕ) → length A ≤ 6912 → length B ≤ 6912 → length (cond b A B) ≤ 6912
     either true A B a b = a
     either false A B a b = b
+
+-- the line that the table does not meet
+pub length-unmet : (meet : Bool) → length (unmet meet) ≤ 8
+length-unmet true = omega arith
+length-unmet false = omega (arith, length-line (ascii "meet ") (ascii "no"))

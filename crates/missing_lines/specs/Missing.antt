@@ -1,6 +1,6 @@
 -- The accept calls between intact sites that a list lacks, as lines.
 use Prim.Native.Nat.{ℕ}
-use mathlib.Core.Bool.{cond}
+use mathlib.Core.Bool.{Bool, cond}
 use mathlib.Core.List.{List, [], _++_}
 use Rattle.call_lines.specs.CallLine.{sideName}
 use Rattle.ground.specs.Pieces.{cat}
@@ -28,3 +28,7 @@ unfoldable pub sideLines : ℕ → ℕ → ℕ → List ℕ → ℕ → List ℕ
 unfolding isComplete line sideName missingLines
 sideLines n among side list accepters =
     cond (isComplete n among side list accepters) (line (ascii "complete ") (sideName side)) (missingLines n among side list accepters)
+
+-- where the table does not meet, a complete list promises nothing of marks: the line that a verdict has then stands before the others
+abbrev pub unmet : Bool → List ℕ
+unmet meet = cond meet [] (line (ascii "meet ") (ascii "no"))

@@ -6,7 +6,8 @@ ghost use lib.ListN.{length};
 ghost use Rattle.call_lines.specs.CallLine.{sideName};
 ghost use Rattle.lines.specs.Lines.{line};
 ghost use Rattle.liveness.specs.Complete.{lacks};
-ghost use Rattle.missing_lines.specs.Missing.{missingLine, missingFrom, missingLines, sideLines};
+ghost use Rattle.missing_lines.specs.Missing.{missingLine, missingFrom, missingLines, sideLines, unmet};
+ghost use Rattle.missing_lines.specs.Inner.{linesOf};
 ghost use Rattle.text.specs.Text.{ascii, decimal};
 ghost use Rattle.text.specs.Written.{Writes};
 
@@ -152,4 +153,34 @@ pub fn put_side(
         return end;
     }
     put_complete(room, end, side)
+}
+
+// The line `meet no` where the table does not meet.
+fn put_unmet(room: &mut [u8], meet: bool) -> usize
+    requires { ⌜ 8 ≤ length (now room) ⌝ }
+    ensures { λ r. ⌜ Writes (unmet meet) (now (room .entry)) 0 r (now (room .exit)) ⌝ }
+{
+    if meet {
+        return 0;
+    }
+    lines::line_text(room, 0, b"meet ", b"no")
+}
+
+// That line, and the lines of both sides, from those that accepted each.
+pub fn put_lacking(
+    room: &mut [u8],
+    n: u8,
+    intact: u64,
+    meet: bool,
+    list: &[u8],
+    drill: u64,
+    live: u64,
+) -> usize
+    requires { ⌜ n ≤ 12 ⌝ }
+    requires { ⌜ 13832 ≤ length (now room) ⌝ }
+    ensures { λ r. ⌜ Writes (linesOf n intact meet (now (list .entry)) drill live) (now (room .entry)) 0 r (now (room .exit)) ⌝ }
+{
+    let at = put_unmet(room, meet);
+    let at = put_side(room, at, n, intact, 0, list, drill);
+    put_side(room, at, n, intact, 1, list, live)
 }

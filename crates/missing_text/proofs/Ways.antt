@@ -15,9 +15,9 @@ use Rattle.image.specs.Read.{read, readInto}
 use Rattle.image.specs.declared.Reading.{Reading}
 use Rattle.judged_text.proofs.Ways.{standing-stopped, judged, meets-is}
 use Rattle.judged_text.specs.Inner.{met}
-use Rattle.lines.proofs.Lengths.{length-line}
-use Rattle.missing_text.specs.Inner.{linesOf, tableText}
-use Rattle.missing_text.specs.MissingText.{unmet, lackingLines, missingCheck, missingText}
+use Rattle.missing_lines.specs.Inner.{linesOf}
+use Rattle.missing_text.specs.Inner.{tableText}
+use Rattle.missing_text.specs.MissingText.{lackingLines, missingCheck, missingText}
 use Rattle.questions.specs.Answers as Answers
 use Rattle.questions.specs.Answers.{verdictCheck}
 use Rattle.questions.specs.declared.Standing.{Standing}
@@ -30,13 +30,7 @@ use Rattle.run_text.proofs.Ended.{ran-stopped, whole, ended-state}
 use Rattle.run.specs.Run.{runCheck, theRun, ran, stateInto}
 use Rattle.run.specs.declared.Ran.{Ran}
 use Rattle.sets.specs.Groups.{Groups, lists, sitesOf, slicesIn, setCheck}
-use Rattle.text.specs.Text.{ascii}
 use Rattle.verdicts.specs.Verdicts as Verdicts
-
--- the line that the table does not meet
-pub length-unmet : (meet : Bool) → length (unmet meet) ≤ 8
-length-unmet true = omega arith
-length-unmet false = omega (arith, length-line (ascii "meet ") (ascii "no"))
 
 -- where a verdict is given there are at most 12 sites
 pub few-sites : (t : List ℕ) (F n m : ℕ) → length t ≡ 63 * n → Standing.Intact m ≡ Answers.intact (lists t) F → n ≤ 12

@@ -1,11 +1,9 @@
 -- What `desk missing` prints of an image and a list of calls.
 use Prim.Native.Nat.{ℕ}
-use mathlib.Core.Bool.{Bool, cond}
-use mathlib.Core.List.{List, [], _++_}
+use mathlib.Core.List.{List, _++_}
 use lib.ListN.{length}
 use Rattle.check_text.specs.Table.{imageCheck, unless, tableOn}
-use Rattle.lines.specs.Lines.{line}
-use Rattle.missing_lines.specs.Missing.{sideLines}
+use Rattle.missing_lines.specs.Missing.{sideLines, unmet}
 use Rattle.questions.specs.Answers.{verdictCheck}
 use Rattle.refusal_lines.specs.Refused.{explained}
 use Rattle.refusals.specs.First.{orElse}
@@ -13,16 +11,11 @@ use Rattle.refusals.specs.declared.Check.{Check}
 use Rattle.rules.specs.State.{accepted, width, get}
 use Rattle.run.specs.Run.{runCheck, theRun}
 use Rattle.sets.specs.Groups.{Groups, slicesIn, sitesOf, setCheck}
-use Rattle.text.specs.Text.{ascii}
 use Rattle.verdicts.specs.Verdicts.{meets, intact}
-
--- where the table does not meet, a complete list promises nothing of marks: the line that a verdict has then stands before the others
-abbrev pub unmet : Bool → List ℕ
-unmet meet = cond meet [] (line (ascii "meet ") (ascii "no"))
 
 -- the accept calls between intact sites that the list lacks, for drill, then for live: those whose sender has accepted the side at the end of the run
 unfoldable pub lackingLines : ℕ → Groups → List ℕ → List ℕ
-unfolding line sideLines meets intact
+unfolding sideLines meets intact
 lackingLines F t list =
     let n = sitesOf t in
     let end = theRun t F list .state in

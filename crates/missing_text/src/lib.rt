@@ -3,8 +3,8 @@ ghost use mathlib.Core.Path.{_≡_};
 ghost use Prim.Native.Nat.{_*_, _≤_};
 ghost use lib.ListN.{length};
 ghost use Rattle.io.specs.Counts.{Counts};
-ghost use Rattle.missing_text.specs.Inner.{linesOf, tableText};
-ghost use Rattle.missing_text.specs.MissingText.{unmet, missingText};
+ghost use Rattle.missing_text.specs.Inner.{tableText};
+ghost use Rattle.missing_text.specs.MissingText.{missingText};
 ghost use Rattle.questions.specs.Answers as Answers;
 ghost use Rattle.questions.specs.declared.Standing.the-variants.{Intact};
 ghost use Rattle.sets.specs.Groups.{lists};
@@ -13,36 +13,6 @@ use check_text::ROOM;
 use image::Reading;
 use questions::Standing;
 use run::Ran;
-
-// The line `meet no` where the table does not meet.
-fn put_unmet(room: &mut [u8], meet: bool) -> usize
-    requires { ⌜ 8 ≤ length (now room) ⌝ }
-    ensures { λ r. ⌜ Writes (unmet meet) (now (room .entry)) 0 r (now (room .exit)) ⌝ }
-{
-    if meet {
-        return 0;
-    }
-    lines::line_text(room, 0, b"meet ", b"no")
-}
-
-// That line, and the lines of both sides, from those that accepted each.
-fn put_lacking(
-    room: &mut [u8],
-    n: u8,
-    intact: u64,
-    meet: bool,
-    list: &[u8],
-    drill: u64,
-    live: u64,
-) -> usize
-    requires { ⌜ n ≤ 12 ⌝ }
-    requires { ⌜ 13832 ≤ length (now room) ⌝ }
-    ensures { λ r. ⌜ Writes (linesOf n intact meet (now (list .entry)) drill live) (now (room .entry)) 0 r (now (room .exit)) ⌝ }
-{
-    let at = put_unmet(room, meet);
-    let at = missing_lines::put_side(room, at, n, intact, 0, list, drill);
-    missing_lines::put_side(room, at, n, intact, 1, list, live)
-}
 
 // What the list lacks on a table of which a verdict is given: 17, then the lines.
 fn missing_run(
@@ -67,7 +37,7 @@ fn missing_run(
             let meet = judged_text::meets(verdict_questions::shared(table));
             let drill = state[places::accepted(n, 0)];
             let live = state[places::accepted(n, 1)];
-            put_lacking(room, n as u8, intact, meet, list, drill, live)
+            missing_lines::put_lacking(room, n as u8, intact, meet, list, drill, live)
         }
     }
 }

@@ -15,8 +15,8 @@ use Rattle.liveness.specs.Complete.{isComplete}
 use Rattle.liveness.specs.Liveness.{Complete}
 use Rattle.mark.specs.Mark.{mark}
 use Rattle.missing_lines.proofs.Said.{missing-begins}
-use Rattle.missing_lines.specs.Missing.{sideLines}
-use Rattle.missing_text.specs.MissingText.{unmet, lackingLines, missingCheck, missingText}
+use Rattle.missing_lines.specs.Missing.{sideLines, unmet}
+use Rattle.missing_text.specs.MissingText.{lackingLines, missingCheck, missingText}
 use Rattle.pass.specs.Calls.{calls}
 use Rattle.questions.specs.Answers.{verdictCheck}
 use Rattle.refusals.proofs.First.{orElse-sound, kept}

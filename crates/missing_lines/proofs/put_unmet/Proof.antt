@@ -4,10 +4,10 @@ use mathlib.Core.Bool.{Bool}
 use mathlib.Core.Path.{sym, ap}
 use native.Mathlib.Omega.{arith}
 use Rattle.lines.proofs.Chain.{as-text}
-use Rattle.missing_text.specs.MissingText.{unmet}
+use Rattle.missing_lines.specs.Missing.{unmet}
 use Rattle.text.proofs.Written.{written-nothing}
-use Rattle.missing_text.proofs.put_unmet.Statement.{statement}
-use Rattle.missing_text.proofs.put_unmet.Tie as tie
+use Rattle.missing_lines.proofs.put_unmet.Statement.{statement}
+use Rattle.missing_lines.proofs.put_unmet.Tie as tie
 
 pub put-unmet-spec : {M : Type 1} → statement M
 put-unmet-spec =

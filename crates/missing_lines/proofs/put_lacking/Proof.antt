@@ -3,10 +3,10 @@ use borrow.Author.Needs.{needs}
 use denote.Ref.{now}
 use native.Mathlib.Omega.{arith}
 use Rattle.lines.proofs.Chain.{three}
 use Rattle.missing_lines.proofs.Missing.{length-side}
-use Rattle.missing_text.proofs.Ways.{length-unmet}
-use Rattle.missing_text.proofs.put_lacking.Statement.{statement}
-use Rattle.missing_text.proofs.put_lacking.Tie as tie
+use Rattle.missing_lines.proofs.Missing.{length-unmet}
+use Rattle.missing_lines.proofs.put_lacking.Statement.{statement}
+use Rattle.missing_lines.proofs.put_lacking.Tie as tie
 
 put-side-requires : tie.Need-put-side-requires
 put-side-requires c κs = let s = c .before .before .before .before .before .before .before in (s .pre .0, omega (arith, s .pre .1, length-unmet (s .args .meet)))
