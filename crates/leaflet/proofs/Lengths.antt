@@ -5,7 +5,7 @@ use lib.ListN.{length}
 use Rattle.leaflet.specs.Leaflet.{meaning}
 use Rattle.refusals.specs.declared.Refusal.{Refusal}
 use Rattle.refusals.specs.declared.Refusal.the-variants.{Length, Sums, Header, Count, Slice, Order, NoQuorum, Filler, Room}
-use Rattle.refusals.specs.declared.Refusal.the-variants.{Set, Range, Receiver, Proposal, Voted, Unsent, Large, List, Unsound, Journal, Numbering}
+use Rattle.refusals.specs.declared.Refusal.the-variants.{Set, Range, Receiver, Proposal, Voted, Unsent, Large, List, Unsound, Journal, Numbering, Threshold, Nesting, Slices}
 use Rattle.text.specs.Text.{ascii}
 
 pub length-meaning : (r : Refusal) → length (ascii (meaning r)) ≤ 200
@@ -29,3 +29,6 @@ length-meaning List = omega arith
 length-meaning Unsound = omega arith
 length-meaning Journal = omega arith
 length-meaning (Numbering block) = omega arith
+length-meaning (Threshold block) = omega arith
+length-meaning (Nesting block) = omega arith
+length-meaning (Slices site) = omega arith

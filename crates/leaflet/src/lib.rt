@@ -44,11 +44,16 @@ fn put_of_groups(room: &mut [u8], at: usize, k: u64) -> usize
     ensures { λ e. ⌜ Writes (ascii (under k)) (now (room .entry)) at e (now (room .exit)) ⌝ }
 {
     match k {
-        4 => text::put(room, at, b"The site has no group at all, or more than 62."),
+        4 => text::put(
+            room,
+            at,
+            b"The site has no group at all, or more than 62. In a table of thresholds: no set at all, or more than 49.",
+        ),
         5 => text::put(
             room,
             at,
-            b"A group of this site does not contain the site itself, or names a site that does not exist.",
+            b"A group of this site does not contain the site itself, or names a site that does not exist. \
+              In a table of thresholds: a set names such a site.",
         ),
         6 => text::put(
             room,
@@ -59,7 +64,8 @@ fn put_of_groups(room: &mut [u8], at: usize, k: u64) -> usize
         _ => text::put(
             room,
             at,
-            b"Behind the last group of the site something is not zero. In a journal: behind the last call of the block.",
+            b"Behind the last group of the site something is not zero. In a table of thresholds: behind the last set. \
+              In a journal: behind the last call of the block.",
         ),
     }
 }
@@ -158,6 +164,33 @@ fn put_of_journal(room: &mut [u8], at: usize, k: u64) -> usize
     }
 }
 
+// 21 to 23: the sets of a table of thresholds.
+fn put_of_sets(room: &mut [u8], at: usize, k: u64) -> usize
+    requires { ⌜ at + 200 ≤ length (now room) ⌝ }
+    requires { ⌜ 21 ≤ k ⌝ }
+    requires { ⌜ k ≤ 23 ⌝ }
+    ensures { λ e. ⌜ Writes (ascii (under k)) (now (room .entry)) at e (now (room .exit)) ⌝ }
+{
+    match k {
+        21 => text::put(
+            room,
+            at,
+            b"A set asks for none of its members, or for more of them than it has: its sites and the sets in it count one each.",
+        ),
+        22 => text::put(
+            room,
+            at,
+            b"The sets do not fit into each other: one stands behind the end of the first set or deeper than four levels, \
+              or a set lacks sets that it announces.",
+        ),
+        _ => text::put(
+            room,
+            at,
+            b"The thresholds of this site come to more than 62 smallest groups, so that they cannot be written as a list of groups.",
+        ),
+    }
+}
+
 // Writes what a refusal means.
 pub fn put_meaning(room: &mut [u8], at: usize, r: Refusal) -> usize
     requires { ⌜ at + 200 ≤ length (now room) ⌝ }
@@ -176,5 +209,8 @@ pub fn put_meaning(room: &mut [u8], at: usize, r: Refusal) -> usize
     if k < 19 {
         return put_of_vote(room, at, k);
     }
-    put_of_journal(room, at, k)
+    if k < 21 {
+        return put_of_journal(room, at, k);
+    }
+    put_of_sets(room, at, k)
 }

@@ -8,7 +8,7 @@ use borrow.Author.Tests.{ne-eqb}
 use Rattle.refusals.specs.Refusal.{number, place, NumberSettles}
 use Rattle.refusals.specs.declared.Refusal.{Refusal}
 use Rattle.refusals.specs.declared.Refusal.the-variants.{Length, Sums, Header, Count, Slice, Order, NoQuorum, Filler, Room}
-use Rattle.refusals.specs.declared.Refusal.the-variants.{Set, Range, Receiver, Proposal, Voted, Unsent, Large, List, Unsound, Journal, Numbering}
+use Rattle.refusals.specs.declared.Refusal.the-variants.{Set, Range, Receiver, Proposal, Voted, Unsent, Large, List, Unsound, Journal, Numbering, Threshold, Nesting, Slices}
 
 -- the refusal that has a number and a place
 unfoldable pub refusalOf : ℕ → ℕ → Refusal
@@ -32,7 +32,10 @@ refusalOf n i =
     cond (eqb n 17) List (
     cond (eqb n 18) Unsound (
     cond (eqb n 19) Journal (
-    Numbering i)))))))))))))))))))
+    cond (eqb n 20) (Numbering i) (
+    cond (eqb n 21) (Threshold i) (
+    cond (eqb n 22) (Nesting i) (
+    Slices i))))))))))))))))))))))
 
 pub back : (r : Refusal) → refusalOf (number r) (place r) ≡ r
 unfolding refusalOf
@@ -56,6 +59,9 @@ back List = refl
 back Unsound = refl
 back Journal = refl
 back (Numbering i) = refl
+back (Threshold i) = refl
+back (Nesting i) = refl
+back (Slices i) = refl
 
 pub settled : NumberSettles
 settled r s p q = sym (back r) ∙ ap (λ (n : ℕ). refusalOf n (place r)) p ∙ ap (λ (i : ℕ). refusalOf (number s) i) q ∙ back s
@@ -65,10 +71,10 @@ pub some-number : (r : Refusal) → eqb (number r) 0 ≡ false
 unfolding refusalOf
 some-number r =
     ne-eqb (number r) 0
-    (λ e. let u : refusalOf 0 (place r) ≡ r = rw e at (back r) in let v : 20 ≡ number r = ap number u in omega (arith, e, v))
+    (λ e. let u : refusalOf 0 (place r) ≡ r = rw e at (back r) in let v : 23 ≡ number r = ap number u in omega (arith, e, v))
 
 -- and it fits a byte
-pub small-number : (r : Refusal) → number r ≤ 20
+pub small-number : (r : Refusal) → number r ≤ 23
 small-number Length = omega arith
 small-number (Sums i) = omega arith
 small-number (Header i) = omega arith
@@ -89,3 +95,6 @@ small-number List = omega arith
 small-number Unsound = omega arith
 small-number Journal = omega arith
 small-number (Numbering i) = omega arith
+small-number (Threshold i) = omega arith
+small-number (Nesting i) = omega arith
+small-number (Slices i) = omega arith

@@ -6,7 +6,7 @@ use Rattle.refusals.specs.declared.Check.{Check}
 use Rattle.refusals.specs.declared.Check.the-variants.{Sound, Refused}
 use Rattle.refusals.specs.declared.Refusal.{Refusal}
 use Rattle.refusals.specs.declared.Refusal.the-variants.{Length, Sums, Header, Count, Slice, Order, NoQuorum, Filler, Room}
-use Rattle.refusals.specs.declared.Refusal.the-variants.{Set, Range, Receiver, Proposal, Voted, Unsent, Large, List, Unsound, Journal, Numbering}
+use Rattle.refusals.specs.declared.Refusal.the-variants.{Set, Range, Receiver, Proposal, Voted, Unsent, Large, List, Unsound, Journal, Numbering, Threshold, Nesting, Slices}
 
 abbrev pub number : Refusal → ℕ
 number Length = 1
@@ -29,6 +29,9 @@ number List = 17
 number Unsound = 18
 number Journal = 19
 number (Numbering block) = 20
+number (Threshold block) = 21
+number (Nesting block) = 22
+number (Slices site) = 23
 
 -- 11 holds a place as well, which is 0 in all that refuses a call or a question
 abbrev pub place : Refusal → ℕ
@@ -40,6 +43,9 @@ place (Order site) = site
 place (Filler site) = site
 place (Range i) = i
 place (Numbering block) = block
+place (Threshold block) = block
+place (Nesting block) = block
+place (Slices site) = site
 place Length = 0
 place NoQuorum = 0
 place Room = 0

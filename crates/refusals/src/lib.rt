@@ -43,6 +43,12 @@ pub enum Refusal {
     Journal,
     // A journal's block whose number is not its place, or whose count of calls is none that may stand there.
     Numbering(u64),
+    // A set's threshold is zero or above its plain sites and inner sets.
+    Threshold(u64),
+    // A set behind the root or past four levels, or inner sets that are owed at the end.
+    Nesting(u64),
+    // A site that has more than 62 smallest slices.
+    Slices(u64),
 }
 
 // The answer of a check that has no value to give.
@@ -76,6 +82,9 @@ pub fn number(r: Refusal) -> u64
         Refusal::Unsound => 18,
         Refusal::Journal => 19,
         Refusal::Numbering(_) => 20,
+        Refusal::Threshold(_) => 21,
+        Refusal::Nesting(_) => 22,
+        Refusal::Slices(_) => 23,
     }
 }
 
@@ -104,6 +113,9 @@ pub fn place(r: Refusal) -> u64
         Refusal::Unsound => 0,
         Refusal::Journal => 0,
         Refusal::Numbering(block) => block,
+        Refusal::Threshold(block) => block,
+        Refusal::Nesting(block) => block,
+        Refusal::Slices(site) => site,
     }
 }
 

@@ -1,4 +1,4 @@
--- `put_meaning` meets its contract: what the leaflet has under the refusal's number, which is 1 to 20.
+-- `put_meaning` meets its contract: what the leaflet has under the refusal's number, which is 1 to 23.
 use native.Mathlib.Omega.{arith}
 use borrow.Author.Needs.{needs}
 use borrow.Author.Tests.{eqb-false}
@@ -13,9 +13,9 @@ put-of-file-requires c κs =
     let r = c .before .before .before .before .args .r in
     (omega arith, (omega (arith, eqb-false (number r) 0 (some-number r)), omega arith))
 
-put-of-journal-requires : tie.Need-put-of-journal-requires
-put-of-journal-requires c κs =
-    (omega arith, (omega arith, omega (arith, small-number (c .before .before .before .before .before .before .before .args .r))))
+put-of-sets-requires : tie.Need-put-of-sets-requires
+put-of-sets-requires c κs =
+    (omega arith, (omega arith, omega (arith, small-number (c .before .before .before .before .before .before .before .before .args .r))))
 
 pub put-meaning-spec : {M : Type 1} → statement M
 put-meaning-spec =
@@ -34,6 +34,9 @@ put-meaning-spec =
     (λ c κs. search needs)
     (λ c. search needs)
     (λ c. told (c .before .before .before .before .before .before .before .before .before .before .args .r) (c .before .before .before .before .before .before .before .before .number .ensures) (c .before .before .put-of-vote .ensures))
-    put-of-journal-requires
+    (λ c κs. search needs)
     (λ c. search needs)
-    (λ c. told (c .before .before .before .before .before .before .before .before .before .before .args .r) (c .before .before .before .before .before .before .before .before .number .ensures) (c .before .before .put-of-journal .ensures)))
+    (λ c. told (c .before .before .before .before .before .before .before .before .before .before .before .args .r) (c .before .before .before .before .before .before .before .before .before .number .ensures) (c .before .before .put-of-journal .ensures))
+    put-of-sets-requires
+    (λ c. search needs)
+    (λ c. told (c .before .before .before .before .before .before .before .before .before .before .before .args .r) (c .before .before .before .before .before .before .before .before .before .number .ensures) (c .before .before .put-of-sets .ensures)))

@@ -1,0 +1,3 @@
+-- A site's sets as a row of 63 numbers.
+pub mod Row
+pub mod Seen

@@ -1,0 +1,8 @@
+-- What a function says of some sets.
+use Prim.Native.Nat.{ℕ}
+use mathlib.Core.Path.{_≡_}
+use Rattle.threshold_sets.specs.Met.{After}
+
+pub record Says (met next : ℕ) (a : After) : Type 0 where
+  pub met-so : met ≡ a .met
+  pub next-so : next ≡ a .next
