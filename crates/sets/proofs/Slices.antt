@@ -15,7 +15,7 @@ use Rattle.ground.proofs.Some.{some-of, some-ex}
 use Rattle.ground.specs.Search.{some}
 use Rattle.masks.proofs.Laws.Subsets.{within-⊆, ⊆-within, minus-within}
 use Rattle.masks.specs.Mask.{has, within, others, _⊆_}
-use Rattle.sets.specs.Inner.Rows.{ListedRow, Rows}
+use Rattle.sets.specs.Inner.Rows.{ofSets, ListedRow, Rows}
 use Rattle.sets.specs.Slices.{slicesOf}
 use Rattle.table.specs.Table.{countOf, sliceOf}
 
@@ -69,8 +69,11 @@ module _ {t : List ℕ} {n : ℕ} (rows : Rows t n) where
   no-slice v l =
       ap (λ (l : List ℕ). getD (take 63 l) 0 0) (drop-of-length-le t (subst (λ (x : ℕ). x ≤ 63 * v) (sym (rows .long)) (mul-le-mul-left 63 l)))
 
-  -- who has a slice has a row
-  pub row : (v : ℕ) {i : ℕ} → i < countOf t v → ListedRow t n v
-  row v {i} l =
-      ⊎-elim (λ h. rows .listed v (ltb-true v n h)) (λ h. absurd (not-suc-le-zero (subst (λ (x : ℕ). i < x) (no-slice v (ltb-false v n h)) l)))
-      (cases (ltb v n))
+  -- who has something in its row is a site
+  pub row-site : (v : ℕ) {i : ℕ} → i < countOf t v → v < n
+  row-site v {i} l =
+      ⊎-elim (ltb-true v n) (λ h. absurd (not-suc-le-zero (subst (λ (x : ℕ). i < x) (no-slice v (ltb-false v n h)) l))) (cases (ltb v n))
+
+  -- and who has a slice has a row that lists it
+  pub row : (v : ℕ) {i : ℕ} → ofSets t v ≡ false → i < countOf t v → ListedRow t n v
+  row v s l = rows .listed v (row-site v l) s
