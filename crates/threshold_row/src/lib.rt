@@ -105,7 +105,8 @@ pub fn load_row(b: &[u8], m: &mut [u64])
         let at = 8 + 40 * k;
         m[50 + k] = le::get16(b, at) as u64
             + (65536 * (le::get16(b, at + 10) as u64)
-                + (4294967296 * (le::get16(b, at + 20) as u64) + 281474976710656 * (le::get16(b, at + 30) as u64)));
+                + (4294967296 * (le::get16(b, at + 20) as u64)
+                    + 281474976710656 * (le::get16(b, at + 30) as u64)));
         k += 1;
     }
     m[62] = le::get16(b, 488) as u64;

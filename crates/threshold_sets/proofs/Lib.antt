@@ -1,0 +1,5 @@
+pub mod Grows
+pub mod Whole
+pub mod Alike
+pub mod Present
+pub mod Exact
