@@ -1,9 +1,9 @@
--- Laws of the places: each is a slice, and those before it are passed; and of the slices held beside them.
+-- Laws of the places: each is a slice, and those before it are passed; and of the sets that hold a slice.
 use Prim.Native.Nat.{ℕ, _≤_, _<_}
 use mathlib.Core.Bool.{true, false}
 use mathlib.Core.List.{List}
 use mathlib.Core.Logic.{⊎-elim}
-use mathlib.Core.Path.{_≡_, sym, _∙_, subst}
+use mathlib.Core.Path.{_≡_, refl, sym, _∙_, subst}
 use native.Mathlib.Nat.{lt-of-lt-of-le}
 use lib.Dec.{eqb, ltb}
 use lib.ListN.{length, getD, set, replicate, getD-replicate, length-replicate, length-set}
@@ -11,10 +11,11 @@ use lib.Seq.{getD-set-same, getD-set-other}
 use borrow.Author.Tests.{eqb-true, eqb-false, ltb-true, ltb-false}
 use Rattle.ground.proofs.Logic.{is-false, clash, cases}
 use Rattle.masks.proofs.Laws.Single.{single-∈}
-use Rattle.masks.proofs.Laws.Subsets.{⊆-refl, ⊆-trans, within-⊆, ⊆-within, ∈-minus}
+use Rattle.masks.proofs.Laws.Subsets.{⊆-trans, within-⊆, ⊆-within, ∈-minus}
 use Rattle.masks.specs.Mask.{within, single, minus, allBelow, _∈_, _⊆_}
 use Rattle.one_round.specs.Inner.Places.{Place, Places, Placed, SlicesHeld}
-use Rattle.sets.specs.Inner.Rows.{Rows, rulesOf}
+use Rattle.sets.proofs.Rows.{row-all}
+use Rattle.sets.specs.Inner.Rows.{ofSets, Rows, rulesOf}
 use Rattle.table.specs.Table.{sliceOf}
 
 -- site v, or another one
@@ -44,28 +45,32 @@ module _ (t : List ℕ) where
   passed-to {w} {v} {from} p f i h = ⊎-elim (λ q. p .passed i (ltb-true i from q)) (λ q. f i (ltb-false i from q) h) (cases (ltb i from))
 
   -- in the first round
-  pub placed : {w v k : ℕ} {places : List ℕ} → length places ≡ 64 → v < 64 → (rulesOf t .inside v w ≡ true → Place t w v k) → Placed t w v places (set places v k)
+  pub placed : {w v k : ℕ} {places : List ℕ} → length places ≡ 64 → v < 64 → (ofSets t v ≡ false → rulesOf t .inside v w ≡ true → Place t w v k) → Placed t w v places (set places v k)
   placed {w} {v} {k} {places} many l q =
       record {
         many = length-set places v k ∙ many;
-        at = λ e. subst (Place t w v) (sym (getD-set-same places v k 0 (subst (λ (x : ℕ). v < x) (sym many) l))) (q e);
+        at = λ s e. subst (Place t w v) (sym (getD-set-same places v k 0 (subst (λ (x : ℕ). v < x) (sym many) l))) (q s e);
         others = λ u ne. getD-set-other places v u k 0 ne;
       }
 
+  -- a row of sets has no place
+  pub placed-none : {w v : ℕ} {places : List ℕ} → length places ≡ 64 → ofSets t v ≡ true → Placed t w v places places
+  placed-none many s = record { many = many; at = λ o. absurd (clash s o); others = λ u ne. refl }
+
   -- each that was asked and is left has its place: one more is asked
   pub asked-placed : {w n v rest rest' stay stay' : ℕ} {before after : List ℕ} →
-      ((u : ℕ) → u < n → u ∈ stay → (u ∈ rest → ⊥) → Place t w u (getD before u 0)) → Placed t w v before after →
+      ((u : ℕ) → u < n → u ∈ stay → (u ∈ rest → ⊥) → ofSets t u ≡ false → Place t w u (getD before u 0)) → Placed t w v before after →
       rest' ≡ minus rest (single v) → stay' ⊆ stay → (v ∈ stay' → rulesOf t .inside v w ≡ true) →
-      (u : ℕ) → u < n → u ∈ stay' → (u ∈ rest' → ⊥) → Place t w u (getD after u 0)
+      (u : ℕ) → u < n → u ∈ stay' → (u ∈ rest' → ⊥) → ofSets t u ≡ false → Place t w u (getD after u 0)
   asked-placed {w} {v = v} {rest = rest} {stay' = stay'} {after = after} old new e sub f u l h out =
-      one-or-other (λ (u : ℕ). u ∈ stay' → Place t w u (getD after u 0)) v u (λ h. new .at (f h))
-      (λ ne h. subst (Place t w u) (sym (new .others u ne)) (old u l (sub .each u h) (λ i. out (subst (λ (x : ℕ). u ∈ x) (sym e) (∈-minus i (λ z. ne (single-∈ v z))))))) h
+      one-or-other (λ (u : ℕ). u ∈ stay' → ofSets t u ≡ false → Place t w u (getD after u 0)) v u (λ h s. new .at s (f h))
+      (λ ne h s. subst (Place t w u) (sym (new .others u ne)) (old u l (sub .each u h) (λ i. out (subst (λ (x : ℕ). u ∈ x) (sym e) (∈-minus i (λ z. ne (single-∈ v z))))) s)) h
 
   module _ (n : ℕ) where
     pub places-less : {u w : ℕ} {places : List ℕ} → u ⊆ w → Places t n w places → Places t n u places
-    places-less s p = record { many = p .many; at = λ v l h. place-less s (p .at v l (s .each v h)) }
+    places-less s p = record { many = p .many; at = λ v l h o. place-less s (p .at v l (s .each v h) o) }
 
-    pub held-less : {u w : ℕ} {places held : List ℕ} → u ⊆ w → SlicesHeld t n w places held → SlicesHeld t n u places held
+    pub held-less : {u w : ℕ} {held : List ℕ} → u ⊆ w → SlicesHeld t n w held → SlicesHeld t n u held
     held-less s p = record { many = p .many; at = λ v l h. p .at v l (s .each v h) }
 
     -- slice k is the place of site v now
@@ -74,28 +79,22 @@ module _ (t : List ℕ) where
       places-more q =
           record {
             many = length-set places v k ∙ p .many;
-            at = λ u m h. written (λ (u k : ℕ). Place t w u k) places v k (p .many) l q u (λ ne. p .at u m h);
+            at = λ u m h o. written (λ (u k : ℕ). Place t w u k) places v k (p .many) l q u (λ ne. p .at u m h o);
           }
 
-      -- and held beside it
-      pub held-more : {held : List ℕ} → SlicesHeld t n w places held → SlicesHeld t n w (set places v k) (set held v (sliceOf t v k))
-      held-more {held} h =
-          record {
-            many = length-set held v (sliceOf t v k) ∙ h .many;
-            at = λ u m i.
-                written (λ (u x : ℕ). sliceOf t u (getD (set places v k) u 0) ⊆ x) held v (sliceOf t v k) (h .many) l here u
-                (λ ne. subst (λ (x : ℕ). sliceOf t u x ⊆ getD held u 0) (sym (getD-set-other places v u k 0 ne)) (h .at u m i));
-          }
-        where
-          here : sliceOf t v (getD (set places v k) v 0) ⊆ sliceOf t v k
-          here = subst (λ (x : ℕ). sliceOf t v x ⊆ sliceOf t v k) (sym (getD-set-same places v k 0 (subst (λ (x : ℕ). v < x) (sym (p .many)) l))) (⊆-refl (sliceOf t v k))
+    -- set q, which holds a slice of site v, is held for it
+    pub held-more : {w v q : ℕ} {held : List ℕ} → v < 64 → rulesOf t .inside v q ≡ true → SlicesHeld t n w held → SlicesHeld t n w (set held v q)
+    held-more {w} {v} {q} {held} l e h =
+        record {
+          many = length-set held v q ∙ h .many;
+          at = λ u m i. written (λ (u x : ℕ). rulesOf t .inside u x ≡ true) held v q (h .many) l e u (λ ne. h .at u m i);
+        }
 
-    -- before a slice is held: all sites, which every slice is inside
-    pub held-all : {m w : ℕ} {places : List ℕ} → Rows t n → m ≡ allBelow n → Places t n w places → SlicesHeld t n w places (replicate 64 m)
-    held-all {m} {w} {places} rows e p =
+    -- before anything is held: all sites, which hold a slice of each
+    pub held-all : {m w : ℕ} → Rows t n → m ≡ allBelow n → SlicesHeld t n w (replicate 64 m)
+    held-all {m} {w} rows e =
         record {
           many = length-replicate 64 m;
           at = λ v l h.
-              subst (λ (x : ℕ). sliceOf t v (getD places v 0) ⊆ x) (sym (getD-replicate 64 v m 0 (lt-of-lt-of-le l (rows .few-sites)) ∙ e))
-              (rows .listed v l .below (getD places v 0) (p .at v l h .slice));
+              subst (λ (x : ℕ). rulesOf t .inside v x ≡ true) (sym (getD-replicate 64 v m 0 (lt-of-lt-of-le l (rows .few-sites)) ∙ e)) (row-all rows v l);
         }

@@ -4,7 +4,6 @@ use mathlib.Core.Bool.{Bool, true, false, not}
 use mathlib.Core.List.{List}
 use mathlib.Core.Path.{_≡_, refl, ap, ap₂, _∙_}
 use lib.Dec.{ltb}
-use lib.ListN.{length}
 use borrow.Author.Tests.{eq-eqb, ne-eqb, lt-ltb, le-ltb}
 use Rattle.questions.specs.Answers.{toHolds, quorum, toGreatest, largest, setSiteCheck, blocks, toSharing, shared, toStanding, intact}
 use Rattle.questions.specs.declared.Greatest.{Greatest}
@@ -16,11 +15,10 @@ use Rattle.refusals.specs.declared.Check.{Check}
 use Rattle.refusals.specs.declared.Check.the-variants.{Sound, Refused}
 use Rattle.refusals.specs.declared.Refusal.{Refusal}
 use Rattle.refusals.specs.declared.Refusal.the-variants.{Range, Large}
-use Rattle.sets.proofs.Groups.{same-rules}
-use Rattle.sets.specs.Groups.{Groups, lists, groupsCheck, Checked, outsider, setCheck}
+use Rattle.sets.specs.Groups.{Groups, sitesOf, groupsCheck, outsider, setCheck}
+use Rattle.sets.specs.Inner.AsRows.{AsRows}
 use Rattle.sets.specs.Quorum as Quorum
 use Rattle.sets.specs.Inner.Rows.{rulesOf}
-use Rattle.table.specs.Table.{sites}
 use Rattle.verdicts.specs.Verdicts as Verdicts
 
 -- whatever is checked before
@@ -105,29 +103,29 @@ module _ (t : Groups) {r : Refusal} (e : groupsCheck t ≡ Refused r) where
   unfolding intact setCheck
   intact-refused F = rw e refl
 
--- of a table in memory that is not: what its rows answer
+-- of a table that is not: what its rows answer
 
-module _ (t : List ℕ) (e : Checked (lists t)) where
-  pub quorum-rows : (set : ℕ) → toHolds (outsider (sites (length t)) set) (Quorum.quorum (rulesOf t .inside) (sites (length t)) set) ≡ quorum (lists t) set
+module _ {t : Groups} {rows : List ℕ} (a : AsRows t rows) where
+  pub quorum-rows : (set : ℕ) → toHolds (outsider (sitesOf t) set) (Quorum.quorum (rulesOf rows .inside) (sitesOf t) set) ≡ quorum t set
   unfolding quorum setCheck
-  quorum-rows set = rw (e, same-rules t e) refl
+  quorum-rows set = rw (a .checked, a .same-rules) refl
 
   pub largest-rows : (set : ℕ) →
-      toGreatest (outsider (sites (length t)) set) (Quorum.largest (rulesOf t .inside) (sites (length t)) set) (Quorum.rounds (rulesOf t .inside) (sites (length t)) set)
-      ≡ largest (lists t) set
+      toGreatest (outsider (sitesOf t) set) (Quorum.largest (rulesOf rows .inside) (sitesOf t) set) (Quorum.rounds (rulesOf rows .inside) (sitesOf t) set)
+      ≡ largest t set
   unfolding largest setCheck
-  largest-rows set = rw (e, same-rules t e) refl
+  largest-rows set = rw (a .checked, a .same-rules) refl
 
   pub blocks-rows : (set site : ℕ) →
-      toHolds (orElse (outsider (sites (length t)) set) (refuse (not (ltb site (sites (length t)))) (Range 0))) (rulesOf t .blocked site set) ≡ blocks (lists t) set site
+      toHolds (orElse (outsider (sitesOf t) set) (refuse (not (ltb site (sitesOf t))) (Range 0))) (rulesOf rows .blocked site set) ≡ blocks t set site
   unfolding blocks setSiteCheck setCheck
-  blocks-rows set site = rw (e, same-rules t e) refl
+  blocks-rows set site = rw (a .checked, a .same-rules) refl
 
-  pub shared-rows : said (rulesOf t .inside) (sites (length t)) ≡ shared (lists t)
+  pub shared-rows : said (rulesOf rows .inside) (sitesOf t) ≡ shared t
   unfolding shared
-  shared-rows = rw (e, same-rules t e) refl
+  shared-rows = rw (a .checked, a .same-rules) refl
 
   pub intact-rows : (F : ℕ) →
-      toStanding (orElse (outsider (sites (length t)) F) (refuse (ltb 12 (sites (length t))) Large)) (Verdicts.intact (rulesOf t) (sites (length t)) F) ≡ intact (lists t) F
+      toStanding (orElse (outsider (sitesOf t) F) (refuse (ltb 12 (sitesOf t)) Large)) (Verdicts.intact (rulesOf rows) (sitesOf t) F) ≡ intact t F
   unfolding intact setCheck
-  intact-rows F = rw (e, same-rules t e) refl
+  intact-rows F = rw (a .checked, a .same-rules) refl

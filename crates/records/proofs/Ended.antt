@@ -10,8 +10,8 @@ use Rattle.refusals.specs.declared.Refusal as Refusal
 use Rattle.run.proofs.RunWays.{long-alike, fits, row-refused, check-refused, ran-refused, ran-rows, states-rows, answers-rows}
 use Rattle.run.specs.Inner.{rowRunCheck, rowRan, rowStateInto, rowAnswersInto}
 use Rattle.run.specs.declared.Ran.{Ran}
-use Rattle.sets.specs.Groups.{Groups, lists, groupsCheck, Checked}
-use Rattle.table.specs.Table.{sites}
+use Rattle.sets.specs.Groups.{Groups, sitesOf, groupsCheck}
+use Rattle.sets.specs.Inner.AsRows.{AsRows}
 
 pub long-unsound : (n F state answers : ℕ) → rowRunCheck n F 16388 state answers ≡ Sound → ⊥
 long-unsound n F state answers e = omega (arith, fits n F 16388 state answers e .few)
@@ -39,7 +39,7 @@ module _ (rows : List ℕ) (many F : ℕ) (bytes : List ℕ) (n : ℕ) (state an
     answered = λ list h w. subst (λ (x : List ℕ). answers′ ≡ rowAnswersInto r rows many F x answers) (w l) b;
   }
 
--- of a table that is refused, and of one in memory that is not
+-- of a table that is refused, and of one that is not
 
 pub table-refused : (t : Groups) (F : ℕ) (bytes : List ℕ) (n : ℕ) (state answers : List ℕ) {r : Refusal.Refusal} → groupsCheck t ≡ Refused r →
     TableEnded t F bytes n state answers (Ran.Refused r) state answers
@@ -49,10 +49,10 @@ table-refused t F bytes n state answers e = record {
   answered = λ list h w. ran-refused t F list state answers (check-refused t F (length list) (length state) (length answers) e) .2;
 }
 
-pub table-ends : (t : List ℕ) → Checked (lists t) → (F : ℕ) (bytes : List ℕ) (n : ℕ) (state answers : List ℕ) {r : Ran} {state′ answers′ : List ℕ} →
-    RowEnded t (sites (length t)) F bytes n state answers r state′ answers′ → TableEnded (lists t) F bytes n state answers r state′ answers′
-table-ends t c F bytes n state answers {r} E = record {
-  answer = λ list h w. E .answer list h w ∙ ran-rows t c F list (length state) (length answers);
-  states = λ list h w. E .states list h w ∙ states-rows t c F list r state;
-  answered = λ list h w. E .answered list h w ∙ answers-rows t c F list r answers;
+pub table-ends : {t : Groups} {rows : List ℕ} → AsRows t rows → (F : ℕ) (bytes : List ℕ) (n : ℕ) (state answers : List ℕ) {r : Ran} {state′ answers′ : List ℕ} →
+    RowEnded rows (sitesOf t) F bytes n state answers r state′ answers′ → TableEnded t F bytes n state answers r state′ answers′
+table-ends a F bytes n state answers {r} E = record {
+  answer = λ list h w. E .answer list h w ∙ ran-rows a F list (length state) (length answers);
+  states = λ list h w. E .states list h w ∙ states-rows a F list r state;
+  answered = λ list h w. E .answered list h w ∙ answers-rows a F list r answers;
 }

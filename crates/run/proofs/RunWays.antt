@@ -21,9 +21,9 @@ use Rattle.run.specs.Run.{listMisshapen, roomless, runCheck, theRun, toR
 use Rattle.run.specs.declared.Ran.{Ran}
 use Rattle.run.specs.declared.Ran.the-variants.{Passes}
 use Rattle.sets.proofs.Groups.{same-questions}
-use Rattle.sets.specs.Groups.{Groups, lists, sitesOf, groupsCheck, Checked, outsider, setCheck}
+use Rattle.sets.specs.Groups.{Groups, sitesOf, groupsCheck, Checked, outsider, setCheck}
+use Rattle.sets.specs.Inner.AsRows.{AsRows}
 use Rattle.sets.specs.Promises.{Questions}
-use Rattle.table.specs.Table.{sites}
 use Rattle.rules.specs.State.{width}
 use Rattle.rules.specs.Vote.{vote}
 use Rattle.rules.specs.Inner.{rowVote}
@@ -138,22 +138,22 @@ module _ (t : Groups) (F : ℕ) where
   run-fits bytes state answers e =
       fits (sitesOf t) F bytes state answers (check-rest bytes state answers (run-checked bytes state answers e) ∙ e)
 
--- of a table in memory: what its rows run to
+-- what its rows run to
 
-module _ (t : List ℕ) (e : Checked (lists t)) (F : ℕ) (list : List ℕ) where
-  run-rows : rowRun t (sites (length t)) F list ≡ theRun (lists t) F list
-  run-rows = ap (λ (Q : Questions). runOf (vote Q (sites (length t)) F) (calls list)) (same-questions t e)
+module _ {t : Groups} {rows : List ℕ} (a : AsRows t rows) (F : ℕ) (list : List ℕ) where
+  run-rows : rowRun rows (sitesOf t) F list ≡ theRun t F list
+  run-rows = ap (λ (Q : Questions). runOf (vote Q (sitesOf t) F) (calls list)) (same-questions a)
 
-  pub ran-rows : (state answers : ℕ) → rowRan t (sites (length t)) F list state answers ≡ ran (lists t) F list state answers
+  pub ran-rows : (state answers : ℕ) → rowRan rows (sitesOf t) F list state answers ≡ ran t F list state answers
   unfolding rowRan ran
   ran-rows state answers =
-      ap (λ (q : Check). toRan q (rowRun t (sites (length t)) F list .passes)) (check-rest (lists t) F (length list) state answers e)
-      ∙ ap (λ (x : Run (List ℕ)). toRan (runCheck (lists t) F (length list) state answers) (x .passes)) run-rows
+      ap (λ (q : Check). toRan q (rowRun rows (sitesOf t) F list .passes)) (check-rest t F (length list) state answers (a .checked))
+      ∙ ap (λ (x : Run (List ℕ)). toRan (runCheck t F (length list) state answers) (x .passes)) run-rows
 
-  pub states-rows : (r : Ran) (room : List ℕ) → rowStateInto r t (sites (length t)) F list room ≡ stateInto r (lists t) F list room
+  pub states-rows : (r : Ran) (room : List ℕ) → rowStateInto r rows (sitesOf t) F list room ≡ stateInto r t F list room
   unfolding rowStateInto stateInto
-  states-rows r room = ap (λ (x : Run (List ℕ)). front r (x .state) (width (sites (length t))) room) run-rows
+  states-rows r room = ap (λ (x : Run (List ℕ)). front r (x .state) (width (sitesOf t)) room) run-rows
 
-  pub answers-rows : (r : Ran) (room : List ℕ) → rowAnswersInto r t (sites (length t)) F list room ≡ answersInto r (lists t) F list room
+  pub answers-rows : (r : Ran) (room : List ℕ) → rowAnswersInto r rows (sitesOf t) F list room ≡ answersInto r t F list room
   unfolding rowAnswersInto answersInto
   answers-rows r room = ap (λ (x : Run (List ℕ)). front r (x .answers) (length list / 4) room) run-rows

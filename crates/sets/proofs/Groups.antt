@@ -3,9 +3,10 @@ use Prim.Native.Nat.{ℕ, _≤_}
 use mathlib.Core.Bool.{true, false}
 use mathlib.Core.List.{List}
 use mathlib.Core.Logic.{_↔_}
-use mathlib.Core.Path.{_≡_, refl, ap}
+use mathlib.Core.Path.{_≡_, refl, ap, fun-ext}
 use lib.ListN.{length}
-use borrow.Author.Tests.{not-false}
+use borrow.Author.Tests.{not-false, ltb-true, le-ltb}
+use Rattle.ground.proofs.Logic.{clash, is-false}
 use Rattle.masks.proofs.Laws.Subsets.{within-⊆}
 use Rattle.masks.specs.Mask.{within, allBelow, _⊆_}
 use Rattle.refusals.proofs.First.{orElse-sound, kept}
@@ -14,13 +15,17 @@ use Rattle.refusals.specs.declared.Refusal.the-variants.{Set}
 use Rattle.sets.specs.Decides.{TableIsFbqs, TableDecides, TablePromises}
 use Rattle.sets.specs.Groups.{Groups, lists, sitesOf, fbqsIn, slicesIn, groupsCheck, SoundTable, Checked, outsider, setCheck, questions}
 use Rattle.sets.specs.Promises.{questionsOf}
+use Rattle.sets.specs.Slices.{Slices, slicesOf}
 use Rattle.sets.specs.Forms.{LawfulSlices}
-use Rattle.sets.specs.Inner.Rows.{Rows, rulesOf, rowQuestions}
+use Rattle.sets.specs.Inner.AsRows.{AsRows}
+use Rattle.sets.specs.Inner.Rows.{ofSets, Rows, rulesOf, rowQuestions}
 use Rattle.sets.proofs.Decides.{decides}
 use Rattle.sets.proofs.Lawful.{table-lawful}
 use Rattle.sets.proofs.Promises.{promises}
+use Rattle.sets.proofs.Rows.{lists-inside, lists-deleted, lists-blocked}
+use Rattle.sets.proofs.Slices.{row-site}
 use Rattle.table.proofs.Exact.{checked, exact}
-use Rattle.table.specs.Table.{sites, Table}
+use Rattle.table.specs.Table.{sites, countOf, Table}
 
 pub lawful : (t : Groups) → Checked t → LawfulSlices (fbqsIn t) (slicesIn t) (sitesOf t)
 lawful (lists t) c = table-lawful (checked t c)
@@ -48,32 +53,52 @@ table-promises t c = promises (lawful t c)
 
 -- rows of lists
 
+same-tests : (r s : Slices) → ((v u : ℕ) → r .inside v u ≡ s .inside v u) → ((b v u : ℕ) → r .deleted b v u ≡ s .deleted b v u) →
+    ((v w : ℕ) → r .blocked v w ≡ s .blocked v w) → r ≡ s
+same-tests r s p q k =
+    rw (
+      fun-ext (λ v. fun-ext (p v)) : r .inside ≡ s .inside,
+      fun-ext (λ b. fun-ext (λ v. fun-ext (q b v))) : r .deleted ≡ s .deleted,
+      fun-ext (λ v. fun-ext (k v)) : r .blocked ≡ s .blocked,
+    ) refl
+
 pub table-rows : {t : List ℕ} {n : ℕ} → Table t n → Rows t n
-table-rows s =
+table-rows {t} s =
     record {
       long = s .long;
       some-site = s .some-site;
       few-sites = s .few-sites;
-      listed = λ v l. record {
+      listed = λ v l o. record {
         some-slice = s .some-slice v l;
         few-slices = s .few-slices v l;
         owner = λ i. s .owner v i l;
         below = λ i. s .below v i l;
         ascend = λ i. s .ascend v i l;
       };
+      sets = λ v l o. absurd (clash o (le-ltb 62 (countOf t v) (s .few-slices v l)));
     }
 
 module _ (t : List ℕ) (c : Checked (lists t)) where
   pub checked-rows : Rows t (sites (length t))
   checked-rows = table-rows (checked t c)
 
-  pub same-rules : rulesOf t ≡ slicesIn (lists t)
-  unfolding rulesOf
-  same-rules = refl
+  -- no row is one of sets
+  all-listed : (v : ℕ) → ofSets t v ≡ false
+  all-listed v =
+      is-false (ofSets t v)
+      (λ s. clash s (le-ltb 62 (countOf t v) (checked t c .few-slices v (row-site checked-rows v (ltb-true 62 (countOf t v) s)))))
 
-  pub same-questions : rowQuestions t (sites (length t)) ≡ questions (lists t)
-  unfolding rowQuestions
-  same-questions = ap (λ r. questionsOf r (sites (length t))) same-rules
+  pub same-rules : rulesOf t ≡ slicesIn (lists t)
+  same-rules =
+      same-tests (rulesOf t) (slicesOf t) (λ v. lists-inside (all-listed v)) (λ b v. lists-deleted (all-listed v) b) (λ v. lists-blocked (all-listed v))
+
+  pub as-rows : AsRows (lists t) t
+  as-rows = record { checked = c; right = checked-rows; same-rules = same-rules }
+
+-- by its rows a table is asked its own questions
+pub same-questions : {t : Groups} {rows : List ℕ} → AsRows t rows → rowQuestions rows (sitesOf t) ≡ questions t
+unfolding rowQuestions
+same-questions {t} a = ap (λ r. questionsOf r (sitesOf t)) (a .same-rules)
 
 -- a set that is taken: the table is, and the set is of its sites
 

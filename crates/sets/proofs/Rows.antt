@@ -11,6 +11,7 @@ use lib.ListN.{length}
 use lib.Pow.{ones-lt}
 use borrow.Author.Tests.{ltb-true, le-ltb}
 use Rattle.ground.proofs.Logic.{and-l, and-r, and-i, cases, is-false}
+use Rattle.masks.proofs.Laws.AllBelow.{in-all}
 use Rattle.masks.proofs.Laws.Apart.{⊆-minus, ⊆-minus-apart}
 use Rattle.masks.proofs.Laws.Subsets.{mem, ⊆-trans, ∈-below, ∈-and}
 use Rattle.masks.specs.Mask.{has, within, minus, others, allBelow, _∈_, _⊆_}
@@ -25,8 +26,8 @@ use Rattle.sets.proofs.Promises.{promises}
 use Rattle.sets.proofs.Slices.{inside-of, inside-ex, inside-found, inside-missed, deleted-inside, blocked-meets, unblocked-misses, row, row-site}
 use Rattle.table.specs.Table.{sites, siteOf, countOf, sliceOf}
 use Rattle.threshold_row.specs.Inner.Row.{setsOf}
-use Rattle.threshold_sets.proofs.Alike.{met-of-sites}
 use Rattle.threshold_sets.proofs.Grows.{met-grows}
+use Rattle.threshold_sets.proofs.Present.{met-of-sites}
 use Rattle.threshold_sets.proofs.Whole.{all-meet}
 use Rattle.threshold_sets.specs.Check.{SoundSets}
 
@@ -126,11 +127,11 @@ module _ {t : List ℕ} {n : ℕ} (rows : Rows t n) where
   sets-and {v} s u e =
       let h = sym (sets-inside s u) ∙ e in
       sets-inside s (bitAnd u (allBelow n))
-      ∙ and-i (∈-and (mem (and-l _ _ h)) (below-∈ (sets-site s)) .holds) (met-of-sites (sets-of s) u ∙ and-r _ _ h)
+      ∙ and-i (∈-and (mem (and-l _ _ h)) (in-all (sets-site s)) .holds) (met-of-sites (setsOf (siteOf t v)) (sets-of s .some-set) n (sets-of s .below) u ∙ and-r _ _ h)
 
   sets-all : {v : ℕ} → ofSets t v ≡ true → rulesOf t .inside v (allBelow n) ≡ true
   sets-all {v} s =
-      sets-inside s (allBelow n) ∙ and-i (below-∈ (sets-site s) .holds) (all-meet (sets-of s) (allBelow n) (sets-of s .below))
+      sets-inside s (allBelow n) ∙ and-i (in-all (sets-site s) .holds) (all-meet (sets-of s) (allBelow n) (sets-of s .below))
 
   -- whichever
 

@@ -1,2 +1,3 @@
 -- What the functions inside ask of a table.
 pub mod Rows
+pub mod AsRows

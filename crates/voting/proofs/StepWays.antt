@@ -3,7 +3,6 @@ use Prim.Native.Nat.{ℕ}
 use mathlib.Core.Bool.{Bool, true, false}
 use mathlib.Core.List.{List}
 use mathlib.Core.Path.{_≡_, refl, sym, ap, _∙_}
-use lib.ListN.{length}
 use Rattle.refusals.proofs.First.{orElse-sound, kept}
 use Rattle.refusals.specs.First.{orElse, refuse}
 use Rattle.refusals.specs.declared.Check.{Check}
@@ -15,10 +14,10 @@ use Rattle.rules.specs.Sound.{Sound, unsound}
 use Rattle.rules.specs.Vote.{vote}
 use Rattle.rules.specs.Inner.{rowVote}
 use Rattle.sets.proofs.Groups.{same-questions}
-use Rattle.sets.specs.Groups.{Groups, lists, groupsCheck, Checked, outsider, setCheck}
+use Rattle.sets.specs.Groups.{Groups, sitesOf, groupsCheck, outsider, setCheck}
+use Rattle.sets.specs.Inner.AsRows.{AsRows}
 use Rattle.sets.specs.Promises.{Questions}
 use Rattle.sets.specs.Inner.Rows.{rowQuestions}
-use Rattle.table.specs.Table.{sites}
 use Rattle.votes.specs.Call.{Call}
 use Rattle.votes.specs.Inner.{Works}
 use Rattle.votes.specs.Vote.{step, ifTaken}
@@ -83,20 +82,20 @@ module _ (t : Groups) (F : ℕ) (s : List ℕ) where
   unfolding stepCheck stepInto soundCheck setCheck
   step-refused e c = (rw e refl, rw e refl)
 
--- of a table in memory that is not: what is asked of its rows
+-- of a table that is not: what is asked of its rows
 
-module _ (t : List ℕ) (e : Checked (lists t)) (F : ℕ) (s : List ℕ) where
-  pub sound-rows : rowSound t (sites (length t)) F s ≡ soundCheck (lists t) F s
+module _ {t : Groups} {rows : List ℕ} (a : AsRows t rows) (F : ℕ) (s : List ℕ) where
+  pub sound-rows : rowSound rows (sitesOf t) F s ≡ soundCheck t F s
   unfolding rowSound soundCheck setCheck
-  sound-rows = rw (e, same-questions t e) refl
+  sound-rows = rw (a .checked, same-questions a) refl
 
   module _ (c : Call) where
-    pub step-rows : rowStep t (sites (length t)) F c s ≡ stepCheck (lists t) F c s
+    pub step-rows : rowStep rows (sitesOf t) F c s ≡ stepCheck t F c s
     unfolding rowStep stepCheck
-    step-rows = ap (λ (q : Check). orElse q (answer (sites (length t)) F c s)) sound-rows
+    step-rows = ap (λ (q : Check). orElse q (answer (sitesOf t) F c s)) sound-rows
 
-    pub into-rows : rowStepInto t (sites (length t)) F c s ≡ stepInto (lists t) F c s
+    pub into-rows : rowStepInto rows (sitesOf t) F c s ≡ stepInto t F c s
     unfolding rowStepInto stepInto
     into-rows =
-        ap (λ (q : Check). ifTaken q (step (rowVote t (sites (length t)) F) c s) s) sound-rows
-        ∙ ap (λ (Q : Questions). ifTaken (soundCheck (lists t) F s) (step (vote Q (sites (length t)) F) c s) s) (same-questions t e)
+        ap (λ (q : Check). ifTaken q (step (rowVote rows (sitesOf t) F) c s) s) sound-rows
+        ∙ ap (λ (Q : Questions). ifTaken (soundCheck t F s) (step (vote Q (sitesOf t) F) c s) s) (same-questions a)

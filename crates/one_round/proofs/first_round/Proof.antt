@@ -1,6 +1,6 @@
 -- `first_round` meets its contract: who is asked stays if it has a slice inside w, and then has its place, and goes if not.
 use Prim.Native.Nat.{ℕ, _<_}
-use mathlib.Core.Bool.{Bool, cond}
+use mathlib.Core.Bool.{Bool, false, cond}
 use mathlib.Core.Logic.{⊎-elim}
 use mathlib.Core.Path.{_≡_, sym, ap, _∙_, subst}
 use lib.Bits.{bitAnd}
@@ -19,12 +19,12 @@ use Rattle.one_round.proofs.first_round.Statement.{statement}
 use Rattle.sets.proofs.Quorum.{round-slice}
 use Rattle.sets.specs.Quorum.{round}
 use Rattle.one_round.proofs.first_round.Tie as tie
-use Rattle.sets.specs.Inner.Rows.{rulesOf}
+use Rattle.sets.specs.Inner.Rows.{ofSets, rulesOf}
 
 abbrev Inv-loop : tie.InvT-loop
 Inv-loop table n w places₀ stay₀ rest₀ places stay rest =
     SomeAsked (bitAnd w (allBelow n)) (round (rulesOf table .inside) n w) (round (rulesOf table .inside) n w) rest stay × (length places ≡ 64)
-    × ((u : ℕ) → u < n → u ∈ stay → (u ∈ rest → ⊥) → Place table w u (getD places u 0))
+    × ((u : ℕ) → u < n → u ∈ stay → (u ∈ rest → ⊥) → ofSets table u ≡ false → Place table w u (getD places u 0))
 
 abbrev μ-loop : tie.MeasureT-loop
 μ-loop table n w places₀ stay₀ rest₀ places stay rest = rest
@@ -81,7 +81,7 @@ returns c =
     let l = c .before .loop in
     let part = ⊆-trans (l .inv .0 .part) (and-⊆-l (a .w) (allBelow (a .n))) in (
       ⊆-antisym (asked-all (c .loop-test .left) (l .inv .0)) (l .inv .0 .keeps),
-      record { many = l .inv .1; at = λ u m h. place-less (now (a .table)) part (l .inv .2 u m h (λ i. not-in-zero (∈-eq (c .loop-test .left) i))) },
+      record { many = l .inv .1; at = λ u m h s. place-less (now (a .table)) part (l .inv .2 u m h (λ i. not-in-zero (∈-eq (c .loop-test .left) i)) s) },
     )
 
 pub first-round-spec : {M : Type 1} → statement M

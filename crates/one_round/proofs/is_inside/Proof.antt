@@ -12,13 +12,13 @@ use Rattle.one_round.proofs.is_inside.Tie as tie
 shared-slice-read-within : tie.Need-shared-slice-read-within
 shared-slice-read-within c =
     let p = c .before .before in
-    omega (arith, p .pre .0 .listed (p .args .v) (p .pre .1 .0) .few-slices)
+    omega (arith, p .pre .1 .1 .0 .few-slices)
 
 returns : tie.Need-returns
 returns c =
     let p = c .before .before .before in
     let a = p .args in
-    let few : a .i < 62 = omega (arith, p .pre .0 .listed (a .v) (p .pre .1 .0) .few-slices) in
+    let few : a .i < 62 = omega (arith, p .pre .1 .1 .0 .few-slices) in
     c .within .ensures ∙ sym (ap (λ (x : ℕ). within x (a .w)) (slice-at (now (a .table)) (a .v) (a .i) few))
 
 pub is-inside-spec : {M : Type 1} → statement M

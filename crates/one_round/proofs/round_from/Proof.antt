@@ -22,7 +22,7 @@ use Rattle.sets.specs.Inner.Rows.{rulesOf}
 
 abbrev Inv-loop : tie.InvT-loop
 Inv-loop table n w places₀ held₀ stay₀ rest₀ places held stay rest =
-    SomeAsked (bitAnd w (allBelow n)) (round (rulesOf table .inside) n w) (round (rulesOf table .inside) n w) rest stay × Places table n w places × SlicesHeld table n w places held
+    SomeAsked (bitAnd w (allBelow n)) (round (rulesOf table .inside) n w) (round (rulesOf table .inside) n w) rest stay × Places table n w places × SlicesHeld table n w held
 
 abbrev μ-loop : tie.MeasureT-loop
 μ-loop table n w places₀ held₀ stay₀ rest₀ places held stay rest = rest

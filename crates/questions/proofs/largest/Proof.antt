@@ -5,7 +5,7 @@ use denote.Ref.{now}
 use Rattle.questions.proofs.Answers.{largest-refused, largest-rows}
 use Rattle.questions.proofs.largest.Statement.{statement}
 use Rattle.questions.proofs.largest.Tie as tie
-use Rattle.sets.proofs.Groups.{checked-rows}
+use Rattle.sets.proofs.Groups.{checked-rows, as-rows}
 use Rattle.sets.specs.Groups.{lists}
 
 returns : tie.Need-returns
@@ -21,7 +21,7 @@ largest-of-requires c κs =
 returns-2 : tie.Need-returns-2
 returns-2 c =
     let a = c .before .before .before .before .before .args in
-    c .largest-of .ensures ∙ largest-rows (now (a .table)) (sym (c .before .before .before .check .ensures) ∙ c .before .enum-told .given .1) (a .set)
+    c .largest-of .ensures ∙ largest-rows (as-rows (now (a .table)) (sym (c .before .before .before .check .ensures) ∙ c .before .enum-told .given .1)) (a .set)
 
 pub largest-spec : {M : Type 1} → statement M
 largest-spec =

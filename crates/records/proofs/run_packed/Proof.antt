@@ -5,7 +5,7 @@ use denote.Ref.{now}
 use Rattle.records.proofs.Ended.{table-refused, table-ends}
 use Rattle.records.proofs.run_packed.Statement.{statement}
 use Rattle.records.proofs.run_packed.Tie as tie
-use Rattle.sets.proofs.Groups.{checked-rows}
+use Rattle.sets.proofs.Groups.{checked-rows, as-rows}
 use Rattle.sets.specs.Groups.{lists}
 
 returns : tie.Need-returns
@@ -23,7 +23,7 @@ returns-2 c =
     let r = c .before .before .before .before in
     let b = r .before .before .before in
     let a = b .before .before .before .before .before .before .args in
-    table-ends (now (a .table)) (sym (b .before .before .check .ensures) ∙ b .enum-told .given .1) (a .faulty) (now (a .room)) (a .n) (now (a .state)) (now (a .answers))
+    table-ends (as-rows (now (a .table)) (sym (b .before .before .check .ensures) ∙ b .enum-told .given .1)) (a .faulty) (now (a .room)) (a .n) (now (a .state)) (now (a .answers))
     (r .run-packed-of .ensures)
 
 pub run-packed-spec : {M : Type 1} → statement M

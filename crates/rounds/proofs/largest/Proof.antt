@@ -16,7 +16,7 @@ use Rattle.sets.specs.Inner.Rows.{rulesOf}
 
 abbrev Inv-loop : tie.InvT-loop
 Inv-loop table n w places₀ set₀ held₀ count₀ places set held count =
-    Places table n set places × SlicesHeld table n set places held × (largest (rulesOf table .inside) n set ≡ largest (rulesOf table .inside) n w)
+    Places table n set places × SlicesHeld table n set held × (largest (rulesOf table .inside) n set ≡ largest (rulesOf table .inside) n w)
     × (count + rounds (rulesOf table .inside) n set ≡ rounds (rulesOf table .inside) n w)
 
 abbrev μ-loop : tie.MeasureT-loop
@@ -40,7 +40,7 @@ loop-holds c =
     let r = c .before .before .first-round .ensures in
     let ne : round s (a .n) (a .w) ≡ a .w → ⊥ = λ q. c .before .if1 .left (r .0 ∙ q) in (
       r .1,
-      held-all (now (a .table)) (a .n) (p .pre) (c .all-below .ensures) (r .1),
+      held-all (now (a .table)) (a .n) (p .pre) (c .all-below .ensures),
       ap (largest s (a .n)) (r .0) ∙ sym (largest-step s (a .n) (a .w) ne),
       (let f = ap (rounds s (a .n)) (r .0) in
           let g = rounds-step s (a .n) (a .w) ne in

@@ -6,7 +6,7 @@ use lib.ListN.{length}
 use Rattle.run.proofs.RunWays.{check-refused, ran-refused, ran-rows, states-rows, answers-rows}
 use Rattle.run.proofs.run.Statement.{statement}
 use Rattle.run.proofs.run.Tie as tie
-use Rattle.sets.proofs.Groups.{checked-rows}
+use Rattle.sets.proofs.Groups.{checked-rows, as-rows}
 use Rattle.sets.specs.Groups.{lists}
 
 returns : tie.Need-returns
@@ -31,8 +31,8 @@ returns-2 c =
     let t = now (a .table) in
     let e = sym (b .before .before .check .ensures) ∙ b .enum-told .given .1 in
     let x = r .run-of .ensures in (
-      x .0 ∙ ran-rows t e (a .faulty) (now (a .list)) (length (now (a .state))) (length (now (a .answers))),
-      (x .1 .0 ∙ states-rows t e (a .faulty) (now (a .list)) _ (now (a .state)), x .1 .1 ∙ answers-rows t e (a .faulty) (now (a .list)) _ (now (a .answers))),
+      x .0 ∙ ran-rows (as-rows t e) (a .faulty) (now (a .list)) (length (now (a .state))) (length (now (a .answers))),
+      (x .1 .0 ∙ states-rows (as-rows t e) (a .faulty) (now (a .list)) _ (now (a .state)), x .1 .1 ∙ answers-rows (as-rows t e) (a .faulty) (now (a .list)) _ (now (a .answers))),
     )
 
 pub run-spec : {M : Type 1} → statement M

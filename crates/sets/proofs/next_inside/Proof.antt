@@ -23,7 +23,7 @@ loop-holds : tie.Need-loop-holds Inv-loop μ-loop
 loop-holds c =
     let a = c .before .before .args in
     let p = c .before .before .pre in
-    (subst (λ (k : ℕ). k ≤ 62) (count-at (now (a .table)) (a .v)) (p .0 .listed (a .v) (p .1) .few-slices), λ k l m. absurd (lt-irrefl _ (lt-of-lt-of-le l m)), le-refl _)
+    (subst (λ (k : ℕ). k ≤ 62) (count-at (now (a .table)) (a .v)) (p .1 .1 .few-slices), λ k l m. absurd (lt-irrefl _ (lt-of-lt-of-le l m)), le-refl _)
 
 returns : tie.Need-returns Inv-loop μ-loop
 returns c =

@@ -5,7 +5,7 @@ use denote.Ref.{now}
 use Rattle.questions.proofs.Answers.{intact-refused, intact-rows}
 use Rattle.verdict_questions.proofs.intact.Statement.{statement}
 use Rattle.verdict_questions.proofs.intact.Tie as tie
-use Rattle.sets.proofs.Groups.{checked-rows}
+use Rattle.sets.proofs.Groups.{checked-rows, as-rows}
 use Rattle.sets.specs.Groups.{lists}
 
 returns : tie.Need-returns
@@ -21,7 +21,7 @@ intact-of-requires c κs =
 returns-2 : tie.Need-returns-2
 returns-2 c =
     let a = c .before .before .before .before .before .args in
-    c .intact-of .ensures ∙ intact-rows (now (a .table)) (sym (c .before .before .before .check .ensures) ∙ c .before .enum-told .given .1) (a .faulty)
+    c .intact-of .ensures ∙ intact-rows (as-rows (now (a .table)) (sym (c .before .before .before .check .ensures) ∙ c .before .enum-told .given .1)) (a .faulty)
 
 pub intact-spec : {M : Type 1} → statement M
 intact-spec =

@@ -2,7 +2,7 @@
 use mathlib.Core.Path.{sym, _∙_}
 use borrow.Author.Needs.{needs}
 use denote.Ref.{now}
-use Rattle.sets.proofs.Groups.{checked-rows}
+use Rattle.sets.proofs.Groups.{checked-rows, as-rows}
 use Rattle.sets.specs.Groups.{lists}
 use Rattle.voting.proofs.StepWays.{sound-refused, sound-rows}
 use Rattle.voting.proofs.sound.Statement.{statement}
@@ -22,7 +22,7 @@ returns-2 : tie.Need-returns-2
 returns-2 c =
     let b = c .before in
     let a = b .before .before .before .before .before .args in
-    c .sound-of .ensures ∙ sound-rows (now (a .table)) (sym (b .before .before .check .ensures) ∙ b .enum-told .given .1) (a .faulty) (now (a .state))
+    c .sound-of .ensures ∙ sound-rows (as-rows (now (a .table)) (sym (b .before .before .check .ensures) ∙ b .enum-told .given .1)) (a .faulty) (now (a .state))
 
 pub sound-spec : {M : Type 1} → statement M
 sound-spec =

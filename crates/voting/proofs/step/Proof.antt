@@ -2,7 +2,7 @@
 use mathlib.Core.Path.{sym, ap, _∙_}
 use borrow.Author.Needs.{needs}
 use denote.Ref.{now}
-use Rattle.sets.proofs.Groups.{checked-rows}
+use Rattle.sets.proofs.Groups.{checked-rows, as-rows}
 use Rattle.sets.specs.Groups.{lists}
 use Rattle.votes.specs.Call.{call}
 use Rattle.voting.proofs.StepWays.{step-refused, step-rows, into-rows}
@@ -29,7 +29,7 @@ returns-2 c =
     let t = now (a .table) in
     let e = sym (b .before .before .check .ensures) ∙ b .enum-told .given .1 in
     let d = call (a .kind) (a .from) (a .to) (a .side) in
-    (r .step-of .ensures .0 ∙ ap toStepped (step-rows t e (a .faulty) (now (a .state)) d), r .step-of .ensures .1 ∙ into-rows t e (a .faulty) (now (a .state)) d)
+    (r .step-of .ensures .0 ∙ ap toStepped (step-rows (as-rows t e) (a .faulty) (now (a .state)) d), r .step-of .ensures .1 ∙ into-rows (as-rows t e) (a .faulty) (now (a .state)) d)
 
 pub step-spec : {M : Type 1} → statement M
 step-spec =

@@ -1,4 +1,4 @@
--- `blocks` meets its contract: the others of w meet each slice before i.
+-- `blocks_listed` meets its contract: the others of w meet each slice before i.
 use Prim.Native.Nat.{ℕ, _-_, _≤_, _<_}
 use mathlib.Core.Bool.{true, not}
 use mathlib.Core.Path.{_≡_, sym, ap, ap₂, _∙_, subst}
@@ -13,10 +13,10 @@ use Rattle.ground.specs.Search.{every}
 use Rattle.masks.specs.Mask.{minus, others}
 use Rattle.sets.specs.Slices.{slicesOf}
 use Rattle.sets.proofs.Rows.{listed-blocked}
-use Rattle.sets.proofs.blocks.Statement.{statement}
+use Rattle.sets.proofs.blocks_listed.Statement.{statement}
 use Rattle.table.proofs.Table.{count-at, slice-at}
 use Rattle.table.specs.Table.{countOf, sliceOf}
-use Rattle.sets.proofs.blocks.Tie as tie
+use Rattle.sets.proofs.blocks_listed.Tie as tie
 
 abbrev Inv-loop : tie.InvT-loop
 Inv-loop table n w v rest many i₀ i =
@@ -26,7 +26,7 @@ abbrev μ-loop : tie.MeasureT-loop
 μ-loop table n w v rest many i₀ i = many - i
 
 single-requires : tie.Need-single-requires Inv-loop μ-loop
-single-requires c κs = let p = c .before .pre in omega (arith, p .0 .few-sites, p .1)
+single-requires c κs = let p = c .before .pre in omega (arith, p .0 .few-sites, p .1 .0)
 
 loop-holds : tie.Need-loop-holds Inv-loop μ-loop
 loop-holds c =
@@ -34,7 +34,7 @@ loop-holds c =
     let p = c .before .before .before .before .pre in
     let own = c .before .before .single .ensures in (
       search needs,
-      subst (λ (k : ℕ). k ≤ 62) (count-at (now (a .table)) (a .v)) (p .0 .listed (a .v) (p .1) .few-slices),
+      subst (λ (k : ℕ). k ≤ 62) (count-at (now (a .table)) (a .v)) (p .1 .1 .few-slices),
       c .before .minus .ensures ∙ ap (minus (a .w)) own,
       every-none _,
     )
@@ -52,7 +52,7 @@ returns c =
     ap₂ bitAnd (slice-at t (a .v) i l) (sym (c .before .before .before .loop .inv .2)) ∙ c .if1 .taken in
     sym (every-not (countOf t (a .v)) (λ k. not (eqb (bitAnd (sliceOf t (a .v) k) o) 0)) {j = i}
     (subst (λ (k : ℕ). i < k) (sym (count-at t (a .v))) (c .before .before .loop-test .taken)) (ap not (eq-eqb _ 0 e)))
-    ∙ sym (listed-blocked (p .pre .0 .listed (a .v) (p .pre .1)) (a .w))
+    ∙ sym (listed-blocked (p .pre .1 .1) (a .w))
 
 loop-again : tie.Need-loop-again Inv-loop μ-loop
 loop-again c =
@@ -74,10 +74,10 @@ returns-2 c =
     let t = now (a .table) in
     let e : c .before .loop .i ≡ countOf t (a .v) = omega (arith, c .before .loop .inv .0, count-at t (a .v)) in
     sym (subst (λ (m : ℕ). every m (λ k. not (eqb (bitAnd (sliceOf t (a .v) k) (others (a .w) (a .v))) 0)) ≡ true) e (c .before .loop .inv .3))
-    ∙ sym (listed-blocked (p .pre .0 .listed (a .v) (p .pre .1)) (a .w))
+    ∙ sym (listed-blocked (p .pre .1 .1) (a .w))
 
-pub blocks-spec : {M : Type 1} → statement M
-blocks-spec =
+pub blocks-listed-spec : {M : Type 1} → statement M
+blocks-listed-spec =
     tie.close
     (tie.spec
     Inv-loop
