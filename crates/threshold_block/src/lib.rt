@@ -55,7 +55,7 @@ fn check_set(b: &[u8], n: u64, place: u64, i: usize, depth: usize) -> Check
     if threshold == 0 {
         return Check::Refused(Refusal::Threshold(place));
     }
-    if masks::size(plain) as u64 + le::wide(b[9 + 10 * i]) < threshold {
+    if masks::size(plain) as usize + le::wide(b[9 + 10 * i]) < threshold {
         return Check::Refused(Refusal::Threshold(place));
     }
     if depth == 0 {
