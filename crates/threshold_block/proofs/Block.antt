@@ -5,11 +5,12 @@ use mathlib.Core.List.{List}
 use mathlib.Core.Path.{_≡_, refl, sym, ap, ap₂, subst, _∙_}
 use native.Mathlib.Omega.{arith}
 use lib.Bits.{bitOr}
-use lib.Dec.{eqb, ltb}
-use lib.ListN.{getD}
+use lib.Dec.{eqb}
+use lib.ListN.{length, getD}
 use borrow.Author.Tests.{eq-eqb, ne-eqb, lt-ltb, le-ltb}
 use Rattle.block.specs.Block.{sealed}
 use Rattle.ground.specs.Search.{some}
+use Rattle.refusals.proofs.First.{first-stop}
 use Rattle.refusals.specs.First.{orElse, refuse, first}
 use Rattle.refusals.specs.declared.Check.{Check}
 use Rattle.refusals.specs.declared.Check.the-variants.{Sound, Refused}
@@ -18,7 +19,7 @@ use Rattle.refusals.specs.declared.Refusal.the-variants.{Sums, Header, Count, F
 use Rattle.rows.proofs.Site.{unfilled-more}
 use Rattle.site_block.specs.Block.{siteField, sitesField, countField, zeroField, misheaded}
 use Rattle.threshold_block.specs.Block.{setsIn, setsUnfilled, thresholdBlockCheck}
-use Rattle.threshold_sets.specs.Check.{setCheck, owing, setsCheck}
+use Rattle.threshold_sets.specs.Check.{owed, setCheck, owing, setsCheck}
 
 -- one byte of filler more
 pub filler-more : (b : List ℕ) (from at any : ℕ) → from ≤ at → not (eqb any 0) ≡ some (at - from) (λ j. not (eqb (getD b (from + j) 0) 0))
@@ -40,6 +41,32 @@ filler-all b many at e q = ap₂ (λ (m k : ℕ). some (k - (8 + 10 * m)) (λ j.
 between : (a b c : Check) → orElse (orElse a b) c ≡ orElse a (orElse b c)
 between Sound b c = refl
 between (Refused r) b c = refl
+
+-- the ways out of the walk over the sets
+module _ (n place : ℕ) (b : List ℕ) (many : ℕ) where
+  abbrev Walk : Check
+  Walk = orElse (first (setCheck n place (setsIn b)) many) (refuse (owing (setsIn b)) (Nesting place))
+
+  pub sets-stop : (i : ℕ) (r : Refusal) → i < many → first (setCheck n place (setsIn b)) i ≡ Sound → setCheck n place (setsIn b) i ≡ Refused r → Walk ≡ Refused r
+  sets-stop i r l p q =
+      ap (λ (c : Check). orElse c (refuse (owing (setsIn b)) (Nesting place))) (first-stop (setCheck n place (setsIn b)) many i r l p q)
+
+  -- all sets are sound, and d levels are open behind the last
+  module _ {d i : ℕ} (m : many ≡ countField b) (e : i ≡ many) (k : d ≡ length (owed (setsIn b) i)) (p : first (setCheck n place (setsIn b)) i ≡ Sound) where
+    behind-last : length (owed (setsIn b) (countField b)) ≡ d
+    behind-last = ap (λ (j : ℕ). length (owed (setsIn b) j)) (sym (e ∙ m)) ∙ sym k
+
+    all-sound : Walk ≡ refuse (owing (setsIn b)) (Nesting place)
+    all-sound =
+        ap (λ (c : Check). orElse c (refuse (owing (setsIn b)) (Nesting place))) (subst (λ (j : ℕ). first (setCheck n place (setsIn b)) j ≡ Sound) e p)
+
+    pub sets-owing : (d ≡ 0 → ⊥) → Walk ≡ Refused (Nesting place)
+    unfolding owing
+    sets-owing f = all-sound ∙ rw (ne-eqb (length (owed (setsIn b) (countField b))) 0 (λ g. f (sym behind-last ∙ g))) refl
+
+    pub sets-whole : d ≡ 0 → Walk ≡ Sound
+    unfolding owing
+    sets-whole g = all-sound ∙ rw (eq-eqb (length (owed (setsIn b) (countField b))) 0 (behind-last ∙ g)) refl
 
 -- the ways out
 module _ (n site place : ℕ) (b : List ℕ) where

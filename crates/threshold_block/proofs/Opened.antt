@@ -2,6 +2,7 @@
 use Prim.Native.Nat.{ℕ, zero, suc, _+_, _-_, _≤_, _<_}
 use mathlib.Core.List.{List, [], _∷_}
 use mathlib.Core.Path.{_≡_, refl, sym, ap, ap₂, _∙_, subst}
+use native.Mathlib.Numerals.{add-one}
 use native.Mathlib.Omega.{arith}
 use lib.ListN.{length, getD, set, length-set}
 use lib.Seq.{getD-set-same, getD-set-other}
@@ -50,7 +51,7 @@ open-enter a e k {d = d} {x = x} q h z =
     ∙ ap₂ _∷_ (getD-set-same a e x 0 (omega arith) ∙ z) (opened-set a e e x (omega arith))))
     ∙ ap (entered k) (sym (opened-top a e q))
 
-pub length-opened : (a : List ℕ) (d : ℕ) → length (opened a d) ≡ d
+length-opened : (a : List ℕ) (d : ℕ) → length (opened a d) ≡ d
 unfolding opened
 length-opened a zero = refl
 length-opened a (suc d) = ap suc (length-opened a d)
@@ -72,3 +73,15 @@ owed-some S (suc i) e = entered-some (S .inner i) (owed S i) e
 
 pub innermost-owes : (S : ThresholdSets) (i : ℕ) (a : List ℕ) (d : ℕ) → opened a d ≡ owed S i → 1 ≤ d → 1 ≤ getD a (d - 1) 0
 innermost-owes S i a d e h = owed-some S i (sym e ∙ opened-top a (d - 1) (omega arith))
+
+-- the levels that are kept before set i: as many as are owed
+pub kept-depth : (S : ThresholdSets) (i : ℕ) (a : List ℕ) (d : ℕ) → opened a d ≡ owed S i → d ≡ length (owed S i)
+kept-depth S i a d e = sym (length-opened a d) ∙ ap length e
+
+pub kept-first : (S : ThresholdSets) (a : List ℕ) → getD a 0 0 ≡ 1 → opened a 1 ≡ owed S 0
+unfolding opened owed
+kept-first S a e = rw e refl
+
+pub kept-next : (S : ThresholdSets) (i : ℕ) (a c : List ℕ) (d r : ℕ) → opened c r ≡ entered (S .inner i) (opened a d) → opened a d ≡ owed S i → opened c r ≡ owed S (i + 1)
+unfolding owed
+kept-next S i a c d r e k = e ∙ ap (entered (S .inner i)) k ∙ ap (owed S) (sym (add-one i))

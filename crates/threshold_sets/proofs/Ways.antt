@@ -38,5 +38,10 @@ module _ (n place : ℕ) (S : ThresholdSets) (i : ℕ) where
       pub well-placed : (length (owed S i) ≡ 0 → ⊥) → length (owed S i) ≤ 4 → setCheck n place S i ≡ Sound
       unfolding setCheck alien unreachable misplaced
       well-placed f l =
-          rw (w, ne-eqb (S .threshold i) 0 z, le-ltb (size (S .plain i) + S .inner i) (S .threshold i) r, ne-eqb (length (owed S i)) 0 f,
-            le-ltb 4 (length (owed S i)) l) refl
+          rw (
+            w,
+            ne-eqb (S .threshold i) 0 z,
+            le-ltb (size (S .plain i) + S .inner i) (S .threshold i) r,
+            ne-eqb (length (owed S i)) 0 f,
+            le-ltb 4 (length (owed S i)) l,
+          ) refl
