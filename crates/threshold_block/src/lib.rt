@@ -6,7 +6,7 @@ ghost use Rattle.refusals.specs.First.{orElse, refuse, first};
 ghost use Rattle.site_block.specs.Block.{countField};
 ghost use Rattle.threshold_block.specs.Block.{setsIn, setsUnfilled, thresholdBlockCheck};
 ghost use Rattle.threshold_block.specs.Inner.{opened};
-ghost use Rattle.threshold_sets.specs.Check.{closed, entered, owed, owing, setCheck};
+ghost use Rattle.threshold_sets.specs.Check.{closed, entered, owed, owing, setCheck, setsCheck};
 use refusals::Check;
 use refusals::Refusal;
 
@@ -31,7 +31,7 @@ fn enter(levels: &mut [u8; 5], depth: usize, k: u8) -> usize
     requires { ⌜ 1 ≤ depth ⌝ }
     requires { ⌜ depth ≤ 4 ⌝ }
     requires { ⌜ 1 ≤ getD (now levels) (depth - 1) 0 ⌝ }
-    ensures { λ r. ⌜ (opened (now (levels .exit)) r ≡ entered k (opened (now (levels .entry)) depth)) × (r ≤ depth + 1) ⌝ }
+    ensures { λ r. ⌜ (opened (now (levels .exit)) r ≡ entered k (opened (now (levels .entry)) depth)) × (r ≤ depth + 1) × (length (now (levels .exit)) ≡ 5) ⌝ }
 {
     let at = depth - 1;
     levels[at] = levels[at] - 1;
@@ -55,7 +55,7 @@ fn check_set(b: &[u8], n: u64, place: u64, i: usize, depth: usize) -> Check
     if threshold == 0 {
         return Check::Refused(Refusal::Threshold(place));
     }
-    if masks::size(plain) as u64 + le::wide(b[9 + 10 * i]) < threshold {
+    if masks::size(plain) as usize + le::wide(b[9 + 10 * i]) < threshold {
         return Check::Refused(Refusal::Threshold(place));
     }
     if depth == 0 {
@@ -109,7 +109,30 @@ fn is_unfilled(b: &[u8], many: usize) -> bool
     any != 0
 }
 
-// The block of a site in a table of n sites: 2, 3, 4, its sets, 8, carrying the place.
+// The sets that the block holds, and its filler: 4, its sets, 8, carrying the place.
+fn check_held(b: &[u8], n: u64, place: u64) -> Check
+    requires { ⌜ length (now b) ≡ 512 ⌝ }
+    requires { ⌜ n ≤ 64 ⌝ }
+    ensures { λ r. ⌜ r ≡ setsCheck n place (setsIn (now (b .entry))) (setsUnfilled (now (b .entry))) ⌝ }
+{
+    let many = le::get16(b, 4) as usize;
+    if many == 0 {
+        return Check::Refused(Refusal::Count(place));
+    }
+    if 49 < many {
+        return Check::Refused(Refusal::Count(place));
+    }
+    let q = check_sets(b, n, place, many);
+    let Check::Sound = q else {
+        return q;
+    };
+    if is_unfilled(b, many) {
+        return Check::Refused(Refusal::Filler(place));
+    }
+    Check::Sound
+}
+
+// The block of a site in a table of n sites: 2, 3, then the sets that it holds, carrying the place.
 pub fn check_block(b: &[u8], n: u64, site: u64, place: u64) -> Check
     requires { ⌜ length (now b) ≡ 512 ⌝ }
     requires { ⌜ n ≤ 64 ⌝ }
@@ -127,19 +150,5 @@ pub fn check_block(b: &[u8], n: u64, site: u64, place: u64) -> Check
     if le::get16(b, 6) != 0 {
         return Check::Refused(Refusal::Header(place));
     }
-    let many = le::get16(b, 4) as usize;
-    if many == 0 {
-        return Check::Refused(Refusal::Count(place));
-    }
-    if 49 < many {
-        return Check::Refused(Refusal::Count(place));
-    }
-    let q = check_sets(b, n, place, many);
-    let Check::Sound = q else {
-        return q;
-    };
-    if is_unfilled(b, many) {
-        return Check::Refused(Refusal::Filler(place));
-    }
-    Check::Sound
+    check_held(b, n, place)
 }

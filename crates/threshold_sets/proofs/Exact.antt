@@ -17,16 +17,17 @@ use Rattle.refusals.specs.declared.Check.the-variants.{Sound}
 use Rattle.refusals.specs.declared.Refusal.the-variants.{Count, Slice, Filler, Threshold, Nesting}
 use Rattle.threshold_sets.specs.Check.{owed, alien, unreachable, misplaced, setCheck, owing, setsCheck, SoundSets}
 use Rattle.threshold_sets.specs.Met.{ThresholdSets}
+use Rattle.threshold_sets.proofs.Ways.{well-placed}
 
 -- what is sound of one set
-record SoundSet (n : ℕ) (S : ThresholdSets) (i : ℕ) : Type 0 where
-  own-below : within (S .plain i) (allBelow n) ≡ true
-  own-not-zero : 1 ≤ S .threshold i
-  own-reachable : S .threshold i ≤ size (S .plain i) + S .inner i
-  own-in-root : 1 ≤ length (owed S i)
-  own-level : length (owed S i) ≤ 4
+pub record SoundSet (n : ℕ) (S : ThresholdSets) (i : ℕ) : Type 0 where
+  pub own-below : within (S .plain i) (allBelow n) ≡ true
+  pub own-not-zero : 1 ≤ S .threshold i
+  pub own-reachable : S .threshold i ≤ size (S .plain i) + S .inner i
+  pub own-in-root : 1 ≤ length (owed S i)
+  pub own-level : length (owed S i) ≤ 4
 
-set-sound : (n place : ℕ) (S : ThresholdSets) (i : ℕ) → setCheck n place S i ≡ Sound → SoundSet n S i
+pub set-sound : (n place : ℕ) (S : ThresholdSets) (i : ℕ) → setCheck n place S i ≡ Sound → SoundSet n S i
 unfolding setCheck alien unreachable misplaced
 set-sound n place S i h =
     let a = passed (within (S .plain i) (allBelow n)) (Slice place) (orElse (refuse (unreachable S i) (Threshold place)) (refuse (misplaced S i) (Nesting place))) h in
@@ -44,15 +45,8 @@ set-sound n place S i h =
     }
 
 sound-set : (n place : ℕ) (S : ThresholdSets) (i : ℕ) → SoundSet n S i → setCheck n place S i ≡ Sound
-unfolding setCheck alien unreachable misplaced
 sound-set n place S i s =
-    rw (
-      s .own-below,
-      ne-eqb (S .threshold i) 0 (λ e. omega (arith, s .own-not-zero)),
-      le-ltb (size (S .plain i) + S .inner i) (S .threshold i) (s .own-reachable),
-      ne-eqb (length (owed S i)) 0 (λ e. omega (arith, s .own-in-root)),
-      le-ltb 4 (length (owed S i)) (s .own-level),
-    ) refl
+    well-placed n place S i (s .own-below) (λ e. omega (arith, s .own-not-zero)) (s .own-reachable) (λ e. omega (arith, s .own-in-root)) (s .own-level)
 
 none-owed : (l : List ℕ) → length l ≡ 0 → l ≡ []
 none-owed [] e = refl

@@ -2,4 +2,5 @@ pub mod Grows
 pub mod Whole
 pub mod Alike
 pub mod Present
+pub mod Ways
 pub mod Exact
