@@ -1,11 +1,12 @@
 // A site's sets as a row of 63 numbers: whether the root is met, and the row that a block gives.
+ghost use mathlib.Core.List.{_++_};
 ghost use mathlib.Core.Path.{_≡_};
 ghost use Prim.Native.Nat.{_<_, _≤_};
 ghost use lib.Bits.{bitAnd};
-ghost use lib.ListN.{length, getD};
+ghost use lib.ListN.{length, getD, drop};
 ghost use Rattle.masks.specs.Mask.{size};
 ghost use Rattle.threshold_sets.specs.Met.{members, setAt, met};
-ghost use Rattle.threshold_row.specs.Inner.Row.{pairIn, setsOf, rowOf};
+ghost use Rattle.threshold_row.specs.Inner.Row.{pairIn, setsOf, fourAt, masksOf, rowOf};
 ghost use Rattle.threshold_row.specs.Inner.Seen.{Says};
 
 // How many sets are met, and the place behind them.
@@ -88,11 +89,24 @@ pub fn is_met(m: &[u64], u: u64) -> bool
     root.met == 1
 }
 
-// The row of the sets that a block holds.
-pub fn load_row(b: &[u8], m: &mut [u64])
+// Threshold and number of inner sets of the sets 4 k to 4 k + 3 of a block, in one number.
+fn four(b: &[u8], k: usize) -> u64
+    requires { ⌜ length (now b) ≡ 512 ⌝ }
+    requires { ⌜ k < 12 ⌝ }
+    ensures { λ r. ⌜ r ≡ fourAt (now (b .entry)) k ⌝ }
+{
+    let at = 8 + 40 * k;
+    le::get16(b, at) as u64
+        + (65536 * (le::get16(b, at + 10) as u64)
+            + (4294967296 * (le::get16(b, at + 20) as u64)
+                + 281474976710656 * (le::get16(b, at + 30) as u64)))
+}
+
+// The count and the 49 masks of a block's row.
+fn load_masks(b: &[u8], m: &mut [u64])
     requires { ⌜ length (now b) ≡ 512 ⌝ }
     requires { ⌜ length (now m) ≡ 63 ⌝ }
-    ensures { λ r. ⌜ now (m .exit) ≡ rowOf (now (b .entry)) ⌝ }
+    ensures { λ r. ⌜ now (m .exit) ≡ masksOf (now (b .entry)) 49 ++ drop 50 (now (m .entry)) ⌝ }
 {
     m[0] = 64 + le::get16(b, 4) as u64;
     let mut i: usize = 0;
@@ -100,13 +114,18 @@ pub fn load_row(b: &[u8], m: &mut [u64])
         m[1 + i] = le::get64(b, 10 + 10 * i);
         i += 1;
     }
+}
+
+// The row of the sets that a block holds.
+pub fn load_row(b: &[u8], m: &mut [u64])
+    requires { ⌜ length (now b) ≡ 512 ⌝ }
+    requires { ⌜ length (now m) ≡ 63 ⌝ }
+    ensures { λ r. ⌜ now (m .exit) ≡ rowOf (now (b .entry)) ⌝ }
+{
+    load_masks(b, m);
     let mut k: usize = 0;
     while k < 12 {
-        let at = 8 + 40 * k;
-        m[50 + k] = le::get16(b, at) as u64
-            + (65536 * (le::get16(b, at + 10) as u64)
-                + (4294967296 * (le::get16(b, at + 20) as u64)
-                    + 281474976710656 * (le::get16(b, at + 30) as u64)));
+        m[50 + k] = four(b, k);
         k += 1;
     }
     m[62] = le::get16(b, 488) as u64;
