@@ -1,13 +1,15 @@
 -- What a form shows is enough: its tests are lawful. And promises of each receiver's own view are the promises of the family.
 use Prim.Native.Nat.{ℕ}
-use mathlib.Core.Path.{refl, sym, _∙_}
-use lib.Bits.{bitAnd}
+use mathlib.Core.Bool.{Bool, _&&_, not}
+use mathlib.Core.Path.{_≡_, refl, sym, ap, _∙_, fun-ext}
+use lib.Bits.{bitAnd, bitOr}
 use borrow.Author.Tests.{not-false}
 use Rattle.ground.proofs.Logic.{clash, not-t}
 use Rattle.masks.proofs.Laws.Apart.{⊆-minus, ⊆-minus-apart}
 use Rattle.masks.proofs.Laws.Subsets.{⊆-refl, and-⊆-l, and-⊆-r, minus-⊆}
-use Rattle.masks.specs.Mask.{minus, others, allBelow}
-use Rattle.sets.specs.Forms.{FormLawful, ViewsPromise}
+use Rattle.masks.specs.Mask.{has, minus, others, allBelow}
+use Rattle.sets.specs.Forms.{Form, FormLawful, ViewsPromise}
+use Rattle.sets.specs.Slices.{Slices}
 
 pub form-lawful : FormLawful
 form-lawful r n F =
@@ -45,3 +47,20 @@ views S Q P =
       unblocked-rest = λ v. P v .unblocked-rest v;
       slice-decides = λ v. P v .slice-decides v;
     }
+
+-- tests that give the same answers are the same
+pub same-tests : (r s : Slices) → ((v u : ℕ) → r .inside v u ≡ s .inside v u) → ((b v u : ℕ) → r .deleted b v u ≡ s .deleted b v u) →
+    ((v w : ℕ) → r .blocked v w ≡ s .blocked v w) → r ≡ s
+same-tests r s p q k =
+    rw (
+      fun-ext (λ v. fun-ext (p v)) : r .inside ≡ s .inside,
+      fun-ext (λ b. fun-ext (λ v. fun-ext (q b v))) : r .deleted ≡ s .deleted,
+      fun-ext (λ v. fun-ext (k v)) : r .blocked ≡ s .blocked,
+    ) refl
+
+-- and two forms are, once who has a slice inside is the same
+pub form-same : {r s : Slices} {n : ℕ} → Form r n → Form s n → ((v u : ℕ) → r .inside v u ≡ s .inside v u) → r ≡ s
+form-same {r} {s} {n} F G e =
+    same-tests r s e
+    (λ b v u. F .deleted-or b v u ∙ ap (λ (x : Bool). not (has b v) && x) (e v (bitOr u b)) ∙ sym (G .deleted-or b v u))
+    (λ v w. F .blocked-rest v w ∙ ap not (e v (minus (allBelow n) (others w v))) ∙ sym (G .blocked-rest v w))

@@ -3,7 +3,7 @@ use Prim.Native.Nat.{ℕ, _≤_}
 use mathlib.Core.Bool.{true, false}
 use mathlib.Core.List.{List}
 use mathlib.Core.Logic.{_↔_}
-use mathlib.Core.Path.{_≡_, refl, ap, fun-ext}
+use mathlib.Core.Path.{_≡_, refl, ap}
 use lib.ListN.{length}
 use borrow.Author.Tests.{not-false, ltb-true, le-ltb}
 use Rattle.ground.proofs.Logic.{clash, is-false}
@@ -13,34 +13,41 @@ use Rattle.refusals.proofs.First.{orElse-sound, kept}
 use Rattle.refusals.specs.declared.Check.the-variants.{Sound, Refused}
 use Rattle.refusals.specs.declared.Refusal.the-variants.{Set}
 use Rattle.sets.specs.Decides.{TableIsFbqs, TableDecides, TablePromises}
-use Rattle.sets.specs.Groups.{Groups, lists, sitesOf, fbqsIn, slicesIn, groupsCheck, SoundTable, Checked, outsider, setCheck, questions}
+use Rattle.sets.specs.Groups.{Groups, lists, thresholds, sitesOf, fbqsIn, slicesIn, groupsCheck, SoundTable, Checked, outsider, setCheck, questions}
 use Rattle.sets.specs.Promises.{questionsOf}
-use Rattle.sets.specs.Slices.{Slices, slicesOf}
+use Rattle.sets.specs.Slices.{slicesOf}
 use Rattle.sets.specs.Forms.{LawfulSlices}
 use Rattle.sets.specs.Inner.AsRows.{AsRows}
 use Rattle.sets.specs.Inner.Rows.{ofSets, Rows, rulesOf, rowQuestions}
 use Rattle.sets.proofs.Decides.{decides}
+use Rattle.sets.proofs.Forms.{same-tests}
 use Rattle.sets.proofs.Lawful.{table-lawful}
 use Rattle.sets.proofs.Promises.{promises}
 use Rattle.sets.proofs.Rows.{lists-inside, lists-deleted, lists-blocked}
 use Rattle.sets.proofs.Slices.{row-site}
+use Rattle.sets.proofs.Thresholds.{thresholds-lawful}
 use Rattle.table.proofs.Exact.{checked, exact}
 use Rattle.table.specs.Table.{sites, countOf, Table}
+use Rattle.threshold_image.proofs.Exact.{thresholds-checked, thresholds-exact}
 
 pub lawful : (t : Groups) → Checked t → LawfulSlices (fbqsIn t) (slicesIn t) (sitesOf t)
 lawful (lists t) c = table-lawful (checked t c)
+lawful (thresholds image) c = thresholds-lawful (thresholds-checked image c)
 
 -- the check takes exactly the sound tables
 pub table-exact : (t : Groups) → Checked t ↔ SoundTable t
 table-exact (lists t) = exact t
+table-exact (thresholds image) = thresholds-exact image
 
 -- its sites are those below n, checked or not
 pub sites-in : (t : Groups) → fbqsIn t .sites ≡ allBelow (sitesOf t)
 sites-in (lists t) = refl
+sites-in (thresholds image) = refl
 
 -- and a checked table has no more than 64
 pub few-in : (t : Groups) → Checked t → sitesOf t ≤ 64
 few-in (lists t) c = checked t c .few-sites
+few-in (thresholds image) c = thresholds-checked image c .few-sites
 
 pub table-is-fbqs : TableIsFbqs
 table-is-fbqs t c = lawful t c .well-formed
@@ -52,15 +59,6 @@ pub table-promises : TablePromises
 table-promises t c = promises (lawful t c)
 
 -- rows of lists
-
-same-tests : (r s : Slices) → ((v u : ℕ) → r .inside v u ≡ s .inside v u) → ((b v u : ℕ) → r .deleted b v u ≡ s .deleted b v u) →
-    ((v w : ℕ) → r .blocked v w ≡ s .blocked v w) → r ≡ s
-same-tests r s p q k =
-    rw (
-      fun-ext (λ v. fun-ext (p v)) : r .inside ≡ s .inside,
-      fun-ext (λ b. fun-ext (λ v. fun-ext (q b v))) : r .deleted ≡ s .deleted,
-      fun-ext (λ v. fun-ext (k v)) : r .blocked ≡ s .blocked,
-    ) refl
 
 pub table-rows : {t : List ℕ} {n : ℕ} → Table t n → Rows t n
 table-rows {t} s =

@@ -5,6 +5,8 @@ pub mod Decides
 pub mod Promises
 pub mod Forms
 pub mod Rows
+pub mod Thresholds
+pub mod ThresholdRows
 pub mod Groups
 pub mod Without
 pub mod WholeQuorum

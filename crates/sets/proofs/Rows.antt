@@ -153,7 +153,7 @@ module _ {t : List ℕ} {n : ℕ} (rows : Rows t n) where
       (λ s. lists-blocked s w ∙ blocked-by-rest s w ∙ ap not (sym (lists-inside s (minus (allBelow n) (others w v)))))
       (cases (ofSets t v))
 
-  rows-form : Form (rulesOf t) n
+  pub rows-form : Form (rulesOf t) n
   rows-form =
       record {
         grows = row-grows;
