@@ -1,7 +1,7 @@
 -- What a form shows is enough: its tests are lawful. And promises of each receiver's own view are the promises of the family.
 use Prim.Native.Nat.{ℕ}
 use mathlib.Core.Bool.{Bool, _&&_, not}
-use mathlib.Core.Path.{_≡_, refl, sym, ap, _∙_, fun-ext}
+use mathlib.Core.Path.{_≡_, refl, sym, ap, ap₂, _∙_, fun-ext}
 use lib.Bits.{bitAnd, bitOr}
 use borrow.Author.Tests.{not-false}
 use Rattle.ground.proofs.Logic.{clash, not-t}
@@ -52,11 +52,13 @@ views S Q P =
 pub same-tests : (r s : Slices) → ((v u : ℕ) → r .inside v u ≡ s .inside v u) → ((b v u : ℕ) → r .deleted b v u ≡ s .deleted b v u) →
     ((v w : ℕ) → r .blocked v w ≡ s .blocked v w) → r ≡ s
 same-tests r s p q k =
-    rw (
-      fun-ext (λ v. fun-ext (p v)) : r .inside ≡ s .inside,
-      fun-ext (λ b. fun-ext (λ v. fun-ext (q b v))) : r .deleted ≡ s .deleted,
-      fun-ext (λ v. fun-ext (k v)) : r .blocked ≡ s .blocked,
-    ) refl
+    let a : r .inside ≡ s .inside = fun-ext (λ v. fun-ext (p v)) in
+    let b : r .deleted ≡ s .deleted = fun-ext (λ b. fun-ext (λ v. fun-ext (q b v))) in
+    let c : r .blocked ≡ s .blocked = fun-ext (λ v. fun-ext (k v)) in
+    ap₂ (λ (i : ℕ → ℕ → Bool) (d : ℕ → ℕ → ℕ → Bool). tests i d (r .blocked)) a b ∙ ap (tests (s .inside) (s .deleted)) c
+  where
+    tests : (ℕ → ℕ → Bool) → (ℕ → ℕ → ℕ → Bool) → (ℕ → ℕ → Bool) → Slices
+    tests i d b = record { inside = i; deleted = d; blocked = b }
 
 -- and two forms are, once who has a slice inside is the same
 pub form-same : {r s : Slices} {n : ℕ} → Form r n → Form s n → ((v u : ℕ) → r .inside v u ≡ s .inside v u) → r ≡ s

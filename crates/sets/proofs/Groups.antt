@@ -88,7 +88,7 @@ module _ (t : List ℕ) (c : Checked (lists t)) where
 
   pub same-rules : rulesOf t ≡ slicesIn (lists t)
   same-rules =
-      same-tests (rulesOf t) (slicesOf t) (λ v. lists-inside (all-listed v)) (λ b v. lists-deleted (all-listed v) b) (λ v. lists-blocked (all-listed v))
+      same-tests (rulesOf t) (slicesOf t) (λ v. lists-inside t v (all-listed v)) (λ b v. lists-deleted t v (all-listed v) b) (λ v. lists-blocked t v (all-listed v))
 
   pub as-rows : AsRows (lists t) t
   as-rows = record { checked = c; right = checked-rows; same-rules = same-rules }

@@ -33,7 +33,7 @@ use Rattle.threshold_sets.specs.Check.{SoundSets}
 
 -- what is asked of a row, by its form
 
-module _ {t : List ℕ} {v : ℕ} where
+module _ (t : List ℕ) (v : ℕ) where
   pub sets-inside : ofSets t v ≡ true → (u : ℕ) → rulesOf t .inside v u ≡ rowHolds t v u
   unfolding rulesOf
   sets-inside s u = rw s refl
@@ -61,14 +61,14 @@ module _ {t : List ℕ} {n v : ℕ} (listed : ListedRow t n v) where
   listed-so = le-ltb 62 (countOf t v) (listed .few-slices)
 
   pub listed-blocked : (w : ℕ) → rulesOf t .blocked v w ≡ slicesOf t .blocked v w
-  listed-blocked = lists-blocked listed-so
+  listed-blocked = lists-blocked t v listed-so
 
   -- a slice is found inside, or none is
   pub row-found : (u i : ℕ) → i < countOf t v → within (sliceOf t v i) u ≡ true → rulesOf t .inside v u ≡ true
-  row-found u i l h = lists-inside listed-so u ∙ inside-found t v u i l h
+  row-found u i l h = lists-inside t v listed-so u ∙ inside-found t v u i l h
 
   pub row-missed : (u : ℕ) → ((i : ℕ) → i < countOf t v → within (sliceOf t v i) u ≡ false) → rulesOf t .inside v u ≡ false
-  row-missed u f = lists-inside listed-so u ∙ inside-missed t v u f
+  row-missed u f = lists-inside t v listed-so u ∙ inside-missed t v u f
 
 -- rows of both forms
 
@@ -78,21 +78,21 @@ module _ {t : List ℕ} {n : ℕ} (rows : Rows t n) where
   rows-sites = let e = rows .long in omega arith
 
   -- who has a row of sets is a site, and its sets are sound
-  pub sets-site : {v : ℕ} → ofSets t v ≡ true → v < n
-  sets-site {v} s = row-site rows v (ltb-true 62 (countOf t v) s)
+  pub sets-site : (v : ℕ) → ofSets t v ≡ true → v < n
+  sets-site v s = row-site rows v (ltb-true 62 (countOf t v) s)
 
-  sets-of : {v : ℕ} → ofSets t v ≡ true → SoundSets n (setsOf (siteOf t v))
-  sets-of {v} s = rows .sets v (sets-site s) s
+  sets-of : (v : ℕ) → ofSets t v ≡ true → SoundSets n (setsOf (siteOf t v))
+  sets-of v s = rows .sets v (sets-site v s) s
 
   -- lists
 
-  inside-and : {v : ℕ} → ofSets t v ≡ false → (u : ℕ) → slicesOf t .inside v u ≡ true → slicesOf t .inside v (bitAnd u (allBelow n)) ≡ true
-  inside-and {v} s u e =
+  inside-and : (v : ℕ) → ofSets t v ≡ false → (u : ℕ) → slicesOf t .inside v u ≡ true → slicesOf t .inside v (bitAnd u (allBelow n)) ≡ true
+  inside-and v s u e =
       let x = inside-ex t v u e in
       inside-of t v (x .0) (x .1) (record { each = λ z h. ∈-and (x .2 .each z h) (row rows v s (x .1) .below (x .0) (x .1) .each z h) })
 
-  blocked-by-rest : {v : ℕ} → ofSets t v ≡ false → (w : ℕ) → slicesOf t .blocked v w ≡ not (slicesOf t .inside v (minus (allBelow n) (others w v)))
-  blocked-by-rest {v} s w =
+  blocked-by-rest : (v : ℕ) → ofSets t v ≡ false → (w : ℕ) → slicesOf t .blocked v w ≡ not (slicesOf t .inside v (minus (allBelow n) (others w v)))
+  blocked-by-rest v s w =
       ⊎-elim
       (λ e. e ∙ sym (ap not (is-false (slicesOf t .inside v rest)
       (λ i. let x = inside-ex t v rest i in blocked-meets t v w (x .0) e (x .1) (⊆-minus-apart (allBelow n) (others w v) (x .2))))))
@@ -102,44 +102,44 @@ module _ {t : List ℕ} {n : ℕ} (rows : Rows t n) where
       rest : ℕ
       rest = minus (allBelow n) (others w v)
 
-  list-grows : {v : ℕ} → ofSets t v ≡ false → (a b : ℕ) → a ⊆ b → rulesOf t .inside v a ≡ true → rulesOf t .inside v b ≡ true
-  list-grows {v} s a b sub e =
-      let x = inside-ex t v a (sym (lists-inside s a) ∙ e) in lists-inside s b ∙ inside-of t v (x .0) (x .1) (⊆-trans (x .2) sub)
+  list-grows : (v : ℕ) → ofSets t v ≡ false → (a b : ℕ) → a ⊆ b → rulesOf t .inside v a ≡ true → rulesOf t .inside v b ≡ true
+  list-grows v s a b sub e =
+      let x = inside-ex t v a (sym (lists-inside t v s a) ∙ e) in lists-inside t v s b ∙ inside-of t v (x .0) (x .1) (⊆-trans (x .2) sub)
 
-  list-own : {v : ℕ} → ofSets t v ≡ false → (u : ℕ) → rulesOf t .inside v u ≡ true → v ∈ u
-  list-own {v} s u e = let x = inside-ex t v u (sym (lists-inside s u) ∙ e) in x .2 .each v (row rows v s (x .1) .owner (x .0) (x .1))
+  list-own : (v : ℕ) → ofSets t v ≡ false → (u : ℕ) → rulesOf t .inside v u ≡ true → v ∈ u
+  list-own v s u e = let x = inside-ex t v u (sym (lists-inside t v s u) ∙ e) in x .2 .each v (row rows v s (x .1) .owner (x .0) (x .1))
 
-  list-all : {v : ℕ} → ofSets t v ≡ false → v < n → rulesOf t .inside v (allBelow n) ≡ true
-  list-all {v} s h =
-      let l = rows .listed v h s in lists-inside s (allBelow n) ∙ inside-of t v 0 (l .some-slice) (l .below 0 (l .some-slice))
+  list-all : (v : ℕ) → ofSets t v ≡ false → v < n → rulesOf t .inside v (allBelow n) ≡ true
+  list-all v s h =
+      let l = rows .listed v h s in lists-inside t v s (allBelow n) ∙ inside-of t v 0 (l .some-slice) (l .below 0 (l .some-slice))
 
   -- sets
 
-  sets-grows : {v : ℕ} → ofSets t v ≡ true → (a b : ℕ) → a ⊆ b → rulesOf t .inside v a ≡ true → rulesOf t .inside v b ≡ true
-  sets-grows {v} s a b sub e =
-      let h = sym (sets-inside s a) ∙ e in
-      sets-inside s b ∙ and-i (sub .each v (mem (and-l _ _ h)) .holds) (met-grows (setsOf (siteOf t v)) sub (and-r _ _ h))
+  sets-grows : (v : ℕ) → ofSets t v ≡ true → (a b : ℕ) → a ⊆ b → rulesOf t .inside v a ≡ true → rulesOf t .inside v b ≡ true
+  sets-grows v s a b sub e =
+      let h = sym (sets-inside t v s a) ∙ e in
+      sets-inside t v s b ∙ and-i (sub .each v (mem (and-l _ _ h)) .holds) (met-grows (setsOf (siteOf t v)) sub (and-r _ _ h))
 
-  sets-own : {v : ℕ} → ofSets t v ≡ true → (u : ℕ) → rulesOf t .inside v u ≡ true → v ∈ u
-  sets-own s u e = mem (and-l _ _ (sym (sets-inside s u) ∙ e))
+  sets-own : (v : ℕ) → ofSets t v ≡ true → (u : ℕ) → rulesOf t .inside v u ≡ true → v ∈ u
+  sets-own v s u e = mem (and-l _ _ (sym (sets-inside t v s u) ∙ e))
 
-  sets-and : {v : ℕ} → ofSets t v ≡ true → (u : ℕ) → rulesOf t .inside v u ≡ true → rulesOf t .inside v (bitAnd u (allBelow n)) ≡ true
-  sets-and {v} s u e =
-      let h = sym (sets-inside s u) ∙ e in
-      sets-inside s (bitAnd u (allBelow n))
-      ∙ and-i (∈-and (mem (and-l _ _ h)) (in-all (sets-site s)) .holds) (met-of-sites (setsOf (siteOf t v)) (sets-of s .some-set) n (sets-of s .below) u ∙ and-r _ _ h)
+  sets-and : (v : ℕ) → ofSets t v ≡ true → (u : ℕ) → rulesOf t .inside v u ≡ true → rulesOf t .inside v (bitAnd u (allBelow n)) ≡ true
+  sets-and v s u e =
+      let h = sym (sets-inside t v s u) ∙ e in
+      sets-inside t v s (bitAnd u (allBelow n))
+      ∙ and-i (∈-and (mem (and-l _ _ h)) (in-all (sets-site v s)) .holds) (met-of-sites (setsOf (siteOf t v)) (sets-of v s .some-set) n (sets-of v s .below) u ∙ and-r _ _ h)
 
-  sets-all : {v : ℕ} → ofSets t v ≡ true → rulesOf t .inside v (allBelow n) ≡ true
-  sets-all {v} s =
-      sets-inside s (allBelow n) ∙ and-i (in-all (sets-site s) .holds) (all-meet (sets-of s) (allBelow n) (sets-of s .below))
+  sets-all : (v : ℕ) → ofSets t v ≡ true → rulesOf t .inside v (allBelow n) ≡ true
+  sets-all v s =
+      sets-inside t v s (allBelow n) ∙ and-i (in-all (sets-site v s) .holds) (all-meet (sets-of v s) (allBelow n) (sets-of v s .below))
 
   -- whichever
 
   pub row-grows : (v a b : ℕ) → a ⊆ b → rulesOf t .inside v a ≡ true → rulesOf t .inside v b ≡ true
-  row-grows v a b sub e = ⊎-elim (λ s. sets-grows s a b sub e) (λ s. list-grows s a b sub e) (cases (ofSets t v))
+  row-grows v a b sub e = ⊎-elim (λ s. sets-grows v s a b sub e) (λ s. list-grows v s a b sub e) (cases (ofSets t v))
 
   pub row-all : (v : ℕ) → v < n → rulesOf t .inside v (allBelow n) ≡ true
-  row-all v h = ⊎-elim sets-all (λ s. list-all s h) (cases (ofSets t v))
+  row-all v h = ⊎-elim (sets-all v) (λ s. list-all v s h) (cases (ofSets t v))
 
   row-deleted : (b v u : ℕ) → rulesOf t .deleted b v u ≡ not (has b v) && rulesOf t .inside v (bitOr u b)
   unfolding rulesOf
@@ -148,19 +148,19 @@ module _ {t : List ℕ} {n : ℕ} (rows : Rows t n) where
   row-blocked : (v w : ℕ) → rulesOf t .blocked v w ≡ not (rulesOf t .inside v (minus (allBelow n) (others w v)))
   row-blocked v w =
       ⊎-elim
-      (λ s. sets-blocked s w ∙ ap (λ (k : ℕ). not (rowHolds t v (minus (allBelow k) (others w v)))) rows-sites
-      ∙ ap not (sym (sets-inside s (minus (allBelow n) (others w v)))))
-      (λ s. lists-blocked s w ∙ blocked-by-rest s w ∙ ap not (sym (lists-inside s (minus (allBelow n) (others w v)))))
+      (λ s. sets-blocked t v s w ∙ ap (λ (k : ℕ). not (rowHolds t v (minus (allBelow k) (others w v)))) rows-sites
+      ∙ ap not (sym (sets-inside t v s (minus (allBelow n) (others w v)))))
+      (λ s. lists-blocked t v s w ∙ blocked-by-rest v s w ∙ ap not (sym (lists-inside t v s (minus (allBelow n) (others w v)))))
       (cases (ofSets t v))
 
   pub rows-form : Form (rulesOf t) n
   rows-form =
       record {
         grows = row-grows;
-        own = λ v u e. ⊎-elim (λ s. sets-own s u e) (λ s. list-own s u e) (cases (ofSets t v));
+        own = λ v u e. ⊎-elim (λ s. sets-own v s u e) (λ s. list-own v s u e) (cases (ofSets t v));
         of-sites = λ v u e.
-            ⊎-elim (λ s. sets-and s u e)
-            (λ s. lists-inside s (bitAnd u (allBelow n)) ∙ inside-and s u (sym (lists-inside s u) ∙ e)) (cases (ofSets t v));
+            ⊎-elim (λ s. sets-and v s u e)
+            (λ s. lists-inside t v s (bitAnd u (allBelow n)) ∙ inside-and v s u (sym (lists-inside t v s u) ∙ e)) (cases (ofSets t v));
         all-sites = λ v h. row-all v (∈-below (ones-lt n) h);
         deleted-or = row-deleted;
         blocked-rest = row-blocked;

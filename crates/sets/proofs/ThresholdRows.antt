@@ -72,11 +72,11 @@ module _ {image : List ℕ} {n : ℕ} (bytes : Bytes image) (H : Thresholds imag
   same-inside v u =
       ⊎-elim
       (λ e. let l = ltb-true v n e in
-      sets-inside (of-sets v l) u
+      sets-inside (rowsOf n image) v (of-sets v l) u
       ∙ ap (λ (x : Bool). has u v && x) (ap (λ (m : List ℕ). met (setsOf m) u) (site-row v l) ∙ loaded-met (here v) (bytes-block v) (H .sets v l) u)
       ∙ sym (ap (λ (x : Bool). x && (has u v && met (setsIn (here v)) u)) e))
       (λ e. let z = no-slice threshold-rows v (ltb-false v n e) in
-      lists-inside (ap (ltb 62) z) u
+      lists-inside (rowsOf n image) v (ap (ltb 62) z) u
       ∙ inside-missed (rowsOf n image) v u (λ i k. absurd (not-suc-le-zero (subst (λ (x : ℕ). i < x) z k)))
       ∙ sym (ap (λ (x : Bool). x && (has u v && met (setsIn (here v)) u)) e))
       (cases (ltb v n))

@@ -93,11 +93,11 @@ module _ {image : List ℕ} {n : ℕ} (H : Thresholds image n) where
 
       each : (q : ℕ) → holds image n v rest ≡ false → (holds image n v q ≡ true) ⊎ (holds image n v q ≡ false) → p q ≡ true
       each q e (inl h) =
-          or-i _ _
+          or-i (not (holds image n v q)) (not (eqb (bitAnd q (others w v)) 0))
           (ap not (is-false (eqb (bitAnd q (others w v)) 0)
           (λ z. let a = bitAnd q (allBelow n) in
           clash (holds-grows image n v a rest
-          (⊆-minus (others w v) (and-⊆-r q (allBelow n)) (apart-⊆ (and-⊆-l q (allBelow n)) (⊆-refl (others w v)) (eqb-true _ 0 z)))
+          (⊆-minus (others w v) (and-⊆-r q (allBelow n)) (apart-⊆ (and-⊆-l q (allBelow n)) (⊆-refl (others w v)) (eqb-true (bitAnd q (others w v)) 0 z)))
           (holds-and v q h)) e)))
       each q e (inr h) = rw h refl
 
