@@ -1,14 +1,13 @@
 -- Laws of met sets: one for each way out of the two functions.
 use Prim.Native.Nat.{ℕ, zero, suc, _+_, _≤_, _<_}
-use mathlib.Core.Bool.{Bool, true, false, cond}
-use mathlib.Core.List.{List}
+use mathlib.Core.Bool.{Bool, cond}
 use mathlib.Core.Path.{_≡_, refl, sym, ap, ap₂, _∙_, subst}
 use lib.Bits.{bitAnd}
-use lib.Dec.{leb, ltb}
+use lib.Dec.{leb}
 use borrow.Author.Tests.{lt-ltb, le-ltb, le-leb, lt-leb}
 use Rattle.masks.specs.Mask.{size}
 use Rattle.threshold_row.specs.Inner.Seen.{Says}
-use Rattle.threshold_sets.specs.Met.{ThresholdSets, After, none, join, reach, members, setAt, met}
+use Rattle.threshold_sets.specs.Met.{ThresholdSets, After, join, reach, members, setAt, met}
 
 says : {m e : ℕ} {a b : After} → a ≡ b → Says m e a → Says m e b
 says {m} {e} q s = subst (Says m e) q s

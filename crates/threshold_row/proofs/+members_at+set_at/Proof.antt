@@ -1,7 +1,7 @@
 -- `set_at` and `members_at` meet their contracts. The sets that remain in preorder fall: a set asks for members behind it, and members ask for sets of which
 -- the next stands behind the one before.
 use Prim.Native.Nat.{ℕ, _+_, _-_, _*_, _/_, _%_, _≤_, _<_}
-use mathlib.Core.Path.{_≡_, ap, _∙_, subst}
+use mathlib.Core.Path.{ap, subst}
 use native.Mathlib.Omega.{arith}
 use borrow.Author.Needs.{needs}
 use denote.Ref.{now}

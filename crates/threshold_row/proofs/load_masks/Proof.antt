@@ -1,80 +1,47 @@
+-- `load_masks` meets its contract: after i turns the room holds the count and the first i masks.
+use Prim.Native.Nat.{ℕ, _+_, _-_, _≤_}
+use mathlib.Core.List.{_++_}
+use mathlib.Core.Path.{_≡_, ap}
+use native.Mathlib.Omega.{arith}
+use lib.ListN.{length, drop, set, length-set}
 use borrow.Author.Needs.{needs}
+use denote.Ref.{now}
+use Rattle.threshold_row.specs.Inner.Row.{masksOf}
+use Rattle.threshold_row.proofs.Load.{masks-hold, masks-again, masks-done}
 use Rattle.threshold_row.proofs.load_masks.Statement.{statement}
 use Rattle.threshold_row.proofs.load_masks.Tie as tie
-use Rattle.threshold_row.proofs.load_masks.Reads as reads
-use Rattle.threshold_row.proofs.load_masks.Lts as lts
-use Rattle.le.proofs.get16.Reads as get16-reads
-use Rattle.le.proofs.get64.Reads as get64-reads
 
 abbrev Inv-loop : tie.InvT-loop
-Inv-loop b m₀ i₀ m i = ?
+Inv-loop b m₀ i₀ m i = (i ≤ 49) × (length m₀ ≡ 63) × (length m ≡ 63) × (m ≡ masksOf b i ++ drop (1 + i) m₀)
 
 abbrev μ-loop : tie.MeasureT-loop
-μ-loop b m₀ i₀ m i = ?
+μ-loop b m₀ i₀ m i = 49 - i
 
--- src/lib.rt:111:17
-get16-requires : tie.Need-get16-requires Inv-loop μ-loop
-get16-requires c κs = search needs
-
--- src/lib.rt:111:17
-cast-m : tie.Need-cast-m Inv-loop μ-loop
-cast-m c = search needs
-
--- src/lib.rt:111:12
-add-m : tie.Need-add-m Inv-loop μ-loop
-add-m c = search needs
-
--- src/lib.rt:111:5
-slice-write-m : tie.Need-slice-write-m Inv-loop μ-loop
-slice-write-m c = search needs
-
--- src/lib.rt:113:5
 loop-holds : tie.Need-loop-holds Inv-loop μ-loop
-loop-holds c = search needs
+loop-holds c =
+    let a = c .before .before .before .args in (
+      omega arith,
+      simp length-set (omega arith),
+      simp length-set (omega arith),
+      masks-hold (now (a .b)) (now (a .m)) (64 + c .get16 .result) (omega arith) (ap (λ (x : ℕ). 64 + x) (c .get16 .ensures)),
+    )
 
--- src/lib.rt:114:38
-mul-get64 : tie.Need-mul-get64 Inv-loop μ-loop
-mul-get64 c = search needs
-
--- src/lib.rt:114:33
-add-get64 : tie.Need-add-get64 Inv-loop μ-loop
-add-get64 c = search needs
-
--- src/lib.rt:114:20
-get64-requires : tie.Need-get64-requires Inv-loop μ-loop
-get64-requires c κs = search needs
-
--- src/lib.rt:114:11
-add-m-2 : tie.Need-add-m-2 Inv-loop μ-loop
-add-m-2 c = search needs
-
--- src/lib.rt:114:9
-mul-m : tie.Need-mul-m Inv-loop μ-loop
-mul-m c = search needs
-
--- src/lib.rt:114:9
-slice-write-m-2 : tie.Need-slice-write-m-2 Inv-loop μ-loop
-slice-write-m-2 c = search needs
-
--- src/lib.rt:115:9
-add-i : tie.Need-add-i Inv-loop μ-loop
-add-i c = search needs
-
--- src/lib.rt:113:5
-loop-less : tie.Need-loop-less Inv-loop μ-loop
-loop-less c = search needs
-
--- src/lib.rt:113:5
 loop-again : tie.Need-loop-again Inv-loop μ-loop
-loop-again c = search needs
+loop-again c =
+    let a = c .before .before .before .before .before .before .args in
+    let l = c .before .before .loop in (
+      omega arith,
+      l .inv .1,
+      simp length-set (l .inv .2),
+      masks-again (now (a .b)) (l .m) (set (now (a .m)) 0 (64 + c .before .before .before .get16 .result)) (l .i) (c .get64 .result)
+          (rw (l .inv .1) (omega arith)) (l .inv .3) (c .get64 .ensures),
+    )
 
--- src/lib.rt:106:1
-same-length : tie.Need-same-length Inv-loop μ-loop
-same-length c = search needs
-
--- src/lib.rt:106:1
 returns : tie.Need-returns Inv-loop μ-loop
-returns c = search needs
+returns c =
+    let l = c .before .loop in
+    let a = c .before .before .before .before .before .args in
+    masks-done (now (a .b)) (l .m) (now (a .m)) (l .i) (64 + c .before .before .get16 .result) (omega arith) (l .inv .3)
 
 pub load-masks-spec : {M : Type 1} → statement M
 load-masks-spec =
@@ -82,19 +49,19 @@ load-masks-spec =
     (tie.spec
     Inv-loop
     μ-loop
-    get16-requires
-    cast-m
-    add-m
-    slice-write-m
+    (λ c κs. search needs)
+    (λ c. search needs)
+    (λ c. search needs)
+    (λ c. search needs)
     loop-holds
-    mul-get64
-    add-get64
-    get64-requires
-    add-m-2
-    mul-m
-    slice-write-m-2
-    add-i
-    loop-less
+    (λ c. search needs)
+    (λ c. search needs)
+    (λ c κs. search needs)
+    (λ c. search needs)
+    (λ c. search needs)
+    (λ c. search needs)
+    (λ c. search needs)
+    (λ c. search needs)
     loop-again
-    same-length
+    (λ c. search needs)
     returns)
