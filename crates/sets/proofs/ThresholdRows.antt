@@ -29,8 +29,10 @@ use Rattle.threshold_block.specs.Block.{setsIn}
 use Rattle.threshold_image.proofs.Exact.{thresholds-checked}
 use Rattle.threshold_image.specs.Image.{blocks, Thresholds}
 use Rattle.threshold_image.specs.Inner.{rowsOf}
-use Rattle.threshold_row.proofs.Loaded.{length-row, first-row, loaded-sound, loaded-met}
+use Rattle.threshold_row.proofs.Load.{length-row, row-count}
+use Rattle.threshold_row.proofs.Loaded.{loaded, loaded-met}
 use Rattle.threshold_row.specs.Inner.Row.{setsOf, rowOf}
+use Rattle.threshold_sets.proofs.Alike.{Agree, agree-back, sound-alike}
 use Rattle.threshold_sets.specs.Check.{SoundSets}
 use Rattle.threshold_sets.specs.Met.{met}
 
@@ -44,13 +46,16 @@ module _ {image : List ℕ} {n : ℕ} (bytes : Bytes image) (H : Thresholds imag
   bytes-block : (v : ℕ) → Bytes (here v)
   bytes-block v = bytes-part 512 (512 * v) image bytes
 
+  agree : (v : ℕ) → Agree 49 (setsOf (rowOf (here v))) (setsIn (here v))
+  agree v = loaded (here v) (bytes-block v)
+
   -- the row of a site is that of its block
   site-row : (v : ℕ) → v < n → siteOf (rowsOf n image) v ≡ rowOf (here v)
   unfolding rowsOf
   site-row v l = part-cat (λ i. rowOf (here i)) 63 n v l (λ i k. length-row (here i))
 
   first-number : (v : ℕ) → v < n → countOf (rowsOf n image) v ≡ 64 + countField (here v)
-  first-number v l = ap (λ (m : List ℕ). getD m 0 0) (site-row v l) ∙ first-row (here v)
+  first-number v l = ap (λ (m : List ℕ). getD m 0 0) (site-row v l) ∙ row-count (here v)
 
   of-sets : (v : ℕ) → v < n → ofSets (rowsOf n image) v ≡ true
   of-sets v l = lt-ltb 62 (countOf (rowsOf n image) v) (let e = first-number v l in omega arith)
@@ -64,7 +69,7 @@ module _ {image : List ℕ} {n : ℕ} (bytes : Bytes image) (H : Thresholds imag
         few-sites = H .few-sites;
         listed = λ v l o. absurd (clash (of-sets v l) o);
         sets = λ v l o.
-            subst (λ (m : List ℕ). SoundSets n (setsOf m)) (sym (site-row v l)) (loaded-sound (here v) (bytes-block v) (H .sets v l));
+            subst (λ (m : List ℕ). SoundSets n (setsOf m)) (sym (site-row v l)) (sound-alike (agree-back (agree v)) (H .sets v l .few-sets) (H .sets v l));
       }
 
   same-inside : (v u : ℕ) → rulesOf (rowsOf n image) .inside v u ≡ thresholdsOf image n .inside v u
@@ -73,7 +78,7 @@ module _ {image : List ℕ} {n : ℕ} (bytes : Bytes image) (H : Thresholds imag
       ⊎-elim
       (λ e. let l = ltb-true v n e in
       sets-inside (rowsOf n image) v (of-sets v l) u
-      ∙ ap (λ (x : Bool). has u v && x) (ap (λ (m : List ℕ). met (setsOf m) u) (site-row v l) ∙ loaded-met (here v) (bytes-block v) (H .sets v l) u)
+      ∙ ap (λ (x : Bool). has u v && x) (ap (λ (m : List ℕ). met (setsOf m) u) (site-row v l) ∙ loaded-met (here v) (bytes-block v) (H .sets v l .few-sets) u)
       ∙ sym (ap (λ (x : Bool). x && (has u v && met (setsIn (here v)) u)) e))
       (λ e. let z = no-slice threshold-rows v (ltb-false v n e) in
       lists-inside (rowsOf n image) v (ap (ltb 62) z) u
