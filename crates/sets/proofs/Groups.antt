@@ -1,5 +1,5 @@
 -- A checked table of whichever form is lawful; and one in memory stands in rows, whose answers are its own.
-use Prim.Native.Nat.{ℕ, _≤_}
+use Prim.Native.Nat.{ℕ, _≤_, _<_}
 use mathlib.Core.Bool.{true, false}
 use mathlib.Core.List.{List}
 use mathlib.Core.Logic.{_↔_}
@@ -25,7 +25,7 @@ use Rattle.sets.proofs.Lawful.{table-lawful}
 use Rattle.sets.proofs.Promises.{promises}
 use Rattle.sets.proofs.Rows.{lists-inside, lists-deleted, lists-blocked}
 use Rattle.sets.proofs.Slices.{row-site}
-use Rattle.sets.proofs.Thresholds.{thresholds-lawful}
+use Rattle.sets.proofs.Thresholds.{thresholds-lawful, holds-site}
 use Rattle.table.proofs.Exact.{checked, exact}
 use Rattle.table.specs.Table.{sites, countOf, Table}
 use Rattle.threshold_image.proofs.Exact.{thresholds-checked, thresholds-exact}
@@ -92,6 +92,11 @@ module _ (t : List ℕ) (c : Checked (lists t)) where
 
   pub as-rows : AsRows (lists t) t
   as-rows = record { checked = c; right = checked-rows; same-rules = same-rules }
+
+-- who has a slice is a site
+pub slice-site : (t : Groups) → Checked t → (v q : ℕ) → fbqsIn t .Slice v q → v < sitesOf t
+slice-site (lists t) c v q x = row-site (checked-rows t c) v (x .1)
+slice-site (thresholds image) c v q x = holds-site image (sitesOf (thresholds image)) v q (x .0)
 
 -- by its rows a table is asked its own questions
 pub same-questions : {t : Groups} {rows : List ℕ} → AsRows t rows → rowQuestions rows (sitesOf t) ≡ questions t

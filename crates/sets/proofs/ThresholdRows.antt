@@ -37,7 +37,7 @@ use Rattle.threshold_sets.specs.Check.{SoundSets}
 use Rattle.threshold_sets.specs.Met.{met}
 
 module _ {image : List ℕ} {n : ℕ} (bytes : Bytes image) (H : Thresholds image n) where
-  here : ℕ → List ℕ
+  abbrev here : ℕ → List ℕ
   here v = part 512 v image
 
   long-block : (v : ℕ) → v < n → length (here v) ≡ 512
