@@ -83,8 +83,8 @@ module _ (t : List ℕ) where
           }
 
     -- set q, which holds a slice of site v, is held for it
-    pub held-more : {w v q : ℕ} {held : List ℕ} → v < 64 → rulesOf t .inside v q ≡ true → SlicesHeld t n w held → SlicesHeld t n w (set held v q)
-    held-more {w} {v} {q} {held} l e h =
+    pub held-more : {w v : ℕ} (q : ℕ) {held : List ℕ} → v < 64 → rulesOf t .inside v q ≡ true → SlicesHeld t n w held → SlicesHeld t n w (set held v q)
+    held-more {w} {v} q {held} l e h =
         record {
           many = length-set held v q ∙ h .many;
           at = λ u m i. written (λ (u x : ℕ). rulesOf t .inside u x ≡ true) held v q (h .many) l e u (λ ne. h .at u m i);

@@ -49,7 +49,7 @@ returns c =
       sym (row-found (p .pre .1 .1 .0) (a .w) (k .result) l (k .ensures .1 .0 l)),
       (
         places-more t (a .n) (k .result) few places (record { slice = l; passed = passed-to t before (k .ensures .1 .1 .0) }),
-        held-more t (a .n) few
+        held-more t (a .n) _ few
             (subst (λ (x : ℕ). rulesOf t .inside (a .v) x ≡ true) (slice-at t (a .v) (k .result) short)
             (row-found (p .pre .1 .1 .0) (sliceOf t (a .v) (k .result)) (k .result) l (⊆-within (⊆-refl (sliceOf t (a .v) (k .result))))))
             (p .pre .1 .1 .1 .1 .1),
