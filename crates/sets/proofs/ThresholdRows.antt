@@ -10,7 +10,6 @@ use lib.Dec.{ltb}
 use lib.ListN.{length, getD}
 use borrow.Author.Tests.{ltb-true, ltb-false, lt-ltb}
 use Rattle.ground.proofs.Logic.{clash, cases}
-use Rattle.ground.proofs.Pieces.{length-cat, length-part, part-cat}
 use Rattle.ground.specs.Pieces.{part}
 use Rattle.le.proofs.Laws.{bytes-part}
 use Rattle.le.specs.Le.{Bytes}
@@ -27,9 +26,10 @@ use Rattle.site_block.specs.Block.{countField}
 use Rattle.table.specs.Table.{siteOf, countOf}
 use Rattle.threshold_block.specs.Block.{setsIn}
 use Rattle.threshold_image.proofs.Exact.{thresholds-checked}
+use Rattle.threshold_image.proofs.Rows.{length-rows, row-of}
 use Rattle.threshold_image.specs.Image.{blocks, Thresholds}
 use Rattle.threshold_image.specs.Inner.{rowsOf}
-use Rattle.threshold_row.proofs.Load.{length-row, row-count}
+use Rattle.threshold_row.proofs.Load.{row-count}
 use Rattle.threshold_row.proofs.Loaded.{loaded, loaded-met}
 use Rattle.threshold_row.specs.Inner.Row.{setsOf, rowOf}
 use Rattle.threshold_sets.proofs.Alike.{Agree, agree-back, sound-alike}
@@ -40,9 +40,6 @@ module _ {image : List ℕ} {n : ℕ} (bytes : Bytes image) (H : Thresholds imag
   abbrev here : ℕ → List ℕ
   here v = part 512 v image
 
-  long-block : (v : ℕ) → v < n → length (here v) ≡ 512
-  long-block v l = length-part 512 v n image l (let e = H .long in omega arith)
-
   bytes-block : (v : ℕ) → Bytes (here v)
   bytes-block v = bytes-part 512 (512 * v) image bytes
 
@@ -51,8 +48,7 @@ module _ {image : List ℕ} {n : ℕ} (bytes : Bytes image) (H : Thresholds imag
 
   -- the row of a site is that of its block
   site-row : (v : ℕ) → v < n → siteOf (rowsOf n image) v ≡ rowOf (here v)
-  unfolding rowsOf
-  site-row v l = part-cat (λ i. rowOf (here i)) 63 n v l (λ i k. length-row (here i))
+  site-row v l = row-of n image v l
 
   first-number : (v : ℕ) → v < n → countOf (rowsOf n image) v ≡ 64 + countField (here v)
   first-number v l = ap (λ (m : List ℕ). getD m 0 0) (site-row v l) ∙ row-count (here v)
@@ -61,10 +57,9 @@ module _ {image : List ℕ} {n : ℕ} (bytes : Bytes image) (H : Thresholds imag
   of-sets v l = lt-ltb 62 (countOf (rowsOf n image) v) (let e = first-number v l in omega arith)
 
   pub threshold-rows : Rows (rowsOf n image) n
-  unfolding rowsOf
   threshold-rows =
       record {
-        long = length-cat (λ i. rowOf (here i)) 63 n (λ i k. length-row (here i));
+        long = length-rows n image;
         some-site = H .some-site;
         few-sites = H .few-sites;
         listed = λ v l o. absurd (clash (of-sets v l) o);
