@@ -68,12 +68,16 @@ members-at-returns-3 t c =
       search needs,
     )
 
-set-at-returns : (t : ℕ) → set-at-lts.Need-returns (pair-reads.Asked, pair-reads.Learnt, present-reads.Asked, present-reads.Learnt, reached-reads.Asked, reached-reads.Learnt, members-at-below t, members-at.Post) (set-at-at t) set-at.Post
+set-at-returns : (t : ℕ) → set-at-lts.Need-returns
+    (pair-reads.Asked, pair-reads.Learnt, present-reads.Asked, present-reads.Learnt, reached-reads.Asked, reached-reads.Learnt, members-at-below t, members-at.Post)
+    (set-at-at t) set-at.Post
 set-at-returns t c =
     let a = c .before .before .args in
     (past-levels (setsOf (now (a .m))) (a .u) (a .i) (c .if1 .taken), search needs, search needs)
 
-set-at-returns-2 : (t : ℕ) → set-at-lts.Need-returns-2 (pair-reads.Asked, pair-reads.Learnt, present-reads.Asked, present-reads.Learnt, reached-reads.Asked, reached-reads.Learnt, members-at-below t, members-at.Post) (set-at-at t) set-at.Post
+set-at-returns-2 : (t : ℕ) → set-at-lts.Need-returns-2
+    (pair-reads.Asked, pair-reads.Learnt, present-reads.Asked, present-reads.Learnt, reached-reads.Asked, reached-reads.Learnt, members-at-below t, members-at.Post)
+    (set-at-at t) set-at.Post
 set-at-returns-2 t c =
     let a = c .before .before .before .before .before .before .before .args in
     let two = c .before .before .before .before .pair .ensures .0 in
@@ -84,7 +88,9 @@ set-at-returns-2 t c =
       search needs,
     )
 
-set-at-returns-3 : (t : ℕ) → set-at-lts.Need-returns-3 (pair-reads.Asked, pair-reads.Learnt, present-reads.Asked, present-reads.Learnt, reached-reads.Asked, reached-reads.Learnt, members-at-below t, members-at.Post) (set-at-at t) set-at.Post
+set-at-returns-3 : (t : ℕ) → set-at-lts.Need-returns-3
+    (pair-reads.Asked, pair-reads.Learnt, present-reads.Asked, present-reads.Learnt, reached-reads.Asked, reached-reads.Learnt, members-at-below t, members-at.Post)
+    (set-at-at t) set-at.Post
 set-at-returns-3 t c =
     let a = c .before .before .before .before .before .before .before .before .before .args in
     let two = c .before .before .before .before .before .before .pair .ensures .0 in
