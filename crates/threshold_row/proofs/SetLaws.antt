@@ -2,9 +2,10 @@
 use Prim.Native.Nat.{ℕ, zero, suc, _+_, _≤_, _<_}
 use mathlib.Core.Bool.{Bool, cond}
 use mathlib.Core.Path.{_≡_, refl, sym, ap, ap₂, _∙_, subst}
+use native.Mathlib.Nat.{add-zero}
 use lib.Bits.{bitAnd}
 use lib.Dec.{leb}
-use borrow.Author.Tests.{lt-ltb, le-ltb, le-leb, lt-leb}
+use borrow.Author.Tests.{lt-ltb, le-ltb}
 use Rattle.masks.specs.Mask.{size}
 use Rattle.threshold_row.specs.Inner.Seen.{Says}
 use Rattle.threshold_sets.specs.Met.{ThresholdSets, After, join, reach, members, setAt, met}
@@ -21,7 +22,6 @@ module _ (S : ThresholdSets) (u : ℕ) where
   unfolding setAt
   set-here l i e = rw e refl
 
-  -- the set is met, or not, by what is met of its members
   module _ (l i : ℕ) {m k r e p t : ℕ} (lv : m ≡ suc l) (ki : k ≡ S .inner i) (below : Says r e (members S u (setAt S u l) k (i + 1)))
       (here : p ≡ size (bitAnd (S .plain i) u)) (need : t ≡ S .threshold i) where
     sum : p + r ≡ size (bitAnd (S .plain i) u) + members S u (setAt S u l) (S .inner i) (i + 1) .met
@@ -33,11 +33,9 @@ module _ (S : ThresholdSets) (u : ℕ) where
     test : leb t (p + r) ≡ leb (S .threshold i) (size (bitAnd (S .plain i) u) + members S u (setAt S u l) (S .inner i) (i + 1) .met)
     test = ap₂ leb need sum
 
-    pub set-met : t ≤ p + r → Says 1 e (setAt S u m i)
-    set-met h = says (set-here l i lv) (record { met-so = ap (λ (x : Bool). cond x 1 0) (sym (le-leb t (p + r) h) ∙ test); next-so = behind })
-
-    pub set-unmet : p + r < t → Says 0 e (setAt S u m i)
-    set-unmet h = says (set-here l i lv) (record { met-so = ap (λ (x : Bool). cond x 1 0) (sym (lt-leb t (p + r) h) ∙ test); next-so = behind })
+    -- the set, by what is met of its members
+    pub set-reached : {x f : ℕ} → x ≡ cond (leb t (p + r)) 1 0 → f ≡ e → Says x f (setAt S u m i)
+    set-reached q g = says (set-here l i lv) (record { met-so = q ∙ ap (λ (x : Bool). cond x 1 0) test; next-so = g ∙ behind })
 
   module _ (set : ℕ → After) where
     pub no-member : {k : ℕ} (i : ℕ) → k ≡ 0 → Says 0 i (members S u set k i)
@@ -62,3 +60,9 @@ module _ (S : ThresholdSets) (u : ℕ) where
           met-so = ap₂ _+_ (one .met-so) (rest .met-so ∙ ap (λ (x : ℕ). members S u set j x .met) (one .next-so));
           next-so = rest .next-so ∙ ap (λ (x : ℕ). members S u set j x .next) (one .next-so);
         })
+
+  -- a set without inner sets
+  pub set-leaf : (l i : ℕ) {m p t x f : ℕ} → m ≡ suc l → 0 ≡ S .inner i → p ≡ size (bitAnd (S .plain i) u) → t ≡ S .threshold i
+      → x ≡ cond (leb t p) 1 0 → f ≡ i + 1 → Says x f (setAt S u m i)
+  set-leaf l i {p = p} {t = t} lv none here need q g =
+      set-reached l i lv none (no-member (setAt S u l) (i + 1) refl) here need (q ∙ ap (λ (y : ℕ). cond (leb t y) 1 0) (sym (add-zero p))) g

@@ -1,8 +1,10 @@
 // A site's sets as a row of 63 numbers: whether the root is met, and the row that a block gives.
+ghost use mathlib.Core.Bool.{cond};
 ghost use mathlib.Core.List.{_++_};
 ghost use mathlib.Core.Path.{_≡_};
 ghost use Prim.Native.Nat.{_<_, _≤_};
 ghost use lib.Bits.{bitAnd};
+ghost use lib.Dec.{leb};
 ghost use lib.ListN.{length, getD, drop};
 ghost use Rattle.masks.specs.Mask.{size};
 ghost use Rattle.threshold_sets.specs.Met.{members, setAt, met};
@@ -31,7 +33,17 @@ fn pair(m: &[u64], i: usize) -> u64
     (m[50 + i / 4] >> (16 * (i % 4)) as u64) % 65536
 }
 
-// Set i, with so many levels left: it is met through its members.
+// A set with this threshold of which so many are met or present, and the place behind it.
+fn reached(threshold: u64, many: u64, next: usize) -> Seen
+    ensures { λ r. ⌜ (r .met ≡ cond (leb threshold many) 1 0) × (r .next ≡ next) × (r .met ≤ 1) ⌝ }
+{
+    if threshold <= many {
+        return Seen { met: 1, next };
+    }
+    Seen { met: 0, next }
+}
+
+// Set i, with so many levels left: it is met through its members. One without inner sets asks nobody.
 fn set_at(m: &[u64], many: usize, u: u64, levels: u64, i: usize) -> Seen
     requires { ⌜ length (now m) ≡ 63 ⌝ }
     requires { ⌜ many ≡ setsOf (now m) .count ⌝ }
@@ -46,13 +58,12 @@ fn set_at(m: &[u64], many: usize, u: u64, levels: u64, i: usize) -> Seen
         };
     }
     let two = pair(m, i);
-    let below = members_at(m, many, u, levels - 1, i + 1, two / 256);
     let here = present(m[1 + i], u);
-    let next = below.next;
-    if two % 256 <= here + below.met {
-        return Seen { met: 1, next };
+    if two < 256 {
+        return reached(two % 256, here, i + 1);
     }
-    Seen { met: 0, next }
+    let below = members_at(m, many, u, levels - 1, i + 1, two / 256);
+    reached(two % 256, here + below.met, below.next)
 }
 
 // The k sets from place i on: members are met through their sets.

@@ -7,7 +7,7 @@ use borrow.Author.Needs.{needs}
 use denote.Ref.{now}
 use Rattle.threshold_row.specs.Inner.Row.{setsOf}
 use Rattle.threshold_sets.specs.Met.{setAt}
-use Rattle.threshold_row.proofs.SetLaws.{past-levels, set-met, set-unmet, no-member, none-left, member-then}
+use Rattle.threshold_row.proofs.SetLaws.{past-levels, set-reached, set-leaf, no-member, none-left, member-then}
 use borrow.Fn.Kinds.{In}
 use borrow.Fn.PlainCycle.{Measures, is, falls, and}
 use Rattle.threshold_row.proofs.members_at.Reads as members-at
@@ -18,6 +18,7 @@ use Rattle.threshold_row.proofs.set_at.Kinds as set-at-kinds
 use Rattle.threshold_row.proofs.+members_at+set_at.Lts-set_at as set-at-lts
 use Rattle.threshold_row.proofs.pair.Reads as pair-reads
 use Rattle.threshold_row.proofs.present.Reads as present-reads
+use Rattle.threshold_row.proofs.reached.Reads as reached-reads
 use Rattle.threshold_row.proofs.+members_at+set_at.{statement}
 use Rattle.threshold_row.proofs.+members_at+set_at.Tie.{close}
 
@@ -67,30 +68,37 @@ members-at-returns-3 t c =
       search needs,
     )
 
-set-at-returns : (t : ℕ) → set-at-lts.Need-returns (pair-reads.Asked, pair-reads.Learnt, members-at-below t, members-at.Post, present-reads.Asked, present-reads.Learnt) (set-at-at t) set-at.Post
+set-at-returns : (t : ℕ) → set-at-lts.Need-returns
+    (pair-reads.Asked, pair-reads.Learnt, present-reads.Asked, present-reads.Learnt, reached-reads.Asked, reached-reads.Learnt, members-at-below t, members-at.Post)
+    (set-at-at t) set-at.Post
 set-at-returns t c =
     let a = c .before .before .args in
     (past-levels (setsOf (now (a .m))) (a .u) (a .i) (c .if1 .taken), search needs, search needs)
 
-set-at-returns-2 : (t : ℕ) → set-at-lts.Need-returns-2 (pair-reads.Asked, pair-reads.Learnt, members-at-below t, members-at.Post, present-reads.Asked, present-reads.Learnt) (set-at-at t) set-at.Post
+set-at-returns-2 : (t : ℕ) → set-at-lts.Need-returns-2
+    (pair-reads.Asked, pair-reads.Learnt, present-reads.Asked, present-reads.Learnt, reached-reads.Asked, reached-reads.Learnt, members-at-below t, members-at.Post)
+    (set-at-at t) set-at.Post
 set-at-returns-2 t c =
-    let a = c .before .before .before .before .before .before .before .before .args in
-    let two = c .before .before .before .before .before .pair .ensures .0 in
-    let below = c .before .before .before .before .members-at .ensures in (
-      set-met (setsOf (now (a .m))) (a .u) (a .levels - 1) (a .i) (omega (arith, c .before .before .before .before .before .before .if1 .left))
-          (ap (λ (x : ℕ). x / 256) two) (below .0) (c .before .before .present .ensures .0) (ap (λ (x : ℕ). x % 256) two) (c .if2 .taken),
-      search needs,
+    let a = c .before .before .before .before .before .before .before .args in
+    let two = c .before .before .before .before .pair .ensures .0 in
+    let r = c .reached .ensures in (
+      set-leaf (setsOf (now (a .m))) (a .u) (a .levels - 1) (a .i) (omega (arith, c .before .before .before .before .before .if1 .left))
+          (omega (arith, two, c .before .if2 .taken)) (c .before .before .present .ensures .0) (ap (λ (x : ℕ). x % 256) two) (r .0) (r .1),
+      r .2,
       search needs,
     )
 
-set-at-returns-3 : (t : ℕ) → set-at-lts.Need-returns-3 (pair-reads.Asked, pair-reads.Learnt, members-at-below t, members-at.Post, present-reads.Asked, present-reads.Learnt) (set-at-at t) set-at.Post
+set-at-returns-3 : (t : ℕ) → set-at-lts.Need-returns-3
+    (pair-reads.Asked, pair-reads.Learnt, present-reads.Asked, present-reads.Learnt, reached-reads.Asked, reached-reads.Learnt, members-at-below t, members-at.Post)
+    (set-at-at t) set-at.Post
 set-at-returns-3 t c =
-    let a = c .before .before .before .before .before .before .before .before .args in
-    let two = c .before .before .before .before .before .pair .ensures .0 in
-    let below = c .before .before .before .before .members-at .ensures in (
-      set-unmet (setsOf (now (a .m))) (a .u) (a .levels - 1) (a .i) (omega (arith, c .before .before .before .before .before .before .if1 .left))
-          (ap (λ (x : ℕ). x / 256) two) (below .0) (c .before .before .present .ensures .0) (ap (λ (x : ℕ). x % 256) two) (c .if2 .left),
-      search needs,
+    let a = c .before .before .before .before .before .before .before .before .before .args in
+    let two = c .before .before .before .before .before .before .pair .ensures .0 in
+    let below = c .before .before .members-at .ensures in
+    let r = c .reached2 .ensures in (
+      set-reached (setsOf (now (a .m))) (a .u) (a .levels - 1) (a .i) (omega (arith, c .before .before .before .before .before .before .before .if1 .left))
+          (ap (λ (x : ℕ). x / 256) two) (below .0) (c .before .before .before .before .present .ensures .0) (ap (λ (x : ℕ). x % 256) two) (r .0) (r .1),
+      r .2,
       search needs,
     )
 
@@ -105,17 +113,20 @@ pub +members-at+set-at-spec : {M : Type 1} → statement M
     (λ c κs. search needs)
     (λ c. search needs)
     (members-at-returns-3 t))
-    (λ t. set-at-lts.spec (pair-reads.Asked, pair-reads.Learnt, members-at-below t, members-at.Post, present-reads.Asked, present-reads.Learnt) (set-at-at t) set-at.Post
+    (λ t. set-at-lts.spec (pair-reads.Asked, pair-reads.Learnt, present-reads.Asked, present-reads.Learnt, reached-reads.Asked, reached-reads.Learnt, members-at-below t, members-at.Post) (set-at-at t) set-at.Post
     (λ c. search needs)
     (set-at-returns t)
     (λ c κs. search needs)
     (λ c. search needs)
     (λ c. search needs)
-    (λ c κs. search needs)
-    (λ c. search needs)
-    (λ c. search needs)
     (λ c. search needs)
     (λ c κs. search needs)
     (λ c. search needs)
+    (λ c κs. search needs)
     (set-at-returns-2 t)
+    (λ c. search needs)
+    (λ c. search needs)
+    (λ c κs. search needs)
+    (λ c. search needs)
+    (λ c κs. search needs)
     (set-at-returns-3 t))
