@@ -1,5 +1,6 @@
 pub mod Paper
 pub mod Slices
+pub mod Before
 pub mod Quorum
 pub mod Promises
 pub mod Forms
