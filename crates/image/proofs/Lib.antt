@@ -1,3 +1,4 @@
 pub mod ReadLaws
+pub mod Filed
 pub mod RoundTrip
 pub mod Coincide

@@ -2,11 +2,10 @@
 use Prim.Native.Nat.{ℕ}
 use mathlib.Core.Bool.{Bool, _&&_, _||_, not}
 use mathlib.Core.List.{List}
-use mathlib.Core.Path.{_≡_, refl, ap, ap₂, _∙_}
+use mathlib.Core.Path.{_≡_, ap, ap₂, _∙_}
 use lib.Bits.{bitAnd, bitOr, and-comm}
 use lib.Dec.{eqb}
 use lib.ListN.{length}
-use Rattle.ground.proofs.Logic.{is-false}
 use Rattle.ground.specs.Alike.{alike}
 use Rattle.ground.specs.Search.{some}
 use Rattle.masks.proofs.Laws.Apart.{minus-apart}
@@ -17,25 +16,23 @@ use Rattle.rules.specs.Rules.{accepting, confirming, nowAccepts, nowConfirms, h
 use Rattle.rules.specs.Sound.{differ, notZero, notOwn, notRule, notSent, badSide, badSite, unsound}
 use Rattle.rules.specs.State.{votes, accepts, voted, accepted, confirmed, width, get, add}
 use Rattle.rules.specs.Vote.{vote}
-use Rattle.sets.proofs.Slices.{blocked-meets}
-use Rattle.sets.specs.Groups.{lists, questions}
+use Rattle.sets.proofs.Before.{others-counted, inside-counted, missed-unblocked}
+use Rattle.sets.specs.Groups.{lists, sitesOf, questions}
 use Rattle.sets.specs.Promises.{Questions, questionsOf}
-use Rattle.sets.specs.Slices.{slicesOf}
+use Rattle.sets.specs.Quorum.{largest}
 use Rattle.votes.specs.Call.{Call}
 use Rattle.votes.specs.Passes.{run}
 use Rattle.votes.specs.Vote.{step, ifTaken, fresh, runOf}
-use Rattle.owner.specs.Owner.{ownerCounted, questionsBefore, OthersAsBefore, AloneUnblocked, NothingChanges, OwnerLeftOut}
+use Rattle.owner.specs.Owner.{questionsBefore, OthersAsBefore, AloneUnblocked, NothingChanges, OwnerLeftOut}
 
 pub others-as-before : OthersAsBefore
-unfolding questionsOf ownerCounted slicesOf
-others-as-before t v w = refl
+unfolding questionsOf
+others-as-before t v w = others-counted t v w
 
 pub alone-unblocked : AloneUnblocked
 unfolding questionsOf
-alone-unblocked t v i w l e =
-    is-false (slicesOf t .blocked v w)
-    (λ b. blocked-meets t v w i b l
-    (ap (λ (q : ℕ). bitAnd q (others w v)) e ∙ and-comm (single v) (others w v) ∙ minus-apart w (single v)))
+alone-unblocked t v q w x e =
+    missed-unblocked t v w q x (ap (λ (y : ℕ). bitAnd y (others w v)) e ∙ and-comm (single v) (others w v) ∙ minus-apart w (single v))
 
 -- two sets of questions that answer the same to who accepts and who confirms
 module _ (old new : Questions) (n F : ℕ)
@@ -101,8 +98,8 @@ module _ (old new : Questions) (n F : ℕ)
 -- of a table: the quorums are the same, and the others of the others are the others
 module _ (t : List ℕ) where
   same-quorum : (v w : ℕ) → questions (lists t) .inQuorum v w ≡ questionsBefore t .inQuorum v w
-  unfolding questionsOf ownerCounted
-  same-quorum v w = refl
+  unfolding questionsOf
+  same-quorum v w = ap (λ (s : ℕ → ℕ → Bool). has (largest s (sitesOf (lists t)) w) v) (inside-counted t)
 
   same-blocked : (v b : ℕ) → questions (lists t) .blocked v (others b v) ≡ questionsBefore t .blocked v (others b v)
   same-blocked v b = others-as-before t v (others b v) ∙ ap (questionsBefore t .blocked v) (minus-again b (single v))

@@ -1,35 +1,21 @@
 -- The owner left out of blocking, against the rule as it was: what changes, and what does not.
-use Prim.Native.Nat.{ℕ, _<_}
-use mathlib.Core.Bool.{false, not}
+use Prim.Native.Nat.{ℕ}
+use mathlib.Core.Bool.{false}
 use mathlib.Core.List.{List}
 use mathlib.Core.Path.{_≡_}
-use lib.Bits.{bitAnd}
-use lib.Dec.{eqb}
-use lib.ListN.{length}
-use Rattle.ground.specs.Search.{every}
 use Rattle.masks.specs.Mask.{single, others}
 use Rattle.rules.specs.Rules.{accepting, confirming}
 use Rattle.rules.specs.Sound.{unsound}
 use Rattle.rules.specs.Vote.{vote}
-use Rattle.sets.specs.Groups.{lists, questions}
+use Rattle.sets.specs.Before.{ownerCounted}
+use Rattle.sets.specs.Groups.{lists, sitesOf, fbqsIn, questions}
 use Rattle.sets.specs.Promises.{Questions, questionsOf}
-use Rattle.sets.specs.Slices.{Slices, slicesOf}
-use Rattle.table.specs.Table.{countOf, sliceOf, sites}
 use Rattle.votes.specs.Call.{Call}
 use Rattle.votes.specs.Vote.{step, runOf}
 
--- the rule as it was, the owner counted: "A set blocks site v if it meets every slice of v."
-unfoldable pub ownerCounted : List ℕ → Slices
-unfolding every slicesOf
-ownerCounted t = record {
-  inside = slicesOf t .inside;
-  deleted = slicesOf t .deleted;
-  blocked = λ v w. every (countOf t v) (λ i. not (eqb (bitAnd (sliceOf t v i) w) 0));
-}
-
--- the questions of a table in memory by that rule
+-- the questions of a table in memory by the rule as it was (`ownerCounted`)
 abbrev pub questionsBefore : List ℕ → Questions
-questionsBefore t = questionsOf (ownerCounted t) (sites (length t))
+questionsBefore t = questionsOf (ownerCounted t) (sitesOf (lists t))
 
 -- what changes: "the owner's bit is taken out of the set before it is compared"
 abbrev pub OthersAsBefore : Type 0
@@ -37,7 +23,7 @@ OthersAsBefore = (t : List ℕ) (v w : ℕ) → questions (lists t) .blocked v w
 
 -- "A site with a slice of itself alone is then blocked by nobody."
 abbrev pub AloneUnblocked : Type 0
-AloneUnblocked = (t : List ℕ) (v i w : ℕ) → i < countOf t v → sliceOf t v i ≡ single v → questions (lists t) .blocked v w ≡ false
+AloneUnblocked = (t : List ℕ) (v q w : ℕ) → fbqsIn (lists t) .Slice v q → q ≡ single v → questions (lists t) .blocked v w ≡ false
 
 -- "no accept, confirm or run answer changes", of n sites, those of F faulty: nor does a step, nor what number 18 says of a state
 pub record NothingChanges (old new : Questions) (n F : ℕ) : Type 0 where

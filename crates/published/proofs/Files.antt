@@ -11,9 +11,7 @@ use lib.ListN.{length, length-append}
 use Rattle.check_text.proofs.Ways.{reads, loaded-sites, loaded}
 use Rattle.check_text.specs.Table.{sitesOn, tableOn, imageCheck}
 use Rattle.ground.proofs.Logic.{cases, and-l, and-r, and-i, clash, is-false, not-t}
-use Rattle.ground.specs.Pieces.{part}
-use Rattle.image_blocks.proofs.Load.{loads-site}
-use Rattle.image_blocks.specs.Image.{loads}
+use Rattle.image.proofs.Filed.{slices-filed}
 use Rattle.lines.proofs.Lengths.{length-line}
 use Rattle.lines.specs.Lines.{line}
 use Rattle.mark.specs.Mark.{mark}
@@ -34,10 +32,6 @@ use Rattle.sets.proofs.Groups.{few-in, table-exact}
 use Rattle.sets.specs.Groups.{Groups, sitesOf, fbqsIn, slicesIn, Checked}
 use Rattle.sets.specs.Paper.{Intact, Befouled}
 use Rattle.sets.specs.Quorum.{largest, rounds}
-use Rattle.site_block.proofs.Load.{load-count, load-slice}
-use Rattle.site_block.specs.Block.{countField, sliceField}
-use Rattle.rows.specs.Site.{count, slice}
-use Rattle.table.specs.Table.{countOf, sliceOf}
 use Rattle.text.specs.Text.{ascii, decimal}
 use Rattle.verdict_text.specs.Verdict.{judgedText, verdictText}
 use Rattle.verdicts.proofs.Decides.{table-verdicts}
@@ -55,26 +49,10 @@ image-sites image = loaded-sites image (sitesOn image)
 pub image-checked : (image : List ℕ) → imageCheck image ≡ Sound → Checked (tableOn image)
 image-checked image e = loaded image (sitesOn image) (reads image e)
 
-module _ (n : ℕ) (image : List ℕ) (v : ℕ) (l : v < n) where
-  count-on : countOf (loads n image) v ≡ countField (part 512 v image)
-  count-on = ap count (loads-site n image v l) ∙ load-count (part 512 v image)
-
-  slice-on : (i : ℕ) → i < 62 → sliceOf (loads n image) v i ≡ sliceField (part 512 v image) i
-  slice-on i h = ap (λ (m : List ℕ). slice m i) (loads-site n image v l) ∙ load-slice (part 512 v image) i h
-
 pub read-as-filed : ReadAsFiled
 read-as-filed image e =
-    let T = table-exact (tableOn image) .0 (image-checked image e) in
-    let n = sitesOn image in (
-      T,
-      image-sites image,
-      λ v q l.
-          let c = count-on n image v l in
-          let few = T .few-slices v (subst (λ (k : ℕ). v < k) (sym (image-sites image)) l) in (
-            λ x. (x .0, subst (λ (k : ℕ). x .0 < k) (sym c) (x .1), x .2 ∙ sym (slice-on n image v l (x .0) (omega (arith, x .1, c, few)))),
-            λ x. (x .0, subst (λ (k : ℕ). x .0 < k) c (x .1), x .2 ∙ slice-on n image v l (x .0) (omega (arith, x .1, few))),
-          ),
-    )
+    let c = image-checked image e in
+    (table-exact (tableOn image) .0 c, image-sites image, λ v q l. slices-filed (sitesOn image) image v l c q)
 
 -- the line of a site
 pub is-drill : (drill live v : ℕ) → v ≤ 63 → (mark v drill live ≡ 1) ↔ ((v ∈ drill) × (v ∈ live → ⊥))

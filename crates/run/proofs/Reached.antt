@@ -10,6 +10,7 @@ use native.Mathlib.Omega.{arith}
 use lib.Bits.{bitOr}
 use lib.Count.{ones-le}
 use lib.Pow.{ones-lt}
+use Rattle.chain_table.proofs.Chain.{chain, chain-checked, chain-sites}
 use Rattle.ground.proofs.Logic.{clash}
 use Rattle.ground.specs.Alike.{alike}
 use Rattle.masks.proofs.Laws.Single.{∈-or, ∈-single}
@@ -17,7 +18,7 @@ use Rattle.masks.proofs.Laws.Subsets.{not-in-zero, minus-⊆, minus-not-in, min
 use Rattle.masks.specs.Mask.{single, minus, allBelow, others, _∈_, _⊆_}
 use Rattle.run.specs.Theorems.{Reached}
 use Rattle.run.proofs.Bound.{at, iter-at, few}
-use Rattle.run.proofs.Chain.{chain, chain-table, chain-rests, Chained, chained}
+use Rattle.run.proofs.Chain.{Chained, chain-rests, chained}
 use Rattle.pass.proofs.Lawful.{vote-lawful}
 use Rattle.votes.proofs.AnyVote.{spends, is-run}
 use Rattle.votes.proofs.Passes.{pass-up}
@@ -37,9 +38,7 @@ use Rattle.rules.specs.Sound.{Sound}
 use Rattle.rules.specs.State.{votes, accepts, voted, accepted, width, get}
 use Rattle.rules.specs.Theorems.{Rests}
 use Rattle.rules.specs.Vote.{vote}
-use Rattle.sets.specs.Groups.{lists, questions}
-use Rattle.table.proofs.Exact.{sound}
-use Rattle.table.proofs.Table.{sites-of}
+use Rattle.sets.specs.Groups.{questions}
 use Rattle.votes.specs.Passes.{pass}
 use Rattle.votes.specs.Call.{propose, call, Call}
 use Rattle.votes.specs.Vote.{step, fresh, runOf}
@@ -182,13 +181,13 @@ module _ {Σ : ℕ → Fbqs} {Q : Questions} (j : ℕ) (more : 1 ≤ j) (R : Res
 pub reached : Reached
 reached zero two few = absurd (omega arith)
 reached (suc j) two few =
-    let T = chain-table (suc j) two few in
-    let t = lists (chain (suc j)) in (
+    let t = chain (suc j) in
+    let n-sites = chain-sites (suc j) two few in (
       t,
       longest j,
-      sound T,
-      sites-of T,
+      chain-checked (suc j) two few,
+      n-sites,
       ap suc (links-length (suc j)) ∙ omega arith,
-      subst (λ (m : ℕ). runOf (vote (questions t) m 0) (longest j) .passes ≡ suc j + 3) (sym (sites-of T))
+      subst (λ (m : ℕ). runOf (vote (questions t) m 0) (longest j) .passes ≡ suc j + 3) (sym n-sites)
           (longest-passes j (omega arith) (chain-rests two few) (chained two few)),
     )

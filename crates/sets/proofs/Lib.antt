@@ -1,5 +1,6 @@
 pub mod Quorum
 pub mod Slices
+pub mod Before
 pub mod Lawful
 pub mod Decides
 pub mod Promises

@@ -1,6 +1,7 @@
 pub mod Paper
 pub mod Slices
 pub mod Thresholds
+pub mod Before
 pub mod Quorum
 pub mod Promises
 pub mod Forms
