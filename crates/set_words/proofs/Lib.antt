@@ -1,0 +1,4 @@
+pub mod Places
+pub mod WordLaws
+pub mod Joining
+
