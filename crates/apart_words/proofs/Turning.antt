@@ -22,7 +22,7 @@ use Rattle.masks.proofs.Laws.Subsets.{mem, ⊆-antisym, ⊆-le, ∈-below, or-�
 use Rattle.masks.specs.Mask.{has, single, minus, _∈_, _⊆_}
 use Rattle.set_words.specs.Inner.{Says, said, Without, Spread}
 use Rattle.set_words.proofs.Places.{has-shr, has-shifted, has-shifted-low, low-has, high-has, each-site}
-use Rattle.set_words.proofs.WordLaws.{said-at, says-at}
+use Rattle.set_words.proofs.WordLaws.{said-at, says-at, says-change}
 use Rattle.apart_words.specs.Inner.{Turn, turnedAt, turnedUnless, Faces, Turned, Beside}
 
 -- one word: with site x the sets without it, without it both
@@ -193,6 +193,17 @@ module _ (x w : ℕ) {j : ℕ} (few : x < 6) (l : j < 64) where
     where
       word : ℕ
       word = getD old w 0
+
+-- a site of b stays, another is turned
+
+module _ (b x : ℕ) (old : List ℕ) where
+  pub unless-in : length old ≡ 64 → has b x ≡ true → Says (turnedUnless b x old) old
+  unfolding turnedUnless
+  unless-in l e = record { long = l; each = λ w j lw lj. sym (said-at old w j lj) ∙ sym (ap (λ c. cond c (said old (w * 64 + j)) (turnedAt x old (w * 64 + j))) e) }
+
+  pub unless-out : {new : List ℕ} → has b x ≡ false → Says (turnedAt x old) new → Says (turnedUnless b x old) new
+  unfolding turnedUnless
+  unless-out e = says-change (λ s l. sym (ap (λ c. cond c (said old s) (turnedAt x old s)) e))
 
 -- sites that are turned one after the other
 

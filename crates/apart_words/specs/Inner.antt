@@ -8,6 +8,7 @@ use lib.ListN.{length, getD}
 use Rattle.masks.specs.Mask.{has, within, single, minus, _∈_, _⊆_}
 use Rattle.sets.specs.Quorum.{quorum}
 use Rattle.sets.specs.Slices.{Slices}
+use Rattle.verdicts.specs.Verdicts.{apart}
 use Rattle.set_words.specs.Inner.{said}
 
 -- the sets of a word that stay: those of low, if w contains high
@@ -18,6 +19,11 @@ pub record Kept (high w low word : ℕ) : Type 0 where
 unfoldable pub quorumWith : Slices → ℕ → ℕ → ℕ → Bool
 unfolding quorum within
 quorumWith r n b s = within b s && quorum (r .deleted b) n (minus s b)
+
+-- s contains b, and without b it has a quorum beside it then
+unfoldable pub apartWith : Slices → ℕ → ℕ → ℕ → Bool
+unfolding apart within
+apartWith r n b s = within b s && apart (r .deleted b) n (minus s b)
 
 -- of 64 sets: with site x those without it, without site x both
 pub record Turn (x word next : ℕ) : Type 0 where

@@ -133,7 +133,7 @@ fn search(table: &[u64], n: usize, b: u64, sets: &[u64; 64], words: &[u64; 64]) 
     while w < 64 {
         let both = sets[w] & words[(63 - w) | high];
         if both != 0 {
-            return masks::minus((w as u64) * 64 + u64::trailing_zeros(both) as u64, b);
+            return masks::minus((w as u64) * 64 + set_words::first(both), b);
         }
         w += 1;
     }

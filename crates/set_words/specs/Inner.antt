@@ -1,7 +1,7 @@
 -- Families of sets of at most 12 sites: 64 words, in which the set w * 64 + j is bit j of word w. So a word is a set of the sites 6 to 11, as its number says, with
 -- each set of the first six.
 use Prim.Native.Nat.{ℕ, zero, suc, _+_, _*_, _/_, _%_, _<_, _≤_}
-use mathlib.Core.Bool.{Bool, not}
+use mathlib.Core.Bool.{Bool, false, not}
 use mathlib.Core.List.{List}
 use mathlib.Core.Path.{_≡_}
 use lib.Bits.{bitOr}
@@ -82,3 +82,14 @@ pub record Spread (old new : List ℕ) : Type 0 where
   pub long : length new ≡ 64
   pub right : (w j : ℕ) → w < 64 → j ∈ getD new w 0 → (y : ℕ) × (y ⊆ w) × (j ∈ getD old y 0)
   pub full : (y w : ℕ) → w < 64 → y ⊆ w → getD old y 0 ⊆ getD new w 0
+
+-- the first member of a word, and the last
+pub record First (word j : ℕ) : Type 0 where
+  pub below : j < 64
+  pub member : j ∈ word
+  pub before : (y : ℕ) → y < j → has word y ≡ false
+
+pub record Last (word j : ℕ) : Type 0 where
+  pub below : j < 64
+  pub member : j ∈ word
+  pub behind : (y : ℕ) → j < y → has word y ≡ false

@@ -2,7 +2,7 @@
 ghost use mathlib.Core.Path.{_≡_};
 ghost use Prim.Native.Nat.{_<_, _+_, _*_, _^_};
 ghost use lib.ListN.{length};
-ghost use Rattle.set_words.specs.Inner.{Without, Lacking, Above, Spread, joins, Joined, nearPlace, farPlace};
+ghost use Rattle.set_words.specs.Inner.{Without, Lacking, Above, Spread, joins, Joined, nearPlace, farPlace, First, Last};
 
 // Of the sets of the first six sites, a bit each, those without site x.
 pub fn without(x: usize) -> u64
@@ -123,4 +123,20 @@ pub fn spread(words: &mut [u64; 64])
 {
     near(words);
     far(words);
+}
+
+// The first of the sets of a word that has one.
+pub fn first(word: u64) -> u64
+    requires { ⌜ (word ≡ 0 → ⊥) ⌝ }
+    ensures { λ r. ⌜ First word r ⌝ }
+{
+    u64::trailing_zeros(word) as u64
+}
+
+// The last of the sets of a word that has one.
+pub fn last(word: u64) -> u64
+    requires { ⌜ (word ≡ 0 → ⊥) ⌝ }
+    ensures { λ r. ⌜ Last word r ⌝ }
+{
+    63 - u64::leading_zeros(word) as u64
 }
