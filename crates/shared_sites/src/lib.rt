@@ -29,9 +29,11 @@ pub fn first_apart(table: &[u64], n: usize) -> u64
     requires { ⌜ n ≤ 12 ⌝ }
     ensures { λ r. ⌜ r ≡ firstApart (rulesOf (now (table .entry)) .inside) n ⌝ }
 {
-    let mut list = [0u64; 1024];
-    holders::fill(table, n, &mut list);
-    search::first_apart(table, n, &list, 0)
+    let mut above = [0u64; 64];
+    set_words::above(&mut above);
+    let mut sets = [18446744073709551615u64; 64];
+    inside_words::fitting(table, n, &above, &mut sets);
+    apart_words::first_apart(table, n, &above, 0, &mut sets)
 }
 
 // The largest quorum in the complement of a set of the first six sites; none for 64, which stands for no set.

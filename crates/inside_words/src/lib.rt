@@ -1,0 +1,103 @@
+// Which sets have a slice of a site inside, of all sets of at most 12 sites, as words; and in which sets each member has one.
+ghost use mathlib.Core.Path.{_≡_};
+ghost use mathlib.Core.Bool.{_&&_, _||_, not};
+ghost use Prim.Native.Nat.{_<_, _≤_, _+_, _*_};
+ghost use lib.ListN.{length};
+ghost use Rattle.masks.specs.Mask.{has};
+ghost use Rattle.table.specs.Table.{countOf};
+ghost use Rattle.sets.specs.Slices.{slicesOf};
+ghost use Rattle.sets.specs.Inner.Rows.{Rows, ListedRow, rulesOf};
+ghost use Rattle.set_words.specs.Inner.{Says, Above, said};
+ghost use Rattle.inside_words.specs.Inner.{Empty, Marked, fits};
+
+// Each slice that site v lists marks the sets that contain it and have the same sites of the last six.
+fn mark_listed(table: &[u64], n: usize, v: usize, above: &[u64; 64], words: &mut [u64; 64])
+    requires { ⌜ length (now table) ≡ 63 * n ⌝ }
+    requires { ⌜ ListedRow (now table) n v ⌝ }
+    requires { ⌜ n ≤ 12 ⌝ }
+    requires { ⌜ v < n ⌝ }
+    requires { ⌜ Above 64 (now above) ⌝ }
+    requires { ⌜ Marked (now table) v 0 (now words) ⌝ }
+    ensures { λ r. ⌜ Marked (now (table .entry)) v (countOf (now (table .entry)) v) (now (words .exit)) ⌝ }
+{
+    let many = table[63 * v] as usize;
+    let mut i: usize = 0;
+    while i < many {
+        let q = table[63 * v + 1 + i];
+        let w = (q / 64) as usize;
+        words[w] = words[w] | above[(q % 64) as usize];
+        i += 1;
+    }
+}
+
+// The sets that have a slice of site v inside, where its row lists its slices.
+fn inside_listed(table: &[u64], n: usize, v: usize, above: &[u64; 64], words: &mut [u64; 64])
+    requires { ⌜ length (now table) ≡ 63 * n ⌝ }
+    requires { ⌜ ListedRow (now table) n v ⌝ }
+    requires { ⌜ n ≤ 12 ⌝ }
+    requires { ⌜ v < n ⌝ }
+    requires { ⌜ Above 64 (now above) ⌝ }
+    requires { ⌜ Empty (now words) ⌝ }
+    ensures { λ r. ⌜ Says (slicesOf (now (table .entry)) .inside v) (now (words .exit)) ⌝ }
+{
+    mark_listed(table, n, v, above, words);
+    set_words::spread(words);
+}
+
+// The sets that have a slice of site v inside; none if there is no such site.
+pub fn inside(table: &[u64], n: usize, v: usize, above: &[u64; 64], words: &mut [u64; 64])
+    requires { ⌜ Rows (now table) n ⌝ }
+    requires { ⌜ n ≤ 12 ⌝ }
+    requires { ⌜ Above 64 (now above) ⌝ }
+    requires { ⌜ Empty (now words) ⌝ }
+    ensures { λ r. ⌜ Says (rulesOf (now (table .entry)) .inside v) (now (words .exit)) ⌝ }
+{
+    if n <= v {
+        return;
+    }
+    inside_listed(table, n, v, above, words);
+}
+
+// Of the sets those that site v is not in or that the words name.
+fn narrow(v: usize, words: &[u64; 64], sets: &mut [u64; 64])
+    requires { ⌜ v < 12 ⌝ }
+    requires { ⌜ length (now sets) ≡ 64 ⌝ }
+    ensures {
+        λ r. ⌜ Says (λ s. said (now (sets .entry)) s && (not (has s v) || said (now (words .entry)) s)) (now (sets .exit)) ⌝
+    }
+{
+    let mut w: usize = 0;
+    while w < 64 {
+        sets[w] = sets[w] & (set_words::lacking(v, w) | words[w]);
+        w += 1;
+    }
+}
+
+// Of the sets in which each member below v has a slice, those in which v has one, or is no member.
+fn narrow_by(table: &[u64], n: usize, v: usize, above: &[u64; 64], sets: &mut [u64; 64])
+    requires { ⌜ Rows (now table) n ⌝ }
+    requires { ⌜ n ≤ 12 ⌝ }
+    requires { ⌜ v < 12 ⌝ }
+    requires { ⌜ Above 64 (now above) ⌝ }
+    requires { ⌜ Says (fits (rulesOf (now table)) 0 v) (now sets) ⌝ }
+    ensures { λ r. ⌜ Says (fits (rulesOf (now (table .entry))) 0 (v + 1)) (now (sets .exit)) ⌝ }
+{
+    let mut words = [0u64; 64];
+    inside(table, n, v, above, &mut words);
+    narrow(v, &words, sets);
+}
+
+// The sets in which each member has a slice, of all sets.
+pub fn fitting(table: &[u64], n: usize, above: &[u64; 64], sets: &mut [u64; 64])
+    requires { ⌜ Rows (now table) n ⌝ }
+    requires { ⌜ n ≤ 12 ⌝ }
+    requires { ⌜ Above 64 (now above) ⌝ }
+    requires { ⌜ Says (fits (rulesOf (now table)) 0 0) (now sets) ⌝ }
+    ensures { λ r. ⌜ Says (fits (rulesOf (now (table .entry))) 0 12) (now (sets .exit)) ⌝ }
+{
+    let mut v: usize = 0;
+    while v < 12 {
+        narrow_by(table, n, v, above, sets);
+        v += 1;
+    }
+}
