@@ -1,6 +1,6 @@
 -- What is carried from one question to the next.
 use Prim.Native.Nat.{ℕ, _<_}
-use mathlib.Core.Bool.{cond}
+use mathlib.Core.Bool.{Bool, not, cond}
 use mathlib.Core.List.{List}
 use mathlib.Core.Path.{_≡_}
 use lib.Bits.{bitAnd}
@@ -21,3 +21,13 @@ pub record Asked (Q : Questions) (n : ℕ) (asked : List ℕ) : Type 0 where
   pub four : length asked ≡ 4
   pub known : (v : ℕ) → v < n → has (getD asked 1 0) v ≡ Q .inQuorum v (getD asked 0 0)
   pub bounds : Bounds Q (getD asked 2 0) (getD asked 3 0)
+
+-- what a run keeps of the sets asked in vain: number 1 bounds the sets inside number 0. Numbers 2 and 3 only say when to search next.
+pub record Known (Q : Questions) (known : List ℕ) : Type 0 where
+  pub four : length known ≡ 4
+  pub bounds : Bounds Q (getD known 0 0) (getD known 1 0)
+
+-- site v is not in what is left of w
+unfoldable pub hopeless : List ℕ → ℕ → ℕ → Bool
+unfolding boundedBy
+hopeless known v w = not (has (boundedBy (getD known 0 0) (getD known 1 0) w) v)

@@ -1,7 +1,8 @@
 // The questions that the voting asks of a checked table, the receiver first.
 ghost use mathlib.Core.Path.{_≡_};
 ghost use Prim.Native.Nat.{_<_};
-ghost use Rattle.asking.specs.Inner.{Asked, boundedBy};
+ghost use lib.ListN.{length};
+ghost use Rattle.asking.specs.Inner.{Asked, Known, boundedBy, hopeless};
 ghost use Rattle.sets.specs.Inner.Rows.{Rows, rowQuestions};
 
 // The receiver belongs to the largest quorum inside w.
@@ -82,4 +83,36 @@ pub fn belongs(table: &[u64], n: usize, receiver: usize, w: u64, asked: &mut [u6
     asked[0] = w;
     asked[1] = l;
     masks::has(l, receiver as u64)
+}
+
+// The receiver belongs to no quorum inside w: it is not in w, or not in what is known to bound w.
+pub fn is_hopeless(receiver: usize, w: u64, known: &[u64; 4]) -> bool
+    requires { ⌜ receiver < 64 ⌝ }
+    requires { ⌜ length (now known) ≡ 4 ⌝ }
+    ensures { λ r. ⌜ r ≡ hopeless (now (known .entry)) receiver w ⌝ }
+{
+    !masks::has(bounded(w, known[0], known[1]), receiver as u64)
+}
+
+// The set w, inside which the receiver belongs to no quorum, is put to the sets asked in vain. After 64 of them that were not bounded, the largest quorum inside
+// all of them together is searched for: it bounds them, and what is asked of sites that heard no more.
+pub fn note(table: &[u64], n: usize, w: u64, known: &mut [u64; 4])
+    requires { ⌜ Rows (now table) n ⌝ }
+    requires { ⌜ Known (rowQuestions (now table) n) (now known) ⌝ }
+    ensures { λ r. ⌜ Known (rowQuestions (now (table .entry)) n) (now (known .exit)) ⌝ }
+{
+    if masks::within(w, known[0]) {
+        return;
+    }
+    let all = known[2] | w;
+    known[2] = all;
+    let count = known[3];
+    if count < 64 {
+        known[3] = count + 1;
+        return;
+    }
+    known[3] = 0;
+    let l = rounds::largest_set(table, n, all);
+    known[0] = all;
+    known[1] = l;
 }
