@@ -1,2 +1,4 @@
+pub mod BoundLaws
 pub mod AskedLaws
+pub mod KnownLaws
 pub mod Coincide

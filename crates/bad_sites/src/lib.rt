@@ -1,11 +1,12 @@
 // Number 18, site by site: what the rules do not explain of a site, on one side or the other.
 ghost use mathlib.Core.Path.{_≡_};
-ghost use Prim.Native.Nat.{_<_};
+ghost use Prim.Native.Nat.{_<_, _≤_};
 ghost use lib.ListN.{length};
 ghost use Rattle.ground.specs.Search.{some};
 ghost use Rattle.rules.specs.State.{width};
 ghost use Rattle.rules.specs.Sound.{badSide, badSite};
 ghost use Rattle.asking.specs.Inner.{Asked};
+ghost use Rattle.bad_sites.specs.Inner.{namedIn, silentSite};
 ghost use Rattle.sets.specs.Inner.Rows.{Rows, rowQuestions};
 
 // One site and one side. A site that has nothing of the side is not asked further; the rules are asked last: they cost most.
@@ -16,7 +17,7 @@ fn is_bad_side(
     state: &[u64],
     v: usize,
     side: usize,
-    asked: &mut [u64; 2],
+    asked: &mut [u64; 4],
 ) -> bool
     requires { ⌜ Rows (now table) n ⌝ }
     requires { ⌜ length (now state) ≡ width n ⌝ }
@@ -46,38 +47,75 @@ fn is_bad_side(
     clauses::is_not_rule(table, n, v, votes, accepts, accepted, confirmed, asked)
 }
 
-// One site, both sides.
+// The site has heard nothing, and is not among those named by the masks.
+fn is_silent(state: &[u64], n: usize, v: usize, named: u64) -> bool
+    requires { ⌜ length (now state) ≡ width n ⌝ }
+    requires { ⌜ n ≤ 64 ⌝ }
+    requires { ⌜ v < n ⌝ }
+    ensures { λ r. ⌜ r ≡ silentSite named (now (state .entry)) v ⌝ }
+{
+    let votes = state[places::votes(0, v)] | state[places::votes(1, v)];
+    let accepts = state[places::accepts(0, v)] | state[places::accepts(1, v)];
+    if votes | accepts != 0 {
+        return false;
+    }
+    !masks::has(named, v as u64)
+}
+
+// One site, both sides. A site that has nothing of either is not asked further.
 fn is_bad_site(
     table: &[u64],
     n: usize,
     faulty: u64,
     state: &[u64],
     v: usize,
-    asked: &mut [u64; 2],
+    named: u64,
+    asked: &mut [u64; 4],
 ) -> bool
     requires { ⌜ Rows (now table) n ⌝ }
     requires { ⌜ length (now state) ≡ width n ⌝ }
     requires { ⌜ v < n ⌝ }
+    requires { ⌜ named ≡ namedIn n (now state) ⌝ }
     requires { ⌜ Asked (rowQuestions (now table) n) n (now asked) ⌝ }
     ensures { λ r. ⌜ r ≡ badSite (rowQuestions (now (table .entry)) n) n faulty (now (state .entry)) v ⌝ }
     ensures { λ r. ⌜ Asked (rowQuestions (now (table .entry)) n) n (now (asked .exit)) ⌝ }
 {
-    if is_bad_side(table, n, faulty, state, v, 0, asked) {
-        return true;
+    if is_silent(state, n, v, named) {
+        return false;
     }
-    is_bad_side(table, n, faulty, state, v, 1, asked)
+    let mut side: usize = 0;
+    while side < 2 {
+        if is_bad_side(table, n, faulty, state, v, side, asked) {
+            return true;
+        }
+        side += 1;
+    }
+    false
 }
 
-// Some site is bad.
-pub fn some_bad_site(table: &[u64], n: usize, faulty: u64, state: &[u64]) -> bool
+// The sites named by the six masks.
+fn named(n: usize, state: &[u64]) -> u64
+    requires { ⌜ length (now state) ≡ width n ⌝ }
+    requires { ⌜ n ≤ 64 ⌝ }
+    ensures { λ r. ⌜ r ≡ namedIn n (now (state .entry)) ⌝ }
+{
+    let voted = state[places::voted(n, 0)] | state[places::voted(n, 1)];
+    let accepted = state[places::accepted(n, 0)] | state[places::accepted(n, 1)];
+    let confirmed = state[places::confirmed(n, 0)] | state[places::confirmed(n, 1)];
+    voted | accepted | confirmed
+}
+
+// Some site is bad. What was heard is best inside the larger set: its largest quorum then bounds all that are searched for.
+pub fn some_bad_site(table: &[u64], n: usize, faulty: u64, state: &[u64], larger: u64) -> bool
     requires { ⌜ Rows (now table) n ⌝ }
     requires { ⌜ length (now state) ≡ width n ⌝ }
     ensures { λ r. ⌜ r ≡ some n (badSite (rowQuestions (now (table .entry)) n) n faulty (now (state .entry))) ⌝ }
 {
-    let mut asked = [0u64; 2];
+    let mut asked = [0, 0, larger, larger];
+    let named = named(n, state);
     let mut v: usize = 0;
     while v < n {
-        if is_bad_site(table, n, faulty, state, v, &mut asked) {
+        if is_bad_site(table, n, faulty, state, v, named, &mut asked) {
             return true;
         }
         v += 1;

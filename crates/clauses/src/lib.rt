@@ -57,14 +57,15 @@ pub fn is_not_own(v: usize, votes: u64, accepts: u64, voted: u64, accepted: u64)
     )
 }
 
-// Site v accepts from the votes and accepts that it heard, its own accept not counted.
+// Site v accepts from the votes and accepts that it heard, its own accept not counted. If it is the set asked last, its answer is kept. `asking::belongs` is
+// called here and in `is_confirming`, so that it is a function of its own, and these two stand in the walk over the sites.
 fn is_accepting(
     table: &[u64],
     n: usize,
     v: usize,
     votes: u64,
     accepts: u64,
-    asked: &mut [u64; 2],
+    asked: &mut [u64; 4],
 ) -> bool
     requires { ⌜ Rows (now table) n ⌝ }
     requires { ⌜ v < n ⌝ }
@@ -76,7 +77,31 @@ fn is_accepting(
     if asking::blocked(table, n, v, others) {
         return true;
     }
-    asking::belongs(table, n, v, votes | others, asked)
+    let w = votes | others;
+    if !masks::has(w, v as u64) {
+        return false;
+    }
+    if w == asked[0] {
+        return masks::has(asked[1], v as u64);
+    }
+    asking::belongs(table, n, v, w, asked)
+}
+
+// Site v confirms from the accepts that it heard. If it is the set asked last, its answer is kept.
+fn is_confirming(table: &[u64], n: usize, v: usize, accepts: u64, asked: &mut [u64; 4]) -> bool
+    requires { ⌜ Rows (now table) n ⌝ }
+    requires { ⌜ v < n ⌝ }
+    requires { ⌜ Asked (rowQuestions (now table) n) n (now asked) ⌝ }
+    ensures { λ r. ⌜ r ≡ rowQuestions (now (table .entry)) n .inQuorum v accepts ⌝ }
+    ensures { λ r. ⌜ Asked (rowQuestions (now (table .entry)) n) n (now (asked .exit)) ⌝ }
+{
+    if !masks::has(accepts, v as u64) {
+        return false;
+    }
+    if accepts == asked[0] {
+        return masks::has(asked[1], v as u64);
+    }
+    asking::belongs(table, n, v, accepts, asked)
 }
 
 // Accepted or confirmed other than the rules give from what was heard.
@@ -88,7 +113,7 @@ pub fn is_not_rule(
     accepts: u64,
     accepted: u64,
     confirmed: u64,
-    asked: &mut [u64; 2],
+    asked: &mut [u64; 4],
 ) -> bool
     requires { ⌜ Rows (now table) n ⌝ }
     requires { ⌜ v < n ⌝ }
@@ -104,7 +129,7 @@ pub fn is_not_rule(
     }
     differ(
         masks::has(confirmed, v as u64),
-        asking::belongs(table, n, v, accepts, asked),
+        is_confirming(table, n, v, accepts, asked),
     )
 }
 

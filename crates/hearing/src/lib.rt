@@ -22,7 +22,7 @@ fn vote(n: usize, state: &mut [u64], v: usize, side: usize)
 }
 
 // What the receiver hears, by the kind of the call.
-fn hear(n: usize, state: &mut [u64], kind: usize, from: usize, to: usize, side: usize)
+pub fn hear(n: usize, state: &mut [u64], kind: usize, from: usize, to: usize, side: usize)
     requires { ⌜ length (now state) ≡ width n ⌝ }
     requires { ⌜ n ≤ 64 ⌝ }
     requires { ⌜ InRange n (call kind from to side) ⌝ }

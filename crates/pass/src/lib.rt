@@ -5,7 +5,8 @@ ghost use lib.ListN.{length};
 ghost use Rattle.rules.specs.Inner.{rowVote};
 ghost use Rattle.pass.specs.Calls.{calls, callAt};
 ghost use Rattle.pass.specs.Inner.{Passed};
-ghost use Rattle.sets.specs.Inner.Rows.{Rows};
+ghost use Rattle.asking.specs.Inner.{Known};
+ghost use Rattle.sets.specs.Inner.Rows.{Rows, rowQuestions};
 ghost use Rattle.votes.specs.Inner.{Works};
 use refusals::Check;
 
@@ -17,12 +18,15 @@ pub fn work_at(
     list: &[u8],
     i: usize,
     state: &mut [u64],
+    known: &mut [u64; 4],
 ) -> taking::Worked
     requires { ⌜ Rows (now table) n ⌝ }
     requires { ⌜ rowVote (now table) n faulty .Sound (now state) ⌝ }
     requires { ⌜ 4 * i + 3 < length (now list) ⌝ }
+    requires { ⌜ Known (rowQuestions (now table) n) (now known) ⌝ }
     ensures { λ r. ⌜ Works (rowVote (now (table .entry)) n faulty) (callAt (now (list .entry)) i)
         (now (state .entry)) (r .answer) (r .changed) (now (state .exit)) ⌝ }
+    ensures { λ r. ⌜ Known (rowQuestions (now (table .entry)) n) (now (known .exit)) ⌝ }
 {
     let at = 4 * i;
     let kind = le::wide(list[at]);
@@ -36,7 +40,7 @@ pub fn work_at(
             changed: false,
         };
     };
-    let changed = taking::change(table, n, faulty, state, kind, from, to, side);
+    let changed = taking::change(table, n, faulty, state, kind, from, to, side, known);
     taking::Worked { answer: a, changed }
 }
 
@@ -48,17 +52,20 @@ pub fn over_all(
     list: &[u8],
     state: &mut [u64],
     answers: &mut [u8],
+    known: &mut [u64; 4],
 ) -> bool
     requires { ⌜ Rows (now table) n ⌝ }
     requires { ⌜ rowVote (now table) n faulty .Sound (now state) ⌝ }
     requires { ⌜ length (now list) ≡ 4 * length (now answers) ⌝ }
+    requires { ⌜ Known (rowQuestions (now table) n) (now known) ⌝ }
     ensures { λ r. ⌜ Passed (rowVote (now (table .entry)) n faulty) (calls (now (list .entry)))
         (now (state .entry)) r (now (state .exit)) (now (answers .exit)) ⌝ }
+    ensures { λ r. ⌜ Known (rowQuestions (now (table .entry)) n) (now (known .exit)) ⌝ }
 {
     let mut changed = false;
     let mut i: usize = 0;
     while i < answers.len() {
-        let worked = work_at(table, n, faulty, list, i, state);
+        let worked = work_at(table, n, faulty, list, i, state, known);
         let answer = worked.answer;
         answers[i] = refusals::code(answer);
         changed = changed | worked.changed;

@@ -1,18 +1,17 @@
 // Number 18: a state that the rules do not explain, as a whole.
 ghost use mathlib.Core.Path.{_≡_};
-ghost use Prim.Native.Nat.{_≤_};
+ghost use Prim.Native.Nat.{ℕ};
 ghost use mathlib.Core.Bool.{not};
 ghost use lib.ListN.{length};
 ghost use Rattle.ground.specs.Search.{some};
-ghost use Rattle.masks.specs.Mask.{within, allBelow};
+ghost use Rattle.masks.specs.Mask.{within};
 ghost use Rattle.rules.specs.State.{get};
 ghost use Rattle.rules.specs.Sound.{unsound};
 ghost use Rattle.sets.specs.Inner.Rows.{Rows, rowQuestions};
 
-// A bit at or above n in one of the state's numbers. No branch in the loop.
-fn some_bit_above(n: usize, state: &[u64]) -> bool
-    requires { ⌜ n ≤ 64 ⌝ }
-    ensures { λ r. ⌜ r ≡ some (length (now (state .entry))) (λ i. not (within (get (now (state .entry)) i) (allBelow n))) ⌝ }
+// The sites named by the state's numbers, all together. No branch in the loop.
+fn together(state: &[u64]) -> u64
+    ensures { λ r. ⌜ ((u : ℕ) → not (within r u) ≡ some (length (now (state .entry))) (λ i. not (within (get (now (state .entry)) i) u))) ⌝ }
 {
     let mut any = 0u64;
     let mut i: usize = 0;
@@ -20,7 +19,7 @@ fn some_bit_above(n: usize, state: &[u64]) -> bool
         any = any | state[i];
         i += 1;
     }
-    !masks::within(any, masks::all_below(n as u64))
+    any
 }
 
 // The state is unsound.
@@ -31,7 +30,8 @@ pub fn is_unsound(table: &[u64], n: usize, faulty: u64, state: &[u64]) -> bool
     if state.len() != places::width(n) {
         return true;
     }
-    if some_bit_above(n, state) {
+    let any = together(state);
+    if !masks::within(any, masks::all_below(n as u64)) {
         return true;
     }
     let drill = state[places::voted(n, 0)];
@@ -39,5 +39,5 @@ pub fn is_unsound(table: &[u64], n: usize, faulty: u64, state: &[u64]) -> bool
     if drill & live != 0 {
         return true;
     }
-    bad_sites::some_bad_site(table, n, faulty, state)
+    bad_sites::some_bad_site(table, n, faulty, state, any)
 }

@@ -15,5 +15,6 @@ work-coincide κs a x y s t p q = (
   p .state ∙ sym (q .state),
 )
 
+-- of what is kept from one call to the next the contract says what it knows
 pub change-coincide : All change-kinds.ps change-kinds.r (List ℕ) (λ κs s. now (s .1 .1 .1 .0)) change-reads.Post
-change-coincide κs a x y s t p q = (p .changes ∙ sym (q .changes), p .state ∙ sym (q .state))
+change-coincide κs a x y s t p q = (p .0 .changes ∙ sym (q .0 .changes), p .0 .state ∙ sym (q .0 .state))

@@ -1,5 +1,6 @@
 // A call on a sound state: its answer, and whether the state changed.
 ghost use mathlib.Core.Path.{_≡_};
+ghost use Rattle.asking.specs.Inner.{Known};
 ghost use Rattle.refusals.specs.declared.Check as Answer;
 ghost use Rattle.rules.specs.Rules.{answer};
 ghost use Rattle.rules.specs.Sound.{Sound};
@@ -9,7 +10,8 @@ ghost use Rattle.votes.specs.Call.{call};
 ghost use Rattle.votes.specs.Inner.{Works};
 use refusals::Check;
 
-// A call that is answered 0, on a sound state: whether it changes the state. A call whose bit is heard already changes nothing and is not worked out again.
+// A call that is answered 0, on a sound state: whether it changes the state. A call whose bit is heard already changes nothing and is not worked out again, and
+// of a vote that is heard in vain nothing else changes.
 pub fn change(
     table: &[u64],
     n: usize,
@@ -19,16 +21,24 @@ pub fn change(
     from: usize,
     to: usize,
     side: usize,
+    known: &mut [u64; 4],
 ) -> bool
     requires { ⌜ Rows (now table) n ⌝ }
     requires { ⌜ Sound (rowQuestions (now table) n) n faulty (now state) ⌝ }
     requires { ⌜ answer n faulty (call kind from to side) (now state) ≡ Answer.Check.Sound ⌝ }
+    requires { ⌜ Known (rowQuestions (now table) n) (now known) ⌝ }
     ensures { λ r. ⌜ Works (rowVote (now (table .entry)) n faulty) (call kind from to side) (now (state .entry)) Answer.Check.Sound r (now (state .exit)) ⌝ }
+    ensures { λ r. ⌜ Known (rowQuestions (now (table .entry)) n) (now (known .exit)) ⌝ }
 {
     if answers::is_heard(n, state, kind, from, to, side) {
         return false;
     }
+    if vain::is_vain(n, state, kind, from, to, side, known) {
+        hearing::hear(n, state, kind, from, to, side);
+        return true;
+    }
     hearing::take(table, n, state, kind, from, to, side);
+    vain::note(table, n, state, to, side, known);
     true
 }
 

@@ -16,7 +16,7 @@ returns-2 : tie.Need-returns-2
 returns-2 c =
     let first = c .before .before .before .before in
     let a = first .before .before .before .before .before .before .args in
-    let r = c .before .belongs .ensures in (
+    let r = c .before .is-confirming .ensures in (
       rule-confirmed (rowQuestions (now (a .table)) (a .n)) (a .v) (a .votes) (a .accepts) (a .accepted) (a .confirmed) (first .before .before .before .before .has .ensures)
           (first .before .before .is-accepting .ensures .0) (first .before .differ .ensures) (first .if1 .left) (c .before .before .before .has2 .ensures) (r .0)
           (c .differ2 .ensures),

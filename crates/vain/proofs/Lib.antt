@@ -1,0 +1,2 @@
+pub mod VainLaws
+pub mod Coincide
