@@ -32,7 +32,7 @@ use Rattle.threshold_image.specs.Inner.{rowsOf}
 use Rattle.threshold_row.proofs.Load.{row-count}
 use Rattle.threshold_row.proofs.Loaded.{loaded, loaded-met}
 use Rattle.threshold_row.specs.Inner.Row.{setsOf, rowOf}
-use Rattle.threshold_sets.proofs.Alike.{Agree, agree-back, sound-alike}
+use Rattle.threshold_sets.proofs.Alike.{Agree, agree-sym, sound-alike}
 use Rattle.threshold_sets.specs.Check.{SoundSets}
 use Rattle.threshold_sets.specs.Met.{met}
 
@@ -64,7 +64,7 @@ module _ {image : List ℕ} {n : ℕ} (bytes : Bytes image) (H : Thresholds imag
         few-sites = H .few-sites;
         listed = λ v l o. absurd (clash (of-sets v l) o);
         sets = λ v l o.
-            subst (λ (m : List ℕ). SoundSets n (setsOf m)) (sym (site-row v l)) (sound-alike (agree-back (agree v)) (H .sets v l .few-sets) (H .sets v l));
+            subst (λ (m : List ℕ). SoundSets n (setsOf m)) (sym (site-row v l)) (sound-alike (agree-sym (agree v)) (H .sets v l .few-sets) (H .sets v l));
       }
 
   same-inside : (v u : ℕ) → rulesOf (rowsOf n image) .inside v u ≡ thresholdsOf image n .inside v u

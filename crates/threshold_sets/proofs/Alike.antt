@@ -28,15 +28,6 @@ agree-sym a =
       plain-alike = λ i l. sym (a .plain-alike i l);
     }
 
-pub agree-back : {k : ℕ} {S T : ThresholdSets} → Agree k S T → Agree k T S
-agree-back a =
-    record {
-      count-alike = sym (a .count-alike);
-      threshold-alike = λ i l. sym (a .threshold-alike i l);
-      inner-alike = λ i l. sym (a .inner-alike i l);
-      plain-alike = λ i l. sym (a .plain-alike i l);
-    }
-
 -- of sets that are alike but for their plain sites, and there in what is present
 module _ (S T : ThresholdSets) (u w k : ℕ) (few : S .count ≤ k) (counts : S .count ≡ T .count)
     (thresholds : (i : ℕ) → i < k → S .threshold i ≡ T .threshold i) (inners : (i : ℕ) → i < k → S .inner i ≡ T .inner i)
