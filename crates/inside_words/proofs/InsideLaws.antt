@@ -21,8 +21,8 @@ use Rattle.masks.proofs.Laws.Subsets.{mem, not-in-zero, ⊆-refl, ⊆-trans, �
 use Rattle.masks.specs.Mask.{has, within, _∈_, _⊆_}
 use Rattle.sets.specs.Slices.{Slices, slicesOf}
 use Rattle.sets.proofs.Slices.{inside-of, inside-ex}
-use Rattle.sets.proofs.Rows.{listed-inside, rows-lawful}
-use Rattle.sets.specs.Inner.Rows.{Rows, ListedRow, rulesOf}
+use Rattle.sets.proofs.Rows.{lists-inside, rows-lawful}
+use Rattle.sets.specs.Inner.Rows.{ofSets, Rows, ListedRow, rulesOf}
 use Rattle.table.specs.Table.{countOf, sliceOf}
 use Rattle.set_words.specs.Inner.{Says, said, Above, Lacking, Spread}
 use Rattle.set_words.proofs.Places.{parts-⊆, low-⊆, high-⊆}
@@ -141,8 +141,8 @@ inside-site {t} {n} rows v u e = let x = rows-lawful rows .slice-inside v u e in
 -- by the rows' rules: of a listed row, and of a site that is none
 
 module _ {t : List ℕ} {n : ℕ} (rows : Rows t n) (v : ℕ) where
-  pub says-listed : {words : List ℕ} → v < n → Says (slicesOf t .inside v) words → Says (rulesOf t .inside v) words
-  says-listed l = says-change (λ s ls. sym (listed-inside (rows .listed v l) s))
+  pub says-listed : {words : List ℕ} → ofSets t v ≡ false → Says (slicesOf t .inside v) words → Says (rulesOf t .inside v) words
+  says-listed o = says-change (λ s ls. sym (lists-inside t v o s))
 
   pub says-nobody : {words : List ℕ} → n ≤ v → Empty words → Says (rulesOf t .inside v) words
   says-nobody l h =

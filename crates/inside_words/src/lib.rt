@@ -1,12 +1,12 @@
 // Which sets have a slice of a site inside, of all sets of at most 12 sites, as words; and in which sets each member has one.
 ghost use mathlib.Core.Path.{_≡_};
-ghost use mathlib.Core.Bool.{_&&_, _||_, not};
+ghost use mathlib.Core.Bool.{true, _&&_, _||_, not};
 ghost use Prim.Native.Nat.{_<_, _≤_, _+_, _*_};
 ghost use lib.ListN.{length};
-ghost use Rattle.masks.specs.Mask.{has};
+ghost use Rattle.masks.specs.Mask.{has, gather};
 ghost use Rattle.table.specs.Table.{countOf};
 ghost use Rattle.sets.specs.Slices.{slicesOf};
-ghost use Rattle.sets.specs.Inner.Rows.{Rows, ListedRow, rulesOf};
+ghost use Rattle.sets.specs.Inner.Rows.{ofSets, Rows, ListedRow, rulesOf};
 ghost use Rattle.set_words.specs.Inner.{Says, Above, said};
 ghost use Rattle.inside_words.specs.Inner.{Empty, Marked, fits};
 
@@ -44,6 +44,40 @@ fn inside_listed(table: &[u64], n: usize, v: usize, above: &[u64; 64], words: &m
     set_words::spread(words);
 }
 
+// Of a row of sets: which sets of word w have a slice of site v inside.
+pub fn met_word(table: &[u64], n: usize, v: usize, w: usize) -> u64
+    requires { ⌜ Rows (now table) n ⌝ }
+    requires { ⌜ v < n ⌝ }
+    requires { ⌜ ofSets (now table) v ≡ true ⌝ }
+    requires { ⌜ w < 64 ⌝ }
+    ensures { λ r. ⌜ r ≡ gather 64 (λ j. rulesOf (now (table .entry)) .inside v (w * 64 + j)) ⌝ }
+{
+    let mut word = 0u64;
+    let mut j: usize = 0;
+    while j < 64 {
+        if sets::has_met(table, n, v, (w * 64 + j) as u64) {
+            word = word | masks::single(j as u64);
+        }
+        j += 1;
+    }
+    word
+}
+
+// The sets that have a slice of site v inside, where its row holds sets with thresholds.
+fn inside_met(table: &[u64], n: usize, v: usize, words: &mut [u64; 64])
+    requires { ⌜ Rows (now table) n ⌝ }
+    requires { ⌜ v < n ⌝ }
+    requires { ⌜ ofSets (now table) v ≡ true ⌝ }
+    requires { ⌜ length (now words) ≡ 64 ⌝ }
+    ensures { λ r. ⌜ Says (rulesOf (now (table .entry)) .inside v) (now (words .exit)) ⌝ }
+{
+    let mut w: usize = 0;
+    while w < 64 {
+        words[w] = met_word(table, n, v, w);
+        w += 1;
+    }
+}
+
 // The sets that have a slice of site v inside; none if there is no such site.
 pub fn inside(table: &[u64], n: usize, v: usize, above: &[u64; 64], words: &mut [u64; 64])
     requires { ⌜ Rows (now table) n ⌝ }
@@ -53,6 +87,10 @@ pub fn inside(table: &[u64], n: usize, v: usize, above: &[u64; 64], words: &mut 
     ensures { λ r. ⌜ Says (rulesOf (now (table .entry)) .inside v) (now (words .exit)) ⌝ }
 {
     if n <= v {
+        return;
+    }
+    if sets::of_sets(table, n, v) {
+        inside_met(table, n, v, words);
         return;
     }
     inside_listed(table, n, v, above, words);
