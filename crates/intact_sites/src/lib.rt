@@ -20,12 +20,5 @@ pub fn intact(table: &[u64], n: usize, f: u64) -> u64
     if left == 0 {
         return 0;
     }
-    let mut list = [0u64; 1024];
-    holders::fill(table, n, &mut list);
-    search::intact(
-        table,
-        n,
-        &list,
-        masks::minus(masks::all_below(n as u64), left),
-    )
+    search::intact(table, n, left)
 }

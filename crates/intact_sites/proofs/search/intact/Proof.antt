@@ -1,78 +1,81 @@
--- `intact` meets its contract: the intact sites are gathered from the sets below b that contain f.
-use Prim.Native.Nat.{ℕ, _+_, _-_, _≤_, _<_}
-use mathlib.Core.Path.{sym, ap, _∙_, subst}
-use native.Mathlib.Omega.{arith}
-use lib.Bits.{bitOr}
+-- `intact` meets its contract: the sites outside left are left out of what is kept, and the quorums inside left are found.
+use Prim.Native.Nat.{ℕ, _^_, _<_}
+use mathlib.Core.Bool.{_&&_}
+use mathlib.Core.List.{List}
+use mathlib.Core.Path.{_≡_, sym, ap, _∙_, subst}
+use native.Mathlib.Nat.{lt-of-lt-of-le}
+use lib.Bits.{bitAnd}
+use lib.Dec.{eqb}
+use lib.ListN.{length-replicate}
+use lib.Pow.{ones-lt, pow-mono}
 use borrow.Author.Needs.{needs}
 use denote.Ref.{now}
-use Rattle.masks.proofs.Laws.Subsets.{⊆-refl, ⊆-le, or-⊆-l, or-⊆-r}
-use Rattle.masks.specs.Mask.{minus, _⊆_}
-use Rattle.verdicts.specs.Inner.{Gathered}
-use Rattle.verdicts.proofs.VerdictLaws.{gathered-none, gathered-more, gathered-end, gathered-all}
+use Rattle.masks.proofs.Laws.Subsets.{minus-lt}
+use Rattle.masks.specs.Mask.{minus, allBelow}
+use Rattle.sets.specs.Inner.Rows.{rulesOf}
+use Rattle.set_words.specs.Inner.{Says}
+use Rattle.inside_words.specs.Inner.{fits}
+use Rattle.inside_words.proofs.InsideLaws.{fits-none}
+use Rattle.contents.specs.Inner.{Contents}
+use Rattle.intact_sites.proofs.IntactLaws.{quorums-said}
 use Rattle.intact_sites.proofs.search.intact.Statement.{statement}
 use Rattle.intact_sites.proofs.search.intact.Tie as tie
-use Rattle.sets.specs.Inner.Rows.{rulesOf}
 
-abbrev Inv-loop : tie.InvT-loop
-Inv-loop table n list f end correct set₀ b₀ set b = (f ⊆ b) × Gathered (rulesOf table) n f b set
+fill-requires : tie.Need-fill-requires
+fill-requires c κs =
+    let p = c .before .before .before .before .before .before .before .pre in
+    (p .0, (p .1 .0, (c .before .before .above2 .ensures, length-replicate {A = ℕ} 768 0)))
 
-abbrev μ-loop : tie.MeasureT-loop
-μ-loop table n list f end correct set₀ b₀ set b = end - b
+fitting-requires : tie.Need-fitting-requires
+fitting-requires c κs =
+    let a = c .before .before .before .before .before .before .before .before .before .before .args in
+    (c .before .before .fill .ensures, fits-none (rulesOf (now (a .table))) (c .before .before .before .before .before .before .before .minus .result))
 
-loop-holds : tie.Need-loop-holds Inv-loop μ-loop
-loop-holds c =
-    let a = c .before .before .before .before .args in
-    (⊆-refl (a .f), gathered-none (rulesOf (now (a .table))) (a .n) (a .f))
+lack-requires : tie.Need-lack-requires
+lack-requires c κs =
+    let s = c .before .before .before .before .before .before .before .before .before .before .before .before in
+    let a = s .args in
+    let m = c .before .before .before .before .before .before .before .before .before .minus in
+    let e : m .result ≡ minus (allBelow (a .n)) (a .left) = m .ensures ∙ ap (λ (x : ℕ). minus x (a .left)) (c .before .before .before .before .before .before .before .before .before .before .all-below .ensures) in
+    (subst (λ (x : ℕ). x < 4096) (sym e) (lt-of-lt-of-le (minus-lt (a .n) (allBelow (a .n)) (a .left) (ones-lt (a .n))) (pow-mono (s .pre .1 .0))), c .before .fitting .ensures .long)
 
-spared-requires : tie.Need-spared-requires Inv-loop μ-loop
-spared-requires c κs =
-    let p = c .before .before .before .before .before .before .pre in
-    (p .0, (p .1 .0, subst (λ (k : ℕ). c .before .loop .b < k) (c .before .before .before .before .single .ensures) (c .loop-test .taken)))
-
-returns : tie.Need-returns Inv-loop μ-loop
-returns c =
-    let a = c .before .before .before .before .before .before .before .before .args in
+gather-requires : tie.Need-gather-requires
+gather-requires c κs =
+    let s = c .before .before .before .before .before .before .before .before .before .before .before .before .before .before .before .before in
+    let a = s .args in
+    let p = s .pre in
     let r = rulesOf (now (a .table)) in
-    let l = c .before .before .before .loop in
-    gathered-all r (a .n) (c .if1 .taken ∙ c .before .before .before .before .minus .ensures ∙ ap (λ (x : ℕ). minus x (a .f)) (c .before .before .before .before .before .all-below .ensures))
-    (subst (λ (x : ℕ). Gathered r (a .n) (a .f) (bitOr (l .b + 1) (a .f)) x) (sym (c .before .spared .ensures))
-    (gathered-more r (a .n) (subst (λ (k : ℕ). l .b < k) (c .before .before .before .before .before .before .single .ensures) (c .before .before .loop-test .taken)) (l .inv .0) (l .inv .1)))
-
-loop-less : tie.Need-loop-less Inv-loop μ-loop
-loop-less c =
-    let a = c .before .before .before .before .before .before .before .before .args in
-    let l = c .before .before .before .loop in
-    omega (arith, ⊆-le (or-⊆-l (l .b + 1) (a .f)))
-
-loop-again : tie.Need-loop-again Inv-loop μ-loop
-loop-again c =
-    let a = c .before .before .before .before .before .before .before .before .args in
-    let r = rulesOf (now (a .table)) in
-    let l = c .before .before .before .loop in (
-      or-⊆-r (l .b + 1) (a .f),
-      subst (λ (x : ℕ). Gathered r (a .n) (a .f) (bitOr (l .b + 1) (a .f)) x) (sym (c .before .spared .ensures))
-          (gathered-more r (a .n) (subst (λ (k : ℕ). l .b < k) (c .before .before .before .before .before .before .single .ensures) (c .before .before .loop-test .taken)) (l .inv .0) (l .inv .1)),
+    let m = c .before .before .before .before .before .before .before .before .before .before .before .before .before .minus in
+    let e : m .result ≡ minus (allBelow (a .n)) (a .left) =
+    m .ensures ∙ ap (λ (x : ℕ). minus x (a .left)) (c .before .before .before .before .before .before .before .before .before .before .before .before .before .before .all-below .ensures) in
+    let fill = c .before .before .before .before .before .before .before .before .fill in
+    let lack = c .before .before .before .lack in (
+      p .0,
+      (
+        p .1 .0,
+        (
+          p .1 .1,
+          (
+            c .before .before .before .before .before .before .before .before .before .before .before .above2 .ensures,
+            (
+              subst (λ (x : ℕ). Contents r x 12 (fill .last .1 .1 .1 .1 .0)) e (fill .ensures),
+              subst (λ (x : ℕ). Says (λ u. fits r x 12 u && eqb (bitAnd u x) 0) (lack .last .1 .0)) e
+                  (quorums-said r (m .result) (c .before .before .before .before .before .fitting .ensures) (lack .ensures)),
+            ),
+          ),
+        ),
+      ),
     )
-
-returns-2 : tie.Need-returns-2 Inv-loop μ-loop
-returns-2 c =
-    let a = c .before .before .before .before .before .before .args in
-    let l = c .before .loop in
-    gathered-end (rulesOf (now (a .table))) (a .n) (subst (λ (k : ℕ). k ≤ l .b) (c .before .before .before .before .single .ensures) (c .loop-test .left)) (l .inv .1)
 
 pub intact-spec : {M : Type 1} → statement M
 intact-spec =
     tie.close
     (tie.spec
-    Inv-loop
-    μ-loop
     (λ c κs. search needs)
     (λ c κs. search needs)
-    (λ c κs. search needs)
-    loop-holds
-    spared-requires
-    returns
-    (λ c. search needs)
-    loop-less
-    loop-again
-    returns-2)
+    (λ c κs. length-replicate {A = ℕ} 64 0)
+    fill-requires
+    fitting-requires
+    lack-requires
+    gather-requires
+    (λ c. c .gather .ensures))
