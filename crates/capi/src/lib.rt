@@ -20,6 +20,8 @@ ghost use Rattle.voting.specs.Step.{soundCheck, stepCheck, stepInto, toStepped}
 ghost use Rattle.votes.specs.Call.{call};
 use packing::Call;
 
+mod thresholds;
+
 // The check of a table in memory.
 #[no_mangle]
 pub extern "C" fn siren_table_check(table: &[u64], out: &mut [u64; 4]) -> u64
