@@ -4,11 +4,11 @@ use mathlib.Core.Bool.{Bool, true, false, _&&_, _||_, not}
 use mathlib.Core.List.{List}
 use mathlib.Core.Logic.{_⊎_, inl, inr, ⊎-elim}
 use mathlib.Core.Path.{_≡_, refl, sym, ap, ap₂, _∙_, subst}
-use native.Mathlib.Nat.{le-refl, not-suc-le-zero, le-of-suc-le-suc, lt-trans, div-one}
+use native.Mathlib.Nat.{le-refl, not-suc-le-zero, lt-trans}
 use native.Mathlib.Numerals.{add-one}
 use native.Mathlib.Omega.{arith}
 use lib.Bits.{bitAnd, bitOr, or-disjoint}
-use lib.Count.{trailingZeros, under, trailing-of-zero}
+use lib.Count.{trailingZeros, trailing-of-zero}
 use lib.Dec.{eqb, ltb}
 use lib.Pow.{ones-lt, pow-mono}
 use borrow.Author.Tests.{ltb-true, ltb-false, eq-eqb, ne-eqb}
@@ -17,68 +17,30 @@ use Rattle.ground.proofs.Least.{least-found, least-fails}
 use Rattle.ground.proofs.Logic.{and-l, and-r, and-i, cases, iff, is-false, clash, or-e, or-i, not-t}
 use Rattle.ground.proofs.Numbers.{same?}
 use Rattle.ground.specs.Search.{every, least}
-use Rattle.holders.specs.Inner.{reaches}
-use Rattle.holders.proofs.HolderLaws.{inside-up}
-use Rattle.holders.proofs.Reaching.{reaches-of, reaches-itself, reach-down}
-use Rattle.holders.proofs.Shifts.{has-shifted, has-shifted-low}
+use Rattle.early_quorums.proofs.Reaching.{reaches-of, reaches-itself, reach-down}
+use Rattle.set_words.specs.Inner.{Without}
+use Rattle.set_words.proofs.Ends.{trailing-before}
+use Rattle.set_words.proofs.Places.{has-shifted, has-shifted-low}
 use Rattle.masks.proofs.Laws.AllBelow.{in-all}
 use Rattle.masks.proofs.Laws.Apart.{apart-of}
 use Rattle.masks.proofs.Laws.Members.{has-and, has-or, has-minus, has-zero, has-suc, has-single}
 use Rattle.masks.proofs.Laws.Single.{∈-or, ∈-single, single-∈, single-⊆}
 use Rattle.masks.proofs.Laws.Step.{or-part, minus-or}
-use Rattle.masks.proofs.Laws.Subsets.{mem, not-in-zero, ⊆-refl, ⊆-le, ∈-below, or-⊆-l, or-⊆-r, minus-⊆, minus-lt, minus-not-in}
+use Rattle.masks.proofs.Laws.Subsets.{mem, not-in-zero, ⊆-refl, ⊆-trans, ⊆-le, ∈-below, or-⊆-l, or-⊆-r, minus-⊆, minus-lt, minus-not-in}
 use Rattle.masks.specs.Mask.{has, single, minus, _∈_, _⊆_}
-use Rattle.early_quorums.specs.Inner.{Without, Counted, Sets, Held}
+use Rattle.early_quorums.specs.Inner.{reaches, Counted, Sets, Inside, Held}
 use Rattle.masks.proofs.Laws.First.{first-member}
 use Rattle.sets.specs.Quorum.{quorum}
-use Rattle.sets.specs.Slices.{slicesOf}
-use Rattle.sets.proofs.Quorum.{quorum-of, quorum-some, quorum-slice, quorum-below}
-use Rattle.sets.proofs.Rows.{listed-inside}
-use Rattle.sets.proofs.Slices.{inside-of, inside-ex, no-slice}
-use Rattle.sets.specs.Inner.Rows.{Rows, rulesOf}
+use Rattle.sets.specs.Slices.{Slices, slicesOf}
+use Rattle.sets.proofs.Quorum.{quorum-of, quorum-some, quorum-slice}
+use Rattle.sets.proofs.Rows.{listed-inside, rows-lawful}
+use Rattle.sets.proofs.Slices.{inside-of, inside-ex}
+use Rattle.sets.specs.Inner.Rows.{Rows, ListedRow, rulesOf}
 use Rattle.table.specs.Table.{countOf, sliceOf}
 
--- the sets without a site, as words
-
-same : Bool → Bool → Bool
-same true b = b
-same false b = not b
-
-same-is : (a b : Bool) → same a b ≡ true → a ≡ b
-unfolding same
-same-is true b e = sym e
-same-is false true e = e
-same-is false false e = refl
-
-abbrev lacks : ℕ → ℕ → Bool
-lacks x word = every 64 (λ u. same (has word u) (not (has u x)))
-
-lacks-is : (x word : ℕ) → lacks x word ≡ true → Without x word
-lacks-is x word e = record { each = λ u l. same-is (has word u) (not (has u x)) (every-at 64 (λ u. same (has word u) (not (has u x))) e u l) }
-
-pub without-0 : Without 0 6148914691236517205
-unfolding every has same
-without-0 = lacks-is 0 6148914691236517205 refl
-
-pub without-1 : Without 1 3689348814741910323
-unfolding every has same
-without-1 = lacks-is 1 3689348814741910323 refl
-
-pub without-2 : Without 2 1085102592571150095
-unfolding every has same
-without-2 = lacks-is 2 1085102592571150095 refl
-
-pub without-3 : Without 3 71777214294589695
-unfolding every has same
-without-3 = lacks-is 3 71777214294589695 refl
-
-pub without-4 : Without 4 281470681808895
-unfolding every has same
-without-4 = lacks-is 4 281470681808895 refl
-
-pub without-5 : Without 5 4294967295
-unfolding every has same
-without-5 = lacks-is 5 4294967295 refl
+-- who has a slice is a site
+site : {t : List ℕ} {n : ℕ} → Rows t n → (v u : ℕ) → rulesOf t .inside v u ≡ true → v < n
+site {t} {n} rows v u e = let x = rows-lawful rows .slice-inside v u e in ∈-below (ones-lt n) (x .1 .1 .each v (x .1 .2))
 
 -- the slices of a site: none, one more, all of them, or as many as are such sets
 
@@ -106,18 +68,19 @@ module _ (t : List ℕ) (v : ℕ) where
   counted-all {word} m =
       record { right = m .right; full = λ u i lu li e. subst (λ (q : ℕ). q ∈ word) (sym (reaches-itself (sliceOf t v i) u e)) (m .each i li) }
 
-module _ {t : List ℕ} {n : ℕ} (rows : Rows t n) (v : ℕ) where
-  pub sets-none : n ≤ v → Sets t v 0 0
-  sets-none l = record { right = λ u lu h. absurd (not-in-zero h); full = λ u i lu li e. absurd (not-suc-le-zero (subst (λ (k : ℕ). i < k) (no-slice rows v l) li)) }
+module _ (t : List ℕ) (v : ℕ) where
+  inside-up : {a b : ℕ} → a ⊆ b → slicesOf t .inside v a ≡ true → slicesOf t .inside v b ≡ true
+  inside-up {a} s e = let r = inside-ex t v a e in inside-of t v (r .0) (r .1) (⊆-trans (r .2) s)
 
-  ascend-le : v < n → (i d : ℕ) → i + d < countOf t v → sliceOf t v i ≤ sliceOf t v (i + d)
-  ascend-le lv i zero l = subst (λ (k : ℕ). sliceOf t v i ≤ sliceOf t v k) (plus-none i) (le-refl (sliceOf t v i))
+module _ {t : List ℕ} {n v : ℕ} (row : ListedRow t n v) where
+  ascend-le : (i d : ℕ) → i + d < countOf t v → sliceOf t v i ≤ sliceOf t v (i + d)
+  ascend-le i zero l = subst (λ (k : ℕ). sliceOf t v i ≤ sliceOf t v k) (plus-none i) (le-refl (sliceOf t v i))
     where
       plus-none : (k : ℕ) → k ≡ k + zero
       plus-none k = omega arith
-  ascend-le lv i (suc d) l =
+  ascend-le i (suc d) l =
       subst (λ (k : ℕ). sliceOf t v i ≤ sliceOf t v k) (next i d)
-      (more (ascend-le lv i d (less l)) (rows .listed v lv .ascend (i + d) (subst (λ (k : ℕ). k < countOf t v) (sym (next i d)) l)))
+      (more (ascend-le i d (less l)) (row .ascend (i + d) (subst (λ (k : ℕ). k < countOf t v) (sym (next i d)) l)))
     where
       next : (i d : ℕ) → suc (i + d) ≡ i + suc d
       next i d = omega arith
@@ -128,8 +91,8 @@ module _ {t : List ℕ} {n : ℕ} (rows : Rows t n) (v : ℕ) where
       more : {a b c : ℕ} → a ≤ b → b < c → a ≤ c
       more p q = omega arith
 
-  pub counted-stop : v < n → (i : ℕ) {word : ℕ} → 64 ≤ sliceOf t v i → Counted t v i word → Sets t v 0 word
-  counted-stop lv i {word} big m =
+  pub counted-stop : (i : ℕ) {word : ℕ} → 64 ≤ sliceOf t v i → Counted t v i word → Sets t v 0 word
+  counted-stop i {word} big m =
       record { right = m .right; full = λ u k lu lk e. let z = reaches-itself (sliceOf t v k) u e in subst (λ (q : ℕ). q ∈ word) (sym z) (pick k lk (subst (λ (q : ℕ). q < 64) z lu) (cases (ltb k i))) }
     where
       back : {k : ℕ} → i ≤ k → i + (k - i) ≡ k
@@ -142,7 +105,7 @@ module _ {t : List ℕ} {n : ℕ} (rows : Rows t n) (v : ℕ) where
       pick k lk few (inl b) = m .each k (ltb-true k i b)
       pick k lk few (inr b) =
           let e = back (ltb-false k i b) in
-          absurd (bad (subst (λ (y : ℕ). sliceOf t v i ≤ sliceOf t v y) e (ascend-le lv i (k - i) (subst (λ (y : ℕ). y < countOf t v) (sym e) lk))) few)
+          absurd (bad (subst (λ (y : ℕ). sliceOf t v i ≤ sliceOf t v y) e (ascend-le i (k - i) (subst (λ (y : ℕ). y < countOf t v) (sym e) lk))) few)
 
 -- one site more: each set without it hands on to the set with it
 
@@ -221,35 +184,31 @@ sets-are t v {word} m u l =
     iff (has word u) (slicesOf t .inside v u) (λ e. m .right u l (mem e))
     (λ e. let r = inside-ex t v u e in m .full u (r .0) l (r .1) (reaches-of (record { inside = r .2; lacks = λ y h k. ∈-below l h })) .holds)
 
-pub held-none : (t : List ℕ) → Held t 0 18446744073709551615
-held-none t = record { each = λ u l. in-all l .holds ∙ sym (every-none (λ y. not (has u y) || slicesOf t .inside y u)) }
+module _ {t : List ℕ} {n : ℕ} (rows : Rows t n) (v : ℕ) where
+  pub inside-listed : {word : ℕ} → v < n → Sets t v 6 word → Inside (rulesOf t) v word
+  inside-listed l m = record { each = λ u k. sets-are t v m u k ∙ sym (listed-inside (rows .listed v l) u) }
 
-pub held-more : (t : List ℕ) (v : ℕ) {word rest sets : ℕ} → Held t v word → Without v rest → Sets t v 6 sets → Held t (v + 1) (bitAnd word (bitOr rest sets))
-held-more t v {word} {rest} {sets} h w m =
+  pub inside-nobody : n ≤ v → Inside (rulesOf t) v 0
+  inside-nobody l = record { each = λ u k. has-zero u ∙ sym (is-false (rulesOf t .inside v u) (λ e. none (site rows v u e))) }
+    where
+      none : v < n → ⊥
+      none h = omega arith
+
+pub held-none : (r : Slices) → Held r 0 18446744073709551615
+held-none r = record { each = λ u l. in-all l .holds ∙ sym (every-none (λ y. not (has u y) || r .inside y u)) }
+
+pub held-more : (r : Slices) (v : ℕ) {word rest sets : ℕ} → Held r v word → Without v rest → Inside r v sets → Held r (v + 1) (bitAnd word (bitOr rest sets))
+held-more r v {word} {rest} {sets} h w m =
     record {
       each = λ u l.
           has-and word (bitOr rest sets) u
-          ∙ ap₂ (λ a b. a && b) (h .each u l) (has-or rest sets u ∙ ap₂ (λ a b. a || b) (w .each u l) (sets-are t v m u l))
-          ∙ sym (every-suc v (λ y. not (has u y) || slicesOf t .inside y u));
+          ∙ ap₂ (λ a b. a && b) (h .each u l) (has-or rest sets u ∙ ap₂ (λ a b. a || b) (w .each u l) (m .each u l))
+          ∙ sym (every-suc v (λ y. not (has u y) || r .inside y u));
     }
 
 -- the quorums among these sets, and the first
 
-lowest : (m : ℕ) → m % 2 ≡ 0 → has m 0 ≡ false
-unfolding has
-lowest m e = ap (λ (x : ℕ). eqb x 1) (ap (λ (x : ℕ). x % 2) (div-one m) ∙ e)
-
-trailing-before : (k m v : ℕ) → v < trailingZeros k m → has m v ≡ false
-unfolding trailingZeros
-trailing-before zero m v l = absurd (not-suc-le-zero l)
-trailing-before (suc k) m v l = go (m % 2) refl v l (trailing-before k (m / 2))
-  where
-    go : (r : ℕ) → m % 2 ≡ r → (v : ℕ) → v < under r (trailingZeros k (m / 2)) → ((v : ℕ) → v < trailingZeros k (m / 2) → has (m / 2) v ≡ false) → has m v ≡ false
-    go zero e zero l ih = lowest m e
-    go zero e (suc v) l ih = has-suc m v ∙ ih v (le-of-suc-le-suc l)
-    go (suc r) e v l ih = absurd (not-suc-le-zero l)
-
-module _ {t : List ℕ} {n : ℕ} (rows : Rows t n) {word : ℕ} (h : Held t 6 word) where
+module _ {t : List ℕ} {n : ℕ} (rows : Rows t n) {word : ℕ} (h : Held (rulesOf t) 6 word) where
   quorum-at : (u : ℕ) → u < 64 → has (minus word 1) u ≡ quorum (rulesOf t .inside) n u
   quorum-at u l =
       has-minus word 1 u
@@ -258,25 +217,19 @@ module _ {t : List ℕ} {n : ℕ} (rows : Rows t n) {word : ℕ} (h : Held t 6 w
       let some = not-t (has 1 u) (and-r (has word u) (not (has 1 u)) e) in
       let all = sym (h .each u l) ∙ and-l (has word u) (not (has 1 u)) e in
       quorum-of (rulesOf t .inside) n (λ z. clash (has-single 0 u ∙ eq-eqb u 0 z) some)
-      (record { each = λ v i. in-all (site v (member u l all v i)) }) (λ v i. let h = member u l all v i in listed-inside (rows .listed v (site v h)) u ∙ h))
+      (record { each = λ v i. in-all (site rows v u (member all v i)) }) (λ v i. member all v i))
       (λ e.
       and-i
       (h .each u l
-      ∙ every-of 6 (λ y. not (has u y) || slicesOf t .inside y u)
-      (λ y ly. ⊎-elim
-      (λ k.
-      let l = ∈-below (ones-lt n) (quorum-below (rulesOf t .inside) n e .each y (mem k)) in
-      or-i (not (has u y)) (slicesOf t .inside y u) (sym (listed-inside (rows .listed y l) u) ∙ quorum-slice (rulesOf t .inside) n e (mem k)))
-      (λ k. ap (λ (c : Bool). not c || slicesOf t .inside y u) k) (cases (has u y))))
+      ∙ every-of 6 (λ y. not (has u y) || rulesOf t .inside y u)
+      (λ y ly. ⊎-elim (λ k. or-i (not (has u y)) (rulesOf t .inside y u) (quorum-slice (rulesOf t .inside) n e (mem k)))
+      (λ k. ap (λ (c : Bool). not c || rulesOf t .inside y u) k) (cases (has u y))))
       (ap not (has-single 0 u ∙ ne-eqb u 0 (quorum-some (rulesOf t .inside) n e))))
     where
-      member : (u : ℕ) → u < 64 → every 6 (λ y. not (has u y) || slicesOf t .inside y u) ≡ true → (v : ℕ) → v ∈ u → slicesOf t .inside v u ≡ true
-      member u l all v i =
+      member : every 6 (λ y. not (has u y) || rulesOf t .inside y u) ≡ true → (v : ℕ) → v ∈ u → rulesOf t .inside v u ≡ true
+      member all v i =
           ⊎-elim (λ k. absurd (clash (i .holds) (not-t (has u v) k))) (λ k. k)
-          (or-e (not (has u v)) (slicesOf t .inside v u) (every-at 6 (λ y. not (has u y) || slicesOf t .inside y u) all v (∈-below l i)))
-
-      site : (v : ℕ) → slicesOf t .inside v u ≡ true → v < n
-      site v e = ⊎-elim (λ b. ltb-true v n b) (λ b. let r = inside-ex t v u e in absurd (not-suc-le-zero (subst (λ (k : ℕ). r .0 < k) (no-slice rows v (ltb-false v n b)) (r .1)))) (cases (ltb v n))
+          (or-e (not (has u v)) (rulesOf t .inside v u) (every-at 6 (λ y. not (has u y) || rulesOf t .inside y u) all v (∈-below l i)))
 
   pub first-is : word < 2 ^ 64 → trailingZeros 64 (minus word 1) ≡ least 64 (quorum (rulesOf t .inside) n)
   first-is fits = ⊎-elim none some (same? (minus word 1) 0)

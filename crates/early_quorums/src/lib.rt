@@ -1,42 +1,19 @@
 // Which sets of the first six sites are quorums, without a list of all sets: one word has a bit for each of these 64 sets.
 ghost use mathlib.Core.Path.{_≡_};
-ghost use Prim.Native.Nat.{_<_};
+ghost use Prim.Native.Nat.{_<_, _*_};
+ghost use lib.ListN.{length};
 ghost use Rattle.ground.specs.Search.{least};
 ghost use Rattle.sets.specs.Quorum.{quorum};
-ghost use Rattle.early_quorums.specs.Inner.{Without, Sets, Held};
-ghost use Rattle.sets.specs.Inner.Rows.{Rows, rulesOf};
+ghost use Rattle.early_quorums.specs.Inner.{Sets, Inside, Held};
+ghost use Rattle.sets.specs.Inner.Rows.{Rows, ListedRow, rulesOf};
 
-// The sets without site x.
-fn without(x: usize) -> u64
-    requires { ⌜ x < 6 ⌝ }
-    ensures { λ r. ⌜ Without x r ⌝ }
-{
-    if x == 0 {
-        return 6148914691236517205;
-    }
-    if x == 1 {
-        return 3689348814741910323;
-    }
-    if x == 2 {
-        return 1085102592571150095;
-    }
-    if x == 3 {
-        return 71777214294589695;
-    }
-    if x == 4 {
-        return 281470681808895;
-    }
-    4294967295
-}
-
-// The sets that are a slice of site v. Slices ascend, so that behind one that is no such set there is none.
-fn slices(table: &[u64], n: usize, v: usize) -> u64
-    requires { ⌜ Rows (now table) n ⌝ }
+// The sets that are a slice that site v lists. Slices ascend, so that behind one that is no such set there is none.
+fn slices_listed(table: &[u64], n: usize, v: usize) -> u64
+    requires { ⌜ length (now table) ≡ 63 * n ⌝ }
+    requires { ⌜ ListedRow (now table) n v ⌝ }
+    requires { ⌜ v < n ⌝ }
     ensures { λ r. ⌜ Sets (now (table .entry)) v 0 r ⌝ }
 {
-    if n <= v {
-        return 0;
-    }
     let many = table[63 * v] as usize;
     let mut sets = 0u64;
     let mut i: usize = 0;
@@ -51,29 +28,42 @@ fn slices(table: &[u64], n: usize, v: usize) -> u64
     sets
 }
 
-// The sets that have a slice of site v inside: a slice is inside each set that it reaches by one site more.
-fn inside(table: &[u64], n: usize, v: usize) -> u64
-    requires { ⌜ Rows (now table) n ⌝ }
+// The sets that have a slice of site v inside, where its row lists its slices: a slice is inside each set that it reaches by one site more.
+fn inside_listed(table: &[u64], n: usize, v: usize) -> u64
+    requires { ⌜ length (now table) ≡ 63 * n ⌝ }
+    requires { ⌜ ListedRow (now table) n v ⌝ }
+    requires { ⌜ v < n ⌝ }
     ensures { λ r. ⌜ Sets (now (table .entry)) v 6 r ⌝ }
 {
-    let mut sets = slices(table, n, v);
+    let mut sets = slices_listed(table, n, v);
     let mut x: usize = 0;
     while x < 6 {
-        sets = sets | ((sets & without(x)) << masks::single(x as u64));
+        sets = sets | ((sets & set_words::without(x)) << masks::single(x as u64));
         x += 1;
     }
     sets
 }
 
+// The sets that have a slice of site v inside; none if there is no such site.
+fn inside(table: &[u64], n: usize, v: usize) -> u64
+    requires { ⌜ Rows (now table) n ⌝ }
+    ensures { λ r. ⌜ Inside (rulesOf (now (table .entry))) v r ⌝ }
+{
+    if n <= v {
+        return 0;
+    }
+    inside_listed(table, n, v)
+}
+
 // The sets in which each member has a slice.
 fn held(table: &[u64], n: usize) -> u64
     requires { ⌜ Rows (now table) n ⌝ }
-    ensures { λ r. ⌜ Held (now (table .entry)) 6 r ⌝ }
+    ensures { λ r. ⌜ Held (rulesOf (now (table .entry))) 6 r ⌝ }
 {
     let mut sets = 18446744073709551615u64;
     let mut v: usize = 0;
     while v < 6 {
-        sets = sets & (without(v) | inside(table, n, v));
+        sets = sets & (set_words::without(v) | inside(table, n, v));
         v += 1;
     }
     sets
