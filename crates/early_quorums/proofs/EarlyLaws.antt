@@ -11,7 +11,7 @@ use lib.Bits.{bitAnd, bitOr, or-disjoint}
 use lib.Count.{trailingZeros, trailing-of-zero}
 use lib.Dec.{eqb, ltb}
 use lib.Pow.{ones-lt, pow-mono}
-use borrow.Author.Tests.{ltb-true, ltb-false, eq-eqb, ne-eqb}
+use borrow.Author.Tests.{lt-ltb, ltb-true, ltb-false, eq-eqb, ne-eqb}
 use Rattle.ground.proofs.Every.{every-at, every-of, every-none, every-suc}
 use Rattle.ground.proofs.Least.{least-found, least-fails}
 use Rattle.ground.proofs.Logic.{and-l, and-r, and-i, cases, iff, is-false, clash, or-e, or-i, not-t}
@@ -23,19 +23,20 @@ use Rattle.set_words.proofs.Ends.{trailing-before}
 use Rattle.set_words.proofs.Places.{has-shifted, has-shifted-low}
 use Rattle.masks.proofs.Laws.AllBelow.{in-all}
 use Rattle.masks.proofs.Laws.Apart.{apart-of}
+use Rattle.masks.proofs.Laws.Gather.{has-gather}
 use Rattle.masks.proofs.Laws.Members.{has-and, has-or, has-minus, has-zero, has-suc, has-single}
 use Rattle.masks.proofs.Laws.Single.{∈-or, ∈-single, single-∈, single-⊆}
 use Rattle.masks.proofs.Laws.Step.{or-part, minus-or}
 use Rattle.masks.proofs.Laws.Subsets.{mem, not-in-zero, ⊆-refl, ⊆-trans, ⊆-le, ∈-below, or-⊆-l, or-⊆-r, minus-⊆, minus-lt, minus-not-in}
-use Rattle.masks.specs.Mask.{has, single, minus, _∈_, _⊆_}
+use Rattle.masks.specs.Mask.{gather, has, single, minus, _∈_, _⊆_}
 use Rattle.early_quorums.specs.Inner.{reaches, Counted, Sets, Inside, Held}
 use Rattle.masks.proofs.Laws.First.{first-member}
 use Rattle.sets.specs.Quorum.{quorum}
 use Rattle.sets.specs.Slices.{Slices, slicesOf}
 use Rattle.sets.proofs.Quorum.{quorum-of, quorum-some, quorum-slice}
-use Rattle.sets.proofs.Rows.{listed-inside, rows-lawful}
+use Rattle.sets.proofs.Rows.{lists-inside, rows-lawful}
 use Rattle.sets.proofs.Slices.{inside-of, inside-ex}
-use Rattle.sets.specs.Inner.Rows.{Rows, ListedRow, rulesOf}
+use Rattle.sets.specs.Inner.Rows.{ofSets, Rows, ListedRow, rulesOf}
 use Rattle.table.specs.Table.{countOf, sliceOf}
 
 -- who has a slice is a site
@@ -185,8 +186,19 @@ sets-are t v {word} m u l =
     (λ e. let r = inside-ex t v u e in m .full u (r .0) l (r .1) (reaches-of (record { inside = r .2; lacks = λ y h k. ∈-below l h })) .holds)
 
 module _ {t : List ℕ} {n : ℕ} (rows : Rows t n) (v : ℕ) where
-  pub inside-listed : {word : ℕ} → v < n → Sets t v 6 word → Inside (rulesOf t) v word
-  inside-listed l m = record { each = λ u k. sets-are t v m u k ∙ sym (listed-inside (rows .listed v l) u) }
+  pub inside-listed : {word : ℕ} → ofSets t v ≡ false → Sets t v 6 word → Inside (rulesOf t) v word
+  inside-listed o m = record { each = λ u k. sets-are t v m u k ∙ sym (lists-inside t v o u) }
+
+  pub inside-met : {word : ℕ} → word ≡ gather 64 (λ j. rulesOf t .inside v (0 * 64 + j)) → Inside (rulesOf t) v word
+  inside-met e =
+      record {
+        each = λ u k.
+            ap (λ (x : ℕ). has x u) e ∙ has-gather 64 (λ j. rulesOf t .inside v (0 * 64 + j)) u
+            ∙ ap₂ (λ (b : Bool) (x : ℕ). b && rulesOf t .inside v x) (lt-ltb u 64 k) (plain u);
+      }
+    where
+      plain : (u : ℕ) → 0 * 64 + u ≡ u
+      plain u = omega arith
 
   pub inside-nobody : n ≤ v → Inside (rulesOf t) v 0
   inside-nobody l = record { each = λ u k. has-zero u ∙ sym (is-false (rulesOf t .inside v u) (λ e. none (site rows v u e))) }

@@ -52,6 +52,9 @@ fn inside(table: &[u64], n: usize, v: usize) -> u64
     if n <= v {
         return 0;
     }
+    if sets::of_sets(table, n, v) {
+        return inside_words::met_word(table, n, v, 0);
+    }
     inside_listed(table, n, v)
 }
 
