@@ -5,8 +5,6 @@ use Rattle.shared_sites.proofs.beside.Kinds as beside-kinds
 use Rattle.shared_sites.proofs.beside.Reads as beside-reads
 use Rattle.shared_sites.proofs.first_apart.Kinds as first-apart-kinds
 use Rattle.shared_sites.proofs.first_apart.Reads as first-apart-reads
-use Rattle.shared_sites.proofs.search.first_apart.Kinds as search-first-apart-kinds
-use Rattle.shared_sites.proofs.search.first_apart.Reads as search-first-apart-reads
 use Rattle.shared_sites.proofs.two_apart.Kinds as two-apart-kinds
 use Rattle.shared_sites.proofs.two_apart.Reads as two-apart-reads
 
@@ -15,9 +13,6 @@ beside-coincide κs a x y s t p q = p ∙ sym q
 
 pub first-apart-coincide : Answers first-apart-kinds.ps first-apart-kinds.r first-apart-reads.Post
 first-apart-coincide κs a x y s t p q = p ∙ sym q
-
-pub search-first-apart-coincide : Answers search-first-apart-kinds.ps search-first-apart-kinds.r search-first-apart-reads.Post
-search-first-apart-coincide κs a x y s t p q = p ∙ sym q
 
 pub two-apart-coincide : Answers two-apart-kinds.ps two-apart-kinds.r two-apart-reads.Post
 two-apart-coincide κs a x y s t p q = λ i. record { first = (p .0 ∙ sym (q .0)) i; second = (p .1 ∙ sym (q .1)) i }

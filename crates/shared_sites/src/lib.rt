@@ -7,8 +7,6 @@ ghost use Rattle.verdicts.specs.Verdicts.{beside, firstApart};
 ghost use Rattle.shared_sites.specs.Inner.{besideFirst};
 ghost use Rattle.sets.specs.Inner.Rows.{Rows, rulesOf};
 
-pub mod search;
-
 // Two quorums without a common site.
 pub struct Pair {
     pub first: u64,

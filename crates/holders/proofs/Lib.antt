@@ -1,4 +1,0 @@
-pub mod Reaching
-pub mod Shifts
-pub mod HolderLaws
-pub mod Coincide
