@@ -101,9 +101,11 @@ returns : tie.Need-returns Inv-loop μ-loop
 returns c =
     let l = c .before in
     let s = l .before .before .before .before .before .before in
-    let a = s .args in
-    (amid-all (rows-vote (s .pre .0) (a .faulty)) (now (a .list)) (now (a .state)) (now (a .answers)) (now (a .waiting)) (a .count) (s .pre .1 .1) (l .loop .inv .0)
-    (omega (arith, c .loop-test .left)), l .loop .inv .2)
+    let a = s .args in (
+      amid-all (rows-vote (s .pre .0) (a .faulty)) (now (a .list)) (now (a .state)) (now (a .answers)) (now (a .waiting)) (a .count) (s .pre .1 .1) (l .loop .inv .0)
+          (omega (arith, c .loop-test .left)),
+      l .loop .inv .2,
+    )
 
 pub over-waiting-spec : {M : Type 1} → statement M
 over-waiting-spec =
