@@ -1,11 +1,13 @@
 -- A vote or an accept: where its senders and what was heard of it stand, two places apart, so that one sum reaches both.
-use Prim.Native.Nat.{ℕ, _+_, _-_, _*_, _<_}
-use mathlib.Core.Bool.{Bool, true, false, _||_, not, or-true, or-false}
+use Prim.Native.Nat.{ℕ, _+_, _-_, _*_, _≤_, _<_}
+use mathlib.Core.Bool.{Bool, true, false, _||_, not, cond, or-true, or-false}
 use mathlib.Core.List.{List}
 use mathlib.Core.Logic.{⊎-elim}
 use mathlib.Core.Path.{_≡_, refl, ap, _∙_}
 use native.Mathlib.Omega.{arith}
 use lib.Bits.{bitOr}
+use lib.Dec.{eqb}
+use borrow.Author.Tests.{eq-eqb, ne-eqb}
 use Rattle.ground.proofs.Logic.{cases}
 use Rattle.ground.proofs.Numbers.{same?}
 use Rattle.masks.proofs.Laws.Members.{has-or}
@@ -13,8 +15,16 @@ use Rattle.masks.specs.Mask.{has}
 use Rattle.rules.proofs.Ways.{is-heard-vote, is-heard-accept, unsent-faulty, unsent-vote, unsent-accept}
 use Rattle.rules.specs.Inner.{heard}
 use Rattle.rules.specs.Rules.{unsent}
-use Rattle.rules.specs.State.{votes, voted, get}
+use Rattle.rules.specs.State.{votes, voted, accepted, get}
 use Rattle.votes.specs.Call.{Call}
+
+-- b is whether the sender is among those at the place
+pub sent-there : (n kind side from : ℕ) (s : List ℕ) → 1 ≤ kind → kind < 3 → {b : Bool} {i : ℕ} → b ≡ has (get s i) from → i ≡ voted n side + 2 * (kind - 1) →
+    b ≡ has (get s (cond (eqb kind 1) (voted n side) (accepted n side))) from
+sent-there n kind side from s h l {b} {i} e p =
+    let at : (j : ℕ) → i ≡ j → b ≡ has (get s j) from = λ j q. e ∙ ap (λ (x : ℕ). has (get s x) from) q in
+    ⊎-elim (λ v. rw (eq-eqb kind 1 v) (at (voted n side) (omega (arith, p, v)))) (λ a. rw (ne-eqb kind 1 a) (at (accepted n side) (omega (arith, p, a, h, l))))
+    (same? kind 1)
 
 module _ (n : ℕ) (c : Call) (s : List ℕ) (k : c .kind ≡ 0 → ⊥) (l : c .kind < 3) where
   -- b is whether the sender is among those who sent it, or faulty

@@ -1,8 +1,11 @@
 // The answer of a call: 11, 13, 12, 14, 15, or taken.
 ghost use mathlib.Core.Path.{_≡_};
-ghost use Prim.Native.Nat.{_≤_};
+ghost use mathlib.Core.Bool.{cond};
+ghost use Prim.Native.Nat.{_<_, _≤_};
+ghost use lib.Dec.{eqb};
 ghost use lib.ListN.{length};
-ghost use Rattle.rules.specs.State.{width};
+ghost use Rattle.masks.specs.Mask.{has};
+ghost use Rattle.rules.specs.State.{voted, accepted, width, get};
 ghost use Rattle.rules.specs.Rules.{outOfRange, crooked, against, unsent, answer};
 ghost use Rattle.rules.specs.Inner.{InRange, heard};
 ghost use Rattle.votes.specs.Call.{call};
@@ -46,6 +49,19 @@ fn is_against(n: usize, state: &[u64], kind: usize, from: usize, to: usize, side
         return masks::has(state[places::voted(n, 1 - side)], to as u64);
     }
     false
+}
+
+// The sender has voted for the side, if the call is a vote, or accepted it.
+pub fn has_sent(n: usize, state: &[u64], kind: usize, from: usize, side: usize) -> bool
+    requires { ⌜ length (now state) ≡ width n ⌝ }
+    requires { ⌜ n ≤ 64 ⌝ }
+    requires { ⌜ 1 ≤ kind ⌝ }
+    requires { ⌜ kind < 3 ⌝ }
+    requires { ⌜ from < 64 ⌝ }
+    requires { ⌜ side < 2 ⌝ }
+    ensures { λ r. ⌜ r ≡ has (get (now (state .entry)) (cond (eqb kind 1) (voted n side) (accepted n side))) from ⌝ }
+{
+    masks::has(state[places::sent_at(n, kind, side)], from as u64)
 }
 
 // A vote or accept that a correct sender has not sent.

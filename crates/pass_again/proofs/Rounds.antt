@@ -9,36 +9,38 @@ use lib.ListN.{length, getD, set}
 use lib.Seq.{getD-set-same, getD-set-other, set-getD}
 use borrow.Author.Tests.{eq-eqb, ne-eqb}
 use Rattle.refusals.specs.Refusal.{code}
-use Rattle.refusals.specs.declared.Check.{Check}
+use Rattle.refusals.specs.declared.Check.the-variants.{Sound, Refused}
+use Rattle.refusals.specs.declared.Refusal.the-variants.{Unsent}
 use Rattle.waiting.proofs.Places.{listed-none, listed-past, listed-same, listed-gap, listed-end, listed-rest, listed-turn, listed-ahead, kept-few}
 use Rattle.pass.proofs.Turns.{after-none, after-more, after-byte, after-all}
 use Rattle.pass_again.proofs.Settled.{after-skip}
 use Rattle.pass.specs.Calls.{calls, callAt}
 use Rattle.pass.specs.Inner.{After}
 use Rattle.waiting.specs.Inner.{Listed}
-use Rattle.pass_again.specs.Inner.{Again, Amid, Waiting, PassedAgain}
+use Rattle.pass_again.specs.Inner.{Again, Waited, Amid, Waiting, PassedAgain}
 use Rattle.votes.specs.Call.{Call}
 use Rattle.votes.specs.Inner.{Lawful, Works}
 use Rattle.votes.specs.Vote.{Vote}
 
--- a call again: it waits still, or it does not
-module _ {X : Vote} {c : Call} {s s₁ : List ℕ} {q : Check} {b : Bool} (W : Works X c s q b s₁) (i : ℕ) (out : List ℕ) {a : ℕ}
-    (e : a ≡ code q) where
-  worked : Works X c s (X .answer c s) b s₁
-  worked = record { answers-so = refl; changes = W .changes; state = W .state }
+-- a call again that waits still, or that is taken
+module _ {X : Vote} {c : Call} {s s₁ : List ℕ} {b : Bool} (i : ℕ) (out : List ℕ) where
+  pub again-waits : Works X c s (Refused Unsent) b s₁ → getD out i 0 ≡ 15 → Again X c i s out b true s₁ out
+  again-waits W g =
+      let byte = ap code (W .answers-so) in
+      record {
+        works = record { answers-so = refl; changes = W .changes; state = W .state };
+        byte = sym (ap (set out i) (sym byte ∙ sym g) ∙ set-getD out i 0);
+        waits-so = sym (eq-eqb (code (X .answer c s)) 15 (sym byte));
+      }
 
-  byte : a ≡ code (X .answer c s)
-  byte = e ∙ ap code (W .answers-so)
-
-  pub again-waits : a ≡ 15 → getD out i 0 ≡ 15 → Again X c i s out b true s₁ out
-  again-waits f g = record {
-    works = worked;
-    byte = sym (ap (set out i) (sym byte ∙ f ∙ sym g) ∙ set-getD out i 0);
-    waits-so = sym (eq-eqb (code (X .answer c s)) 15 (sym byte ∙ f));
-  }
-
-  pub again-settled : (a ≡ 15 → ⊥) → Again X c i s out b false s₁ (set out i a)
-  again-settled f = record { works = worked; byte = ap (set out i) byte; waits-so = sym (ne-eqb (code (X .answer c s)) 15 (λ g. f (byte ∙ g))) }
+  pub again-taken : Works X c s Sound b s₁ → Again X c i s out b false s₁ (set out i 0)
+  again-taken W =
+      let byte = ap code (W .answers-so) in
+      record {
+        works = record { answers-so = refl; changes = W .changes; state = W .state };
+        byte = ap (set out i) byte;
+        waits-so = sym (ne-eqb (code (X .answer c s)) 15 (λ g. omega (arith, byte, g)));
+      }
 
 module _ {X : Vote} (L : Lawful X) (list s₀ out₀ w₀ : List ℕ) (count : ℕ)
     (H : Waiting X list s₀ out₀ count w₀) where
@@ -78,6 +80,11 @@ module _ {X : Vote} (L : Lawful X) (list s₀ out₀ w₀ : List ℕ) (count : �
       pub amid-waits : getD out (getD w k 0) 0 ≡ 15
       amid-waits =
           after-byte L list s₀ out₀ (H .fits) (A .at) (getD w k 0) (A .after) (A .rest .from k (omega arith) h) ∙ A .rest .waits k (omega arith) h
+
+      -- it was refused with 15 once
+      pub amid-waited : {i : ℕ} → i ≡ getD w k 0 → Waited X (callAt list i)
+      amid-waited e =
+          subst (λ (j : ℕ). Waited X (callAt list j)) (sym e) (H .told .waited (getD w k 0) amid-below (A .rest .waits k (omega arith) h))
 
       pub amid-more : (i c : ℕ) (x waits : Bool) (w₁ : List ℕ) {b : Bool} {s₁ out₁ : List ℕ} → k < length w → i ≡ getD w k 0 →
           Again X (callAt list i) i s out b waits s₁ out₁ → x ≡ changed || b → c ≡ cond waits (left + 1) left → w₁ ≡ cond waits (set w left i) w →

@@ -12,7 +12,7 @@ use Rattle.pass.proofs.Calls.{calls-at, calls-length}
 use Rattle.pass.proofs.Turns.{length-answers, after-more, after-byte}
 use Rattle.pass.specs.Calls.{calls, callAt}
 use Rattle.pass.specs.Inner.{answersFrom, After, Passed}
-use Rattle.pass_again.specs.Inner.{Settled, Told}
+use Rattle.pass_again.specs.Inner.{Settled, Waited, Told}
 use Rattle.refusals.specs.Refusal.{code}
 use Rattle.votes.proofs.AnyVote.{spends}
 use Rattle.votes.proofs.Passes.{pass-up}
@@ -40,6 +40,12 @@ module _ {X : Vote} (L : Lawful X) where
       settled-later (pass-up (step X) alike (spends X L) l (step X c s) (L .keeps c s S)) (settles c s S w)
   pass-settles (c ∷ l) s S (suc i) d h w = pass-settles l (step X c s) (L .keeps c s S) i d (omega arith) w
 
+  -- and each call that waits was refused with 15
+  pub pass-waited : (l : List Call) (s : List ℕ) (i : ℕ) (d : Call) → i < length l → getD (answersFrom X l s) i 0 ≡ 15 → Waited X (getD l i d)
+  pass-waited [] s i d h w = absurd (omega arith)
+  pass-waited (c ∷ l) s zero d h w = record { once = s; refused = w }
+  pass-waited (c ∷ l) s (suc i) d h w = pass-waited l (step X c s) i d (omega arith) w
+
   -- after a pass each call waits or is settled
   pub passed-told : (list : List ℕ) (k : ℕ) {s s₁ out : List ℕ} {changed : Bool} → length list ≡ 4 * k → X .Sound s →
       Passed X (calls list) s changed s₁ out → Told X list s₁ out
@@ -49,6 +55,9 @@ module _ {X : Vote} (L : Lawful X) where
         subst (λ (c : Call). Settled X c (getD (answersFrom X (calls list) s) i 0) (pass (step X) (calls list) s))
         (calls-at list i (callAt list i) (omega (arith, h, few, calls-length list k h)))
         (pass-settles (calls list) s S i (callAt list i) few w);
+    waited = λ i l w.
+        let few : i < length (calls list) = omega (arith, l, length-answers X (calls list) s) in
+        subst (Waited X) (calls-at list i (callAt list i) (omega (arith, h, few, calls-length list k h))) (pass-waited (calls list) s i (callAt list i) few w);
   })
 
   module _ (list s₀ out₀ : List ℕ) (fits : length list ≡ 4 * length out₀) where

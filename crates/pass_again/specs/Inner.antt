@@ -19,9 +19,15 @@ module _ (X : Vote) where
     pub answers-so : {t : List ℕ} → X .Below s t → X .Sound t → code (X .answer c t) ≡ a
     pub still : {t : List ℕ} → X .Below s t → X .Sound t → step X c t ≡ t
 
-  -- each call of the list is settled with its answer byte, or waits: its byte is 15
+  -- a call that was refused with 15 once
+  pub record Waited (c : Call) : Type 0 where
+    pub once : List ℕ
+    pub refused : code (X .answer c once) ≡ 15
+
+  -- each call of the list is settled with its answer byte, or waits: its byte is 15, and it was refused so
   pub record Told (list s out : List ℕ) : Type 0 where
     pub settled : (i : ℕ) → i < length out → (getD out i 0 ≡ 15 → ⊥) → Settled (callAt list i) (getD out i 0) s
+    pub waited : (i : ℕ) → i < length out → getD out i 0 ≡ 15 → Waited (callAt list i)
 
   -- one call again, that has waited: its byte is written, and whether it waits still
   pub record Again (c : Call) (i : ℕ) (s out : List ℕ) (changed waits : Bool) (s₁ out₁ : List ℕ) : Type 0 where

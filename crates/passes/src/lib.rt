@@ -5,7 +5,8 @@ ghost use lib.ListN.{length, replicate};
 ghost use Rattle.rules.specs.Inner.{rowVote};
 ghost use Rattle.pass.specs.Calls.{calls};
 ghost use Rattle.passes.specs.Inner.{Begun, Whole};
-ghost use Rattle.sets.specs.Inner.Rows.{Rows};
+ghost use Rattle.asking.specs.Inner.{Known};
+ghost use Rattle.sets.specs.Inner.Rows.{Rows, rowQuestions};
 
 // Passes after a first one that changed the state, until one changes nothing: how many, the first and the last counted.
 fn run_on(
@@ -16,8 +17,10 @@ fn run_on(
     state: &mut [u64],
     answers: &mut [u8],
     waiting: &mut [u16],
+    known: &mut [u64; 4],
 ) -> u64
     requires { ⌜ Rows (now table) n ⌝ }
+    requires { ⌜ Known (rowQuestions (now table) n) (now known) ⌝ }
     requires { ⌜ Begun (rowVote (now table) n faulty) (now list) (now state) (now answers) (now waiting) ⌝ }
     ensures { λ r. ⌜ Whole (rowVote (now (table .entry)) n faulty) (calls (now (list .entry))) r (now (state .exit)) (now (answers .exit)) ⌝ }
 {
@@ -33,6 +36,7 @@ fn run_on(
             answers,
             waiting,
             count,
+            known,
         );
         passes += 1;
         if !round.changed {
@@ -69,10 +73,20 @@ pub fn run_fresh(
     ensures { λ r. ⌜ Whole (rowVote (now (table .entry)) n faulty) (calls (now (list .entry))) r (now (state .exit)) (now (answers .exit)) ⌝ }
 {
     clear(state);
-    let changed = pass::over_all(table, n, faulty, list, state, answers);
+    let mut known = [0u64; 4];
+    let changed = pass::over_all(table, n, faulty, list, state, answers, &mut known);
     if !changed {
         return 1;
     }
     let mut waiting = [0u16; 4096];
-    run_on(table, n, faulty, list, state, answers, &mut waiting)
+    run_on(
+        table,
+        n,
+        faulty,
+        list,
+        state,
+        answers,
+        &mut waiting,
+        &mut known,
+    )
 }

@@ -33,14 +33,7 @@ pub fn is_vain(
 }
 
 // What a receiver that has not accepted heard is put to the sets asked in vain.
-pub fn note(
-    table: &[u64],
-    n: usize,
-    state: &[u64],
-    to: usize,
-    side: usize,
-    known: &mut [u64; 4],
-)
+pub fn note(table: &[u64], n: usize, state: &[u64], to: usize, side: usize, known: &mut [u64; 4])
     requires { ⌜ Rows (now table) n ⌝ }
     requires { ⌜ length (now state) ≡ width n ⌝ }
     requires { ⌜ to < n ⌝ }

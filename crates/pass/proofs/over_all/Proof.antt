@@ -50,9 +50,11 @@ loop-again c =
     let s = t .before .before .before .before .before .before in
     let a = s .args in
     let L = t .before .loop in
-    let r = w .work-at .ensures in
-    (after-more (rows-vote (s .pre .0) (a .faulty)) (now (a .list)) (now (a .state)) (now (a .answers)) (s .pre .1 .1 .0) (L .i) (c .before .code .result) _
-    (L .state) (L .answers) (L .inv .0) (omega (arith, t .loop-test .taken, L .inv .0 .long)) (r .0) (c .before .code .ensures) refl, r .1)
+    let r = w .work-at .ensures in (
+      after-more (rows-vote (s .pre .0) (a .faulty)) (now (a .list)) (now (a .state)) (now (a .answers)) (s .pre .1 .1 .0) (L .i) (c .before .code .result) _
+          (L .state) (L .answers) (L .inv .0) (omega (arith, t .loop-test .taken, L .inv .0 .long)) (r .0) (c .before .code .ensures) refl,
+      r .1,
+    )
 
 same-length : tie.Need-same-length Inv-loop μ-loop
 same-length c = let l = c .before in omega (arith, l .loop .inv .0 .sound .long, l .before .before .before .before .before .pre .1 .0 .long)
@@ -65,9 +67,11 @@ returns c =
     let l = c .before in
     let s = l .before .before .before .before .before in
     let a = s .args in
-    let L = l .loop in
-    (after-all (rows-vote (s .pre .0) (a .faulty)) (now (a .list)) (now (a .state)) (now (a .answers)) (s .pre .1 .1 .0) (L .i) (L .state) (L .answers) (L .inv .0)
-    (omega (arith, c .loop-test .left, L .inv .0 .long)), L .inv .1)
+    let L = l .loop in (
+      after-all (rows-vote (s .pre .0) (a .faulty)) (now (a .list)) (now (a .state)) (now (a .answers)) (s .pre .1 .1 .0) (L .i) (L .state) (L .answers) (L .inv .0)
+          (omega (arith, c .loop-test .left, L .inv .0 .long)),
+      L .inv .1,
+    )
 
 pub over-all-spec : {M : Type 1} → statement M
 over-all-spec =

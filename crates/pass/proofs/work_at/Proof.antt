@@ -17,10 +17,12 @@ returns c =
     let from = to .before .before in
     let kind = from .before .before in
     let b = kind .before .before .before .before .before in
-    let a = b .args in
-    (works-at (rowVote (now (a .table)) (a .n) (a .faulty)) (a .i) (now (a .list)) (kind .wide .ensures .0) (from .wide2 .ensures .0) (to .wide3 .ensures .0) (side .wide4 .ensures .0)
-    (works-refused (b .pre .1 .0) (call (kind .wide .result) (from .wide2 .result) (to .wide3 .result) (side .wide4 .result)) (c .before .before .answer .ensures)
-    (c .enum-told2 .given .1)), b .pre .1 .1 .1)
+    let a = b .args in (
+      works-at (rowVote (now (a .table)) (a .n) (a .faulty)) (a .i) (now (a .list)) (kind .wide .ensures .0) (from .wide2 .ensures .0) (to .wide3 .ensures .0) (side .wide4 .ensures .0)
+          (works-refused (b .pre .1 .0) (call (kind .wide .result) (from .wide2 .result) (to .wide3 .result) (side .wide4 .result)) (c .before .before .answer .ensures)
+          (c .enum-told2 .given .1)),
+      b .pre .1 .1 .1,
+    )
 
 change-requires : tie.Need-change-requires
 change-requires c κs =
@@ -34,9 +36,11 @@ returns-2 c =
     let from = to .before .before in
     let kind = from .before .before in
     let a = kind .before .before .before .before .before .args in
-    let r = c .before .before .change .ensures in
-    (works-at (rowVote (now (a .table)) (a .n) (a .faulty)) (a .i) (now (a .list)) (kind .wide .ensures .0) (from .wide2 .ensures .0) (to .wide3 .ensures .0) (side .wide4 .ensures .0)
-    (same-answer (c .before .before .before .before .before .enum-told .given .1) (r .0)), r .1)
+    let r = c .before .before .change .ensures in (
+      works-at (rowVote (now (a .table)) (a .n) (a .faulty)) (a .i) (now (a .list)) (kind .wide .ensures .0) (from .wide2 .ensures .0) (to .wide3 .ensures .0) (side .wide4 .ensures .0)
+          (same-answer (c .before .before .before .before .before .enum-told .given .1) (r .0)),
+      r .1,
+    )
 
 pub work-at-spec : {M : Type 1} → statement M
 work-at-spec =
