@@ -85,7 +85,8 @@ pub extern "C" fn siren_threshold_step(
     side: u8,
     out: &mut [u64; 4],
 ) -> u64
-    ensures answer { λ r. ⌜ r ≡ ofStepped (toStepped (stepCheck (thresholds (now (image .entry))) faulty (call kind from to side) (now (state .entry)))) .number ⌝ }
+    ensures answer { λ r.
+        ⌜ r ≡ ofStepped (toStepped (stepCheck (thresholds (now (image .entry))) faulty (call kind from to side) (now (state .entry)))) .number ⌝ }
     ensures told { λ r.
         ⌜ now (out .exit) ≡ ofStepped (toStepped (stepCheck (thresholds (now (image .entry))) faulty (call kind from to side) (now (state .entry)))) .out ⌝ }
     ensures memory { λ r. ⌜ now (state .exit) ≡ stepInto (thresholds (now (image .entry))) faulty (call kind from to side) (now (state .entry)) ⌝ }

@@ -30,7 +30,7 @@ use Rattle.threshold_sets.proofs.Grows.{met-grows}
 use Rattle.threshold_sets.proofs.Present.{met-of-sites}
 use Rattle.threshold_sets.proofs.Whole.{all-meet}
 use Rattle.threshold_sets.specs.Check.{SoundSets}
-use Rattle.threshold_sets.specs.Met.{met}
+use Rattle.threshold_sets.specs.Met.{rootMet}
 
 -- what is asked of a row, by its form
 
@@ -119,7 +119,7 @@ module _ {t : List ℕ} {n : ℕ} (rows : Rows t n) where
   sets-grows : (v : ℕ) → ofSets t v ≡ true → (a b : ℕ) → a ⊆ b → rulesOf t .inside v a ≡ true → rulesOf t .inside v b ≡ true
   sets-grows v s a b sub e =
       let h = sym (sets-inside t v s a) ∙ e in
-      sets-inside t v s b ∙ and-i (sub .each v (mem (and-l (has a v) (met (setsOf (siteOf t v)) a) h)) .holds) (met-grows (setsOf (siteOf t v)) sub (and-r (has a v) (met (setsOf (siteOf t v)) a) h))
+      sets-inside t v s b ∙ and-i (sub .each v (mem (and-l (has a v) (rootMet (setsOf (siteOf t v)) a) h)) .holds) (met-grows (setsOf (siteOf t v)) sub (and-r (has a v) (rootMet (setsOf (siteOf t v)) a) h))
 
   sets-own : (v : ℕ) → ofSets t v ≡ true → (u : ℕ) → rulesOf t .inside v u ≡ true → v ∈ u
   sets-own v s u e = mem (and-l _ _ (sym (sets-inside t v s u) ∙ e))
@@ -128,7 +128,8 @@ module _ {t : List ℕ} {n : ℕ} (rows : Rows t n) where
   sets-and v s u e =
       let h = sym (sets-inside t v s u) ∙ e in
       sets-inside t v s (bitAnd u (allBelow n))
-      ∙ and-i (∈-and (mem (and-l (has u v) (met (setsOf (siteOf t v)) u) h)) (in-all (sets-site v s)) .holds) (met-of-sites (setsOf (siteOf t v)) (sets-of v s .some-set) n (sets-of v s .below) u ∙ and-r (has u v) (met (setsOf (siteOf t v)) u) h)
+      ∙ and-i (∈-and (mem (and-l (has u v) (rootMet (setsOf (siteOf t v)) u) h)) (in-all (sets-site v s)) .holds)
+      (met-of-sites (setsOf (siteOf t v)) (sets-of v s .some-set) n (sets-of v s .below) u ∙ and-r (has u v) (rootMet (setsOf (siteOf t v)) u) h)
 
   sets-all : (v : ℕ) → ofSets t v ≡ true → rulesOf t .inside v (allBelow n) ≡ true
   sets-all v s =

@@ -17,7 +17,7 @@ use Rattle.masks.specs.Mask.{has}
 use Rattle.sets.specs.Groups.{thresholds, Checked}
 use Rattle.sets.specs.Inner.AsRows.{AsRows}
 use Rattle.sets.specs.Inner.Rows.{ofSets, Rows, rowHolds, rulesOf}
-use Rattle.sets.specs.Thresholds.{holds, thresholdsOf}
+use Rattle.sets.specs.Thresholds.{holdsSlice, thresholdsOf}
 use Rattle.sets.proofs.Forms.{form-same}
 use Rattle.sets.proofs.Rows.{sets-inside, lists-inside, rows-form}
 use Rattle.sets.proofs.Slices.{inside-missed, no-slice}
@@ -27,14 +27,14 @@ use Rattle.table.specs.Table.{siteOf, countOf}
 use Rattle.threshold_block.specs.Block.{setsIn}
 use Rattle.threshold_image.proofs.Exact.{thresholds-checked}
 use Rattle.threshold_image.proofs.Rows.{length-rows, row-of}
-use Rattle.threshold_image.specs.Image.{blocks, Thresholds}
+use Rattle.threshold_image.specs.Image.{imageSites, Thresholds}
 use Rattle.threshold_image.specs.Inner.{rowsOf}
 use Rattle.threshold_row.proofs.Load.{row-count}
 use Rattle.threshold_row.proofs.Loaded.{loaded, loaded-met}
-use Rattle.threshold_row.specs.Inner.Row.{setsOf, rowOf}
+use Rattle.threshold_row.specs.Inner.Row.{setsOf, setsRow}
 use Rattle.threshold_sets.proofs.Alike.{Agree, agree-sym, sound-alike}
 use Rattle.threshold_sets.specs.Check.{SoundSets}
-use Rattle.threshold_sets.specs.Met.{met}
+use Rattle.threshold_sets.specs.Met.{rootMet}
 
 module _ {image : List ℕ} {n : ℕ} (bytes : Bytes image) (H : Thresholds image n) where
   abbrev here : ℕ → List ℕ
@@ -43,11 +43,11 @@ module _ {image : List ℕ} {n : ℕ} (bytes : Bytes image) (H : Thresholds imag
   bytes-block : (v : ℕ) → Bytes (here v)
   bytes-block v = bytes-part 512 (512 * v) image bytes
 
-  agree : (v : ℕ) → Agree 49 (setsOf (rowOf (here v))) (setsIn (here v))
+  agree : (v : ℕ) → Agree 49 (setsOf (setsRow (here v))) (setsIn (here v))
   agree v = loaded (here v) (bytes-block v)
 
   -- the row of a site is that of its block
-  site-row : (v : ℕ) → v < n → siteOf (rowsOf n image) v ≡ rowOf (here v)
+  site-row : (v : ℕ) → v < n → siteOf (rowsOf n image) v ≡ setsRow (here v)
   site-row v l = row-of n image v l
 
   first-number : (v : ℕ) → v < n → countOf (rowsOf n image) v ≡ 64 + countField (here v)
@@ -68,24 +68,24 @@ module _ {image : List ℕ} {n : ℕ} (bytes : Bytes image) (H : Thresholds imag
       }
 
   same-inside : (v u : ℕ) → rulesOf (rowsOf n image) .inside v u ≡ thresholdsOf image n .inside v u
-  unfolding thresholdsOf holds
+  unfolding thresholdsOf holdsSlice
   same-inside v u =
       ⊎-elim
       (λ e. let l = ltb-true v n e in
       sets-inside (rowsOf n image) v (of-sets v l) u
-      ∙ ap (λ (x : Bool). has u v && x) (ap (λ (m : List ℕ). met (setsOf m) u) (site-row v l) ∙ loaded-met (here v) (bytes-block v) (H .sets v l .few-sets) u)
-      ∙ sym (ap (λ (x : Bool). x && (has u v && met (setsIn (here v)) u)) e))
+      ∙ ap (λ (x : Bool). has u v && x) (ap (λ (m : List ℕ). rootMet (setsOf m) u) (site-row v l) ∙ loaded-met (here v) (bytes-block v) (H .sets v l .few-sets) u)
+      ∙ sym (ap (λ (x : Bool). x && (has u v && rootMet (setsIn (here v)) u)) e))
       (λ e. let z = no-slice threshold-rows v (ltb-false v n e) in
       lists-inside (rowsOf n image) v (ap (ltb 62) z) u
       ∙ inside-missed (rowsOf n image) v u (λ i k. absurd (not-suc-le-zero (subst (λ (x : ℕ). i < x) z k)))
-      ∙ sym (ap (λ (x : Bool). x && (has u v && met (setsIn (here v)) u)) e))
+      ∙ sym (ap (λ (x : Bool). x && (has u v && rootMet (setsIn (here v)) u)) e))
       (cases (ltb v n))
 
   pub threshold-rules : rulesOf (rowsOf n image) ≡ thresholdsOf image n
   threshold-rules = form-same (rows-form threshold-rows) (thresholds-form H) same-inside
 
 -- of one that is not refused
-pub as-threshold-rows : (image : List ℕ) → Bytes image → Checked (thresholds image) → AsRows (thresholds image) (rowsOf (blocks (length image)) image)
+pub as-threshold-rows : (image : List ℕ) → Bytes image → Checked (thresholds image) → AsRows (thresholds image) (rowsOf (imageSites (length image)) image)
 as-threshold-rows image bytes c =
     let H = thresholds-checked image c in
     record { checked = c; right = threshold-rows bytes H; same-rules = threshold-rules bytes H }

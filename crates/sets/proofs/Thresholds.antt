@@ -18,7 +18,7 @@ use Rattle.masks.proofs.Laws.Apart.{apart-⊆, ⊆-minus, ⊆-minus-apart, minu
 use Rattle.masks.proofs.Laws.Subsets.{mem, ⊆-refl, ∈-below, ∈-and, and-⊆-l, and-⊆-r, below-⊆, minus-⊆, ⊆-within, within-⊆}
 use Rattle.masks.specs.Mask.{has, within, minus, others, allBelow, _∈_, _⊆_}
 use Rattle.sets.specs.Forms.{Form, LawfulSlices}
-use Rattle.sets.specs.Thresholds.{holds, fbqsOfThresholds, thresholdsOf}
+use Rattle.sets.specs.Thresholds.{holdsSlice, fbqsOfThresholds, thresholdsOf}
 use Rattle.sets.proofs.Forms.{form-lawful}
 use Rattle.threshold_block.specs.Block.{setsIn}
 use Rattle.threshold_image.specs.Image.{Thresholds}
@@ -26,28 +26,28 @@ use Rattle.threshold_sets.proofs.Grows.{met-grows}
 use Rattle.threshold_sets.proofs.Present.{met-of-sites}
 use Rattle.threshold_sets.proofs.Whole.{all-meet}
 use Rattle.threshold_sets.specs.Check.{SoundSets}
-use Rattle.threshold_sets.specs.Met.{met}
+use Rattle.threshold_sets.specs.Met.{rootMet}
 
 -- who has a slice inside u: a site, in u, whose root u meets
 
 module _ (image : List ℕ) (n : ℕ) where
-  pub holds-of : {v u : ℕ} → v < n → v ∈ u → met (setsIn (part 512 v image)) u ≡ true → holds image n v u ≡ true
-  unfolding holds
+  pub holds-of : {v u : ℕ} → v < n → v ∈ u → rootMet (setsIn (part 512 v image)) u ≡ true → holdsSlice image n v u ≡ true
+  unfolding holdsSlice
   holds-of {v} l h m = and-i (lt-ltb v n l) (and-i (h .holds) m)
 
-  pub holds-site : (v u : ℕ) → holds image n v u ≡ true → v < n
-  unfolding holds
+  pub holds-site : (v u : ℕ) → holdsSlice image n v u ≡ true → v < n
+  unfolding holdsSlice
   holds-site v u e = ltb-true v n (and-l _ _ e)
 
-  pub holds-own : (v u : ℕ) → holds image n v u ≡ true → v ∈ u
-  unfolding holds
+  pub holds-own : (v u : ℕ) → holdsSlice image n v u ≡ true → v ∈ u
+  unfolding holdsSlice
   holds-own v u e = mem (and-l _ _ (and-r (ltb v n) _ e))
 
-  holds-met : (v u : ℕ) → holds image n v u ≡ true → met (setsIn (part 512 v image)) u ≡ true
-  unfolding holds
+  holds-met : (v u : ℕ) → holdsSlice image n v u ≡ true → rootMet (setsIn (part 512 v image)) u ≡ true
+  unfolding holdsSlice
   holds-met v u e = and-r (has u v) _ (and-r (ltb v n) _ e)
 
-  pub holds-grows : (v a b : ℕ) → a ⊆ b → holds image n v a ≡ true → holds image n v b ≡ true
+  pub holds-grows : (v a b : ℕ) → a ⊆ b → holdsSlice image n v a ≡ true → holdsSlice image n v b ≡ true
   holds-grows v a b sub e =
       holds-of (holds-site v a e) (sub .each v (holds-own v a e)) (met-grows (setsIn (part 512 v image)) sub (holds-met v a e))
 
@@ -55,45 +55,45 @@ module _ {image : List ℕ} {n : ℕ} (H : Thresholds image n) where
   sound-at : {v : ℕ} → v < n → SoundSets n (setsIn (part 512 v image))
   sound-at {v} l = H .sets v l
 
-  holds-and : (v u : ℕ) → holds image n v u ≡ true → holds image n v (bitAnd u (allBelow n)) ≡ true
+  holds-and : (v u : ℕ) → holdsSlice image n v u ≡ true → holdsSlice image n v (bitAnd u (allBelow n)) ≡ true
   holds-and v u e =
       let l = holds-site image n v u e in
       holds-of image n l (∈-and (holds-own image n v u e) (in-all l))
       (met-of-sites (setsIn (part 512 v image)) (sound-at l .some-set) n (sound-at l .below) u ∙ holds-met image n v u e)
 
-  holds-all : (v : ℕ) → v < n → holds image n v (allBelow n) ≡ true
+  holds-all : (v : ℕ) → v < n → holdsSlice image n v (allBelow n) ≡ true
   holds-all v l = holds-of image n l (in-all l) (all-meet (sound-at l) (allBelow n) (sound-at l .below))
 
   -- "every slice loses the members of B": some slice is inside u then exactly if one is inside u and b together
-  some-deleted : (b v u : ℕ) → some (2 ^ n) (λ q. holds image n v q && within (minus q b) u) ≡ holds image n v (bitOr u b)
+  some-deleted : (b v u : ℕ) → some (2 ^ n) (λ q. holdsSlice image n v q && within (minus q b) u) ≡ holdsSlice image n v (bitOr u b)
   some-deleted b v u =
       iff _ _
-      (λ e. let x = some-ex (2 ^ n) (λ q. holds image n v q && within (minus q b) u) e in
-      holds-grows image n v (x .0) (bitOr u b) (minus-⊆-or (x .0) b u (within-⊆ _ u (and-r (holds image n v (x .0)) _ (x .2)))) (and-l _ _ (x .2)))
+      (λ e. let x = some-ex (2 ^ n) (λ q. holdsSlice image n v q && within (minus q b) u) e in
+      holds-grows image n v (x .0) (bitOr u b) (minus-⊆-or (x .0) b u (within-⊆ _ u (and-r (holdsSlice image n v (x .0)) _ (x .2)))) (and-l _ _ (x .2)))
       (λ e. let q = bitAnd (bitOr u b) (allBelow n) in
-      some-of (2 ^ n) (λ q. holds image n v q && within (minus q b) u) {j = q} (below-⊆ n (and-⊆-r (bitOr u b) (allBelow n)) (ones-lt n))
+      some-of (2 ^ n) (λ q. holdsSlice image n v q && within (minus q b) u) {j = q} (below-⊆ n (and-⊆-r (bitOr u b) (allBelow n)) (ones-lt n))
       (and-i (holds-and v (bitOr u b) e) (⊆-within (or-⊆-minus q b u (and-⊆-l (bitOr u b) (allBelow n))))))
 
   -- a set meets every slice exactly if the rest holds none
-  every-met : (v w : ℕ) → every (2 ^ n) (λ q. not (holds image n v q) || not (eqb (bitAnd q (others w v)) 0)) ≡ not (holds image n v (minus (allBelow n) (others w v)))
+  every-met : (v w : ℕ) → every (2 ^ n) (λ q. not (holdsSlice image n v q) || not (eqb (bitAnd q (others w v)) 0)) ≡ not (holdsSlice image n v (minus (allBelow n) (others w v)))
   every-met v w =
       ⊎-elim
       (λ e. every-not (2 ^ n) p {j = rest} (below-⊆ n (minus-⊆ (allBelow n) (others w v)) (ones-lt n)) (at-rest e) ∙ sym (ap not e))
-      (λ e. every-of (2 ^ n) p (λ q l. each q e (cases (holds image n v q))) ∙ sym (ap not e))
-      (cases (holds image n v rest))
+      (λ e. every-of (2 ^ n) p (λ q l. each q e (cases (holdsSlice image n v q))) ∙ sym (ap not e))
+      (cases (holdsSlice image n v rest))
     where
       rest : ℕ
       rest = minus (allBelow n) (others w v)
 
       p : ℕ → Bool
-      p q = not (holds image n v q) || not (eqb (bitAnd q (others w v)) 0)
+      p q = not (holdsSlice image n v q) || not (eqb (bitAnd q (others w v)) 0)
 
-      at-rest : holds image n v rest ≡ true → p rest ≡ false
+      at-rest : holdsSlice image n v rest ≡ true → p rest ≡ false
       at-rest e = rw (e, eq-eqb (bitAnd rest (others w v)) 0 (⊆-minus-apart (allBelow n) (others w v) (⊆-refl rest))) refl
 
-      each : (q : ℕ) → holds image n v rest ≡ false → (holds image n v q ≡ true) ⊎ (holds image n v q ≡ false) → p q ≡ true
+      each : (q : ℕ) → holdsSlice image n v rest ≡ false → (holdsSlice image n v q ≡ true) ⊎ (holdsSlice image n v q ≡ false) → p q ≡ true
       each q e (inl h) =
-          or-i (not (holds image n v q)) (not (eqb (bitAnd q (others w v)) 0))
+          or-i (not (holdsSlice image n v q)) (not (eqb (bitAnd q (others w v)) 0))
           (ap not (is-false (eqb (bitAnd q (others w v)) 0)
           (λ z. let a = bitAnd q (allBelow n) in
           clash (holds-grows image n v a rest

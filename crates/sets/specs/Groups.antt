@@ -14,7 +14,7 @@ use Rattle.sets.specs.Promises.{Questions, questionsOf}
 use Rattle.sets.specs.Slices.{Slices, fbqsOf, slicesOf}
 use Rattle.sets.specs.Thresholds.{fbqsOfThresholds, thresholdsOf}
 use Rattle.table.specs.Table.{sites, check, Table}
-use Rattle.threshold_image.specs.Image.{blocks, thresholdsCheck, Thresholds}
+use Rattle.threshold_image.specs.Image.{imageSites, thresholdsCheck, Thresholds}
 
 pub data Groups : Type 0 where
   -- a table in memory, each site with its list of slices
@@ -25,16 +25,16 @@ pub data Groups : Type 0 where
 -- how many sites it has
 abbrev pub sitesOf : Groups → ℕ
 sitesOf (lists t) = sites (length t)
-sitesOf (thresholds image) = blocks (length image)
+sitesOf (thresholds image) = imageSites (length image)
 
 -- its slices: as the paper's pair, and as the tests that everything above asks
 abbrev pub fbqsIn : Groups → Fbqs
 fbqsIn (lists t) = fbqsOf t (sites (length t))
-fbqsIn (thresholds image) = fbqsOfThresholds image (blocks (length image))
+fbqsIn (thresholds image) = fbqsOfThresholds image (imageSites (length image))
 
 abbrev pub slicesIn : Groups → Slices
 slicesIn (lists t) = slicesOf t
-slicesIn (thresholds image) = thresholdsOf image (blocks (length image))
+slicesIn (thresholds image) = thresholdsOf image (imageSites (length image))
 
 -- its refusals: "A table in memory is refused with 1, 4, 5, 6 or 8 by every public call that takes one." A table of thresholds with 1, then block by block
 abbrev pub groupsCheck : Groups → Check
@@ -44,7 +44,7 @@ groupsCheck (thresholds image) = thresholdsCheck image
 -- what it promises then
 abbrev pub SoundTable : Groups → Type 0
 SoundTable (lists t) = Table t (sites (length t))
-SoundTable (thresholds image) = Thresholds image (blocks (length image))
+SoundTable (thresholds image) = Thresholds image (imageSites (length image))
 
 -- it is not refused
 abbrev pub Checked : Groups → Type 0

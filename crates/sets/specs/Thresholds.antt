@@ -11,22 +11,22 @@ use Rattle.masks.specs.Mask.{has, within, minus, others, allBelow, _⊆_}
 use Rattle.sets.specs.Paper.{Fbqs}
 use Rattle.sets.specs.Slices.{Slices}
 use Rattle.threshold_block.specs.Block.{setsIn}
-use Rattle.threshold_sets.specs.Met.{met}
+use Rattle.threshold_sets.specs.Met.{rootMet}
 
 -- "A site has a slice inside U if U contains the site and its root set is met by U": of the n sites that the image has
-unfoldable pub holds : List ℕ → ℕ → ℕ → ℕ → Bool
-unfolding met
-holds image n v u = ltb v n && (has u v && met (setsIn (part 512 v image)) u)
+unfoldable pub holdsSlice : List ℕ → ℕ → ℕ → ℕ → Bool
+unfolding rootMet
+holdsSlice image n v u = ltb v n && (has u v && rootMet (setsIn (part 512 v image)) u)
 
 -- "all such U are its slices": as the paper's pair
 abbrev pub fbqsOfThresholds : List ℕ → ℕ → Fbqs
-fbqsOfThresholds image n = record { sites = allBelow n; Slice = λ v q. (holds image n v q ≡ true) × (q ⊆ allBelow n) }
+fbqsOfThresholds image n = record { sites = allBelow n; Slice = λ v q. (holdsSlice image n v q ≡ true) × (q ⊆ allBelow n) }
 
 -- the answers of a table of thresholds
 unfoldable pub thresholdsOf : List ℕ → ℕ → Slices
-unfolding holds some every
+unfolding holdsSlice some every
 thresholdsOf image n = record {
-  inside = holds image n;
-  deleted = λ b v u. not (has b v) && some (2 ^ n) (λ q. holds image n v q && within (minus q b) u);
-  blocked = λ v w. every (2 ^ n) (λ q. not (holds image n v q) || not (eqb (bitAnd q (others w v)) 0));
+  inside = holdsSlice image n;
+  deleted = λ b v u. not (has b v) && some (2 ^ n) (λ q. holdsSlice image n v q && within (minus q b) u);
+  blocked = λ v w. every (2 ^ n) (λ q. not (holdsSlice image n v q) || not (eqb (bitAnd q (others w v)) 0));
 }

@@ -5,7 +5,7 @@ ghost use Prim.Native.Nat.{ℕ, _<_, _≤_};
 ghost use Rattle.masks.specs.Mask.{within};
 ghost use Rattle.table.specs.Table.{siteOf, countOf, sliceOf};
 ghost use Rattle.threshold_row.specs.Inner.Row.{setsOf};
-ghost use Rattle.threshold_sets.specs.Met.{met};
+ghost use Rattle.threshold_sets.specs.Met.{rootMet};
 ghost use Rattle.sets.specs.Groups.{outsider};
 ghost use Rattle.sets.specs.Inner.Rows.{ofSets, ListedRow, Rows, rulesOf};
 ghost use Rattle.sets.specs.Quorum.{quorum};
@@ -37,7 +37,7 @@ fn is_met(table: &[u64], n: usize, v: usize, u: u64) -> bool
     requires { ⌜ Rows (now table) n ⌝ }
     requires { ⌜ v < n ⌝ }
     requires { ⌜ ofSets (now table) v ≡ true ⌝ }
-    ensures { λ r. ⌜ r ≡ met (setsOf (siteOf (now (table .entry)) v)) u ⌝ }
+    ensures { λ r. ⌜ r ≡ rootMet (setsOf (siteOf (now (table .entry)) v)) u ⌝ }
 {
     threshold_row::is_met(&table[63 * v..63 * v + 63], u)
 }
@@ -49,13 +49,9 @@ fn blocks_unmet(table: &[u64], n: usize, w: u64, v: usize) -> bool
     requires { ⌜ ofSets (now table) v ≡ true ⌝ }
     ensures { λ r. ⌜ r ≡ rulesOf (now (table .entry)) .blocked v w ⌝ }
 {
-    let others = masks::minus(w, masks::single(v as u64));
-    !is_met(
-        table,
-        n,
-        v,
-        masks::minus(masks::all_below(n as u64), others),
-    )
+    let own = masks::single(v as u64);
+    let all = masks::all_below(n as u64);
+    !is_met(table, n, v, masks::minus(all, masks::minus(w, own)))
 }
 
 // Of a row that lists slices: without v itself the set w meets every slice of v.

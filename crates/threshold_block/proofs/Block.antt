@@ -19,7 +19,7 @@ use Rattle.refusals.specs.declared.Refusal.the-variants.{Sums, Header, Count, F
 use Rattle.rows.proofs.Site.{unfilled-more}
 use Rattle.site_block.specs.Block.{siteField, sitesField, countField, zeroField, misheaded}
 use Rattle.threshold_block.specs.Block.{setsIn, setsUnfilled, thresholdBlockCheck}
-use Rattle.threshold_sets.specs.Check.{owed, setCheck, owing, setsCheck}
+use Rattle.threshold_sets.specs.Check.{owed, oneSetCheck, owing, setsCheck}
 
 -- one byte of filler more
 pub filler-more : (b : List ℕ) (from at any : ℕ) → from ≤ at → not (eqb any 0) ≡ some (at - from) (λ j. not (eqb (getD b (from + j) 0) 0))
@@ -45,20 +45,20 @@ between (Refused r) b c = refl
 -- the ways out of the walk over the sets
 module _ (n place : ℕ) (b : List ℕ) (many : ℕ) where
   abbrev Walk : Check
-  Walk = orElse (first (setCheck n place (setsIn b)) many) (refuse (owing (setsIn b)) (Nesting place))
+  Walk = orElse (first (oneSetCheck n place (setsIn b)) many) (refuse (owing (setsIn b)) (Nesting place))
 
-  pub sets-stop : (i : ℕ) (r : Refusal) → i < many → first (setCheck n place (setsIn b)) i ≡ Sound → setCheck n place (setsIn b) i ≡ Refused r → Walk ≡ Refused r
+  pub sets-stop : (i : ℕ) (r : Refusal) → i < many → first (oneSetCheck n place (setsIn b)) i ≡ Sound → oneSetCheck n place (setsIn b) i ≡ Refused r → Walk ≡ Refused r
   sets-stop i r l p q =
-      ap (λ (c : Check). orElse c (refuse (owing (setsIn b)) (Nesting place))) (first-stop (setCheck n place (setsIn b)) many i r l p q)
+      ap (λ (c : Check). orElse c (refuse (owing (setsIn b)) (Nesting place))) (first-stop (oneSetCheck n place (setsIn b)) many i r l p q)
 
   -- all sets are sound, and d levels are open behind the last
-  module _ {d i : ℕ} (m : many ≡ countField b) (e : i ≡ many) (k : d ≡ length (owed (setsIn b) i)) (p : first (setCheck n place (setsIn b)) i ≡ Sound) where
+  module _ {d i : ℕ} (m : many ≡ countField b) (e : i ≡ many) (k : d ≡ length (owed (setsIn b) i)) (p : first (oneSetCheck n place (setsIn b)) i ≡ Sound) where
     behind-last : length (owed (setsIn b) (countField b)) ≡ d
     behind-last = ap (λ (j : ℕ). length (owed (setsIn b) j)) (sym (e ∙ m)) ∙ sym k
 
     all-sound : Walk ≡ refuse (owing (setsIn b)) (Nesting place)
     all-sound =
-        ap (λ (c : Check). orElse c (refuse (owing (setsIn b)) (Nesting place))) (subst (λ (j : ℕ). first (setCheck n place (setsIn b)) j ≡ Sound) e p)
+        ap (λ (c : Check). orElse c (refuse (owing (setsIn b)) (Nesting place))) (subst (λ (j : ℕ). first (oneSetCheck n place (setsIn b)) j ≡ Sound) e p)
 
     pub sets-owing : (d ≡ 0 → ⊥) → Walk ≡ Refused (Nesting place)
     unfolding owing
@@ -104,19 +104,19 @@ module _ (n place : ℕ) (b : List ℕ) where
 
   module _ (some-set : countField b ≡ 0 → ⊥) (few-sets : countField b ≤ 49) where
     counted : setsCheck n place (setsIn b) (setsUnfilled b)
-        ≡ orElse (orElse (first (setCheck n place (setsIn b)) (countField b)) (refuse (owing (setsIn b)) (Nesting place))) (refuse (setsUnfilled b) (Filler place))
+        ≡ orElse (orElse (first (oneSetCheck n place (setsIn b)) (countField b)) (refuse (owing (setsIn b)) (Nesting place))) (refuse (setsUnfilled b) (Filler place))
     unfolding setsCheck
     counted =
         rw (ne-eqb (countField b) 0 some-set, le-ltb 49 (countField b) few-sets)
-        (sym (between (first (setCheck n place (setsIn b)) (countField b)) (refuse (owing (setsIn b)) (Nesting place)) (refuse (setsUnfilled b) (Filler place))))
+        (sym (between (first (oneSetCheck n place (setsIn b)) (countField b)) (refuse (owing (setsIn b)) (Nesting place)) (refuse (setsUnfilled b) (Filler place))))
 
     module _ {many : ℕ} {q : Check} (e : many ≡ countField b)
-        (f : q ≡ orElse (first (setCheck n place (setsIn b)) many) (refuse (owing (setsIn b)) (Nesting place))) where
+        (f : q ≡ orElse (first (oneSetCheck n place (setsIn b)) many) (refuse (owing (setsIn b)) (Nesting place))) where
       walked : setsCheck n place (setsIn b) (setsUnfilled b) ≡ orElse q (refuse (setsUnfilled b) (Filler place))
       walked =
           counted
           ∙ ap (λ (c : Check). orElse c (refuse (setsUnfilled b) (Filler place)))
-          (sym (f ∙ ap (λ (k : ℕ). orElse (first (setCheck n place (setsIn b)) k) (refuse (owing (setsIn b)) (Nesting place))) e))
+          (sym (f ∙ ap (λ (k : ℕ). orElse (first (oneSetCheck n place (setsIn b)) k) (refuse (owing (setsIn b)) (Nesting place))) e))
 
       pub set-refused : (r : Refusal) → q ≡ Refused r → setsCheck n place (setsIn b) (setsUnfilled b) ≡ Refused r
       set-refused r g = walked ∙ ap (λ (c : Check). orElse c (refuse (setsUnfilled b) (Filler place))) g

@@ -6,14 +6,14 @@ ghost use Rattle.refusals.specs.First.{orElse, refuse, first};
 ghost use Rattle.site_block.specs.Block.{countField};
 ghost use Rattle.threshold_block.specs.Block.{setsIn, setsUnfilled, thresholdBlockCheck};
 ghost use Rattle.threshold_block.specs.Inner.{opened};
-ghost use Rattle.threshold_sets.specs.Check.{closed, entered, owed, owing, setCheck, setsCheck};
+ghost use Rattle.threshold_sets.specs.Check.{closedLevels, enteredLevels, owed, owing, oneSetCheck, setsCheck};
 use refusals::Check;
 use refusals::Refusal;
 
 // Of the open levels those that are left when each innermost one that owes no set is closed: how many.
 fn close(levels: &[u8; 5], depth: usize) -> usize
     requires { ⌜ depth ≤ 5 ⌝ }
-    ensures { λ r. ⌜ (opened (now (levels .entry)) r ≡ closed (opened (now (levels .entry)) depth)) × (r ≤ depth) ⌝ }
+    ensures { λ r. ⌜ (opened (now (levels .entry)) r ≡ closedLevels (opened (now (levels .entry)) depth)) × (r ≤ depth) ⌝ }
 {
     let mut d = depth;
     while 0 < d {
@@ -31,7 +31,8 @@ fn enter(levels: &mut [u8; 5], depth: usize, k: u8) -> usize
     requires { ⌜ 1 ≤ depth ⌝ }
     requires { ⌜ depth ≤ 4 ⌝ }
     requires { ⌜ 1 ≤ getD (now levels) (depth - 1) 0 ⌝ }
-    ensures { λ r. ⌜ (opened (now (levels .exit)) r ≡ entered k (opened (now (levels .entry)) depth)) × (r ≤ depth + 1) × (length (now (levels .exit)) ≡ 5) ⌝ }
+    ensures { λ r.
+        ⌜ (opened (now (levels .exit)) r ≡ enteredLevels k (opened (now (levels .entry)) depth)) × (r ≤ depth + 1) × (length (now (levels .exit)) ≡ 5) ⌝ }
 {
     let at = depth - 1;
     levels[at] = levels[at] - 1;
@@ -45,7 +46,7 @@ fn check_set(b: &[u8], n: u64, place: u64, i: usize, depth: usize) -> Check
     requires { ⌜ n ≤ 64 ⌝ }
     requires { ⌜ i < 49 ⌝ }
     requires { ⌜ depth ≡ length (owed (setsIn (now b)) i) ⌝ }
-    ensures { λ r. ⌜ r ≡ setCheck n place (setsIn (now (b .entry))) i ⌝ }
+    ensures { λ r. ⌜ r ≡ oneSetCheck n place (setsIn (now (b .entry))) i ⌝ }
 {
     let plain = le::get64(b, 10 + 10 * i);
     if !masks::within(plain, masks::all_below(n)) {
@@ -73,7 +74,7 @@ fn check_sets(b: &[u8], n: u64, place: u64, many: usize) -> Check
     requires { ⌜ n ≤ 64 ⌝ }
     requires { ⌜ many ≡ countField (now b) ⌝ }
     requires { ⌜ many ≤ 49 ⌝ }
-    ensures { λ r. ⌜ r ≡ orElse (first (setCheck n place (setsIn (now (b .entry)))) many)
+    ensures { λ r. ⌜ r ≡ orElse (first (oneSetCheck n place (setsIn (now (b .entry)))) many)
         (refuse (owing (setsIn (now (b .entry)))) (Refusal.Nesting place)) ⌝ }
 {
     let mut levels = [1u8, 0, 0, 0, 0];

@@ -14,7 +14,7 @@ use Rattle.refusals.specs.declared.Check.the-variants.{Sound}
 use Rattle.refusals.specs.declared.Refusal.the-variants.{Length, Sums, Header}
 use Rattle.site_block.specs.Block.{misheaded}
 use Rattle.threshold_block.specs.Block.{setsIn, setsUnfilled, thresholdBlockCheck}
-use Rattle.threshold_image.specs.Image.{blocks, thresholdBlocksCheck, thresholdsCheck, Thresholds, ThresholdsExact}
+use Rattle.threshold_image.specs.Image.{imageSites, thresholdBlocksCheck, thresholdsCheck, Thresholds, ThresholdsExact}
 use Rattle.threshold_image.proofs.Length.{whole-blocks, blocks-shape, right-length}
 use Rattle.threshold_sets.proofs.Exact.{sets-checked, sets-sound}
 use Rattle.threshold_sets.specs.Check.{setsCheck, SoundSets}
@@ -40,10 +40,10 @@ unfolding thresholdBlockCheck
 sound-block n site place b s = rw (s .sums, s .head) (sets-sound n place (setsIn b) (setsUnfilled b) (s .held) (s .clean))
 
 -- what gets through is sound
-pub thresholds-checked : (image : List ℕ) → thresholdsCheck image ≡ Sound → Thresholds image (blocks (length image))
+pub thresholds-checked : (image : List ℕ) → thresholdsCheck image ≡ Sound → Thresholds image (imageSites (length image))
 unfolding thresholdsCheck thresholdBlocksCheck
 thresholds-checked image h =
-    let n = blocks (length image) in
+    let n = imageSites (length image) in
     let p = missed (imageMisshapen (length image)) Length (thresholdBlocksCheck n image) h in
     let q = blocks-shape (length image) (p .0) in
     let each : (v : ℕ) → v < n → SoundBlock n v (part 512 v image) =
@@ -65,7 +65,7 @@ thresholds-sound {image} {n} t =
     let z = t .long in
     let a = t .some-site in
     let b = t .few-sites in
-    let e : blocks (length image) ≡ n = omega arith in
+    let e : imageSites (length image) ≡ n = omega arith in
     right-length image (whole-blocks (length image) (λ k. omega arith) (omega arith) (omega arith))
     ∙ ap (λ (k : ℕ). thresholdBlocksCheck k image) e
     ∙ first-sound (λ v. thresholdBlockCheck n v v (part 512 v image)) n

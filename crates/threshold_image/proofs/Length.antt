@@ -12,7 +12,7 @@ use Rattle.ground.proofs.Logic.{cases, or-none}
 use Rattle.image_blocks.specs.Image.{imageMisshapen}
 use Rattle.refusals.specs.declared.Check.the-variants.{Refused}
 use Rattle.refusals.specs.declared.Refusal.the-variants.{Length}
-use Rattle.threshold_image.specs.Image.{blocks, thresholdBlocksCheck, thresholdsCheck}
+use Rattle.threshold_image.specs.Image.{imageSites, thresholdBlocksCheck, thresholdsCheck}
 
 module _ (many : ℕ) where
   pub no-blocks : many / 512 ≡ 0 → imageMisshapen many ≡ true
@@ -47,6 +47,6 @@ pub wrong-length : (image : List ℕ) → imageMisshapen (length image) ≡ true
 unfolding thresholdsCheck
 wrong-length image e = rw e refl
 
-pub right-length : (image : List ℕ) → imageMisshapen (length image) ≡ false → thresholdsCheck image ≡ thresholdBlocksCheck (blocks (length image)) image
+pub right-length : (image : List ℕ) → imageMisshapen (length image) ≡ false → thresholdsCheck image ≡ thresholdBlocksCheck (imageSites (length image)) image
 unfolding thresholdsCheck
 right-length image e = rw e refl

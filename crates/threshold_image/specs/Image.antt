@@ -17,8 +17,8 @@ use Rattle.threshold_block.specs.Block.{setsIn, setsUnfilled, thresholdBlockChe
 use Rattle.threshold_sets.specs.Check.{SoundSets}
 
 -- how many sites an image of so many bytes has
-abbrev pub blocks : ℕ → ℕ
-blocks length = length / 512
+abbrev pub imageSites : ℕ → ℕ
+imageSites length = length / 512
 
 -- all blocks, in order; the site of a block is its place
 unfoldable pub thresholdBlocksCheck : ℕ → List ℕ → Check
@@ -28,7 +28,7 @@ thresholdBlocksCheck n image = first (λ i. thresholdBlockCheck n i i (part 512 
 -- 1, then block by block
 unfoldable pub thresholdsCheck : List ℕ → Check
 unfolding imageMisshapen thresholdBlocksCheck
-thresholdsCheck image = orElse (refuse (imageMisshapen (length image)) Length) (thresholdBlocksCheck (blocks (length image)) image)
+thresholdsCheck image = orElse (refuse (imageMisshapen (length image)) Length) (thresholdBlocksCheck (imageSites (length image)) image)
 
 -- what a sound image promises: 1 to 64 blocks, each with its check, its head, sound sets and filler of zeros
 pub record Thresholds (image : List ℕ) (n : ℕ) : Type 0 where
@@ -42,4 +42,4 @@ pub record Thresholds (image : List ℕ) (n : ℕ) : Type 0 where
 
 -- the check takes exactly the sound images
 abbrev pub ThresholdsExact : Type 0
-ThresholdsExact = (image : List ℕ) → (thresholdsCheck image ≡ Sound) ↔ Thresholds image (blocks (length image))
+ThresholdsExact = (image : List ℕ) → (thresholdsCheck image ≡ Sound) ↔ Thresholds image (imageSites (length image))

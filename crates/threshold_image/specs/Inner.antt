@@ -2,8 +2,8 @@
 use Prim.Native.Nat.{ℕ}
 use mathlib.Core.List.{List}
 use Rattle.ground.specs.Pieces.{cat, part}
-use Rattle.threshold_row.specs.Inner.Row.{rowOf}
+use Rattle.threshold_row.specs.Inner.Row.{setsRow}
 
 unfoldable pub rowsOf : ℕ → List ℕ → List ℕ
-unfolding rowOf
-rowsOf n image = cat (λ i. rowOf (part 512 i image)) n
+unfolding setsRow
+rowsOf n image = cat (λ i. setsRow (part 512 i image)) n

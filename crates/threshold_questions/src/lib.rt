@@ -1,5 +1,5 @@
-// The set questions of a table of thresholds as public calls, but for the two verdicts: each checks image, set and site itself, in the order image, 10, 11. The
-// image is checked first; the rest is asked of its rows.
+// The set questions of a table of thresholds as public calls, but for the two verdicts: each checks image, set and site itself, in the order image, 10, 11.
+// The image is checked first; the rest is asked of its rows.
 ghost use mathlib.Core.Path.{_≡_};
 ghost use Rattle.sets.specs.Groups.{thresholds};
 ghost use Rattle.questions.specs.Answers.{quorum, largest, blocks};

@@ -9,7 +9,7 @@ use Rattle.ground.proofs.Pieces.{fill-one, cat-more, length-cat, cat-at}
 use Rattle.ground.specs.Pieces.{cat}
 use Rattle.le.specs.Le.{field}
 use Rattle.site_block.specs.Block.{countField}
-use Rattle.threshold_row.specs.Inner.Row.{pairAt, fourAt, masksOf, rowOf}
+use Rattle.threshold_row.specs.Inner.Row.{pairAt, fourAt, masksOf, setsRow}
 
 length-masks : (b : List ℕ) (k : ℕ) → length (masksOf b k) ≡ 1 + k
 unfolding masksOf
@@ -63,11 +63,11 @@ pairs-again b m d k x h e ex =
     let n : 50 + (k + 1) ≡ 50 + k + 1 = omega arith in
     rw (e, ex, pairs-more b k, n) (fill-one (pairsTo b k) d (50 + k) (fourAt b k) (length-pairs b k) h)
 
-row-whole : (b : List ℕ) → pairsTo b 12 ++ (pairAt b 48 ∷ []) ≡ rowOf b
-unfolding pairsTo rowOf
+row-whole : (b : List ℕ) → pairsTo b 12 ++ (pairAt b 48 ∷ []) ≡ setsRow b
+unfolding pairsTo setsRow
 row-whole b = append-assoc (masksOf b 49) (cat (λ j. fourAt b j ∷ []) 12) (pairAt b 48 ∷ [])
 
-pub pairs-done : (b m d : List ℕ) (k x : ℕ) → k ≡ 12 → length d ≡ 63 → m ≡ pairsTo b k ++ drop (50 + k) d → x ≡ pairAt b 48 → set m 62 x ≡ rowOf b
+pub pairs-done : (b m d : List ℕ) (k x : ℕ) → k ≡ 12 → length d ≡ 63 → m ≡ pairsTo b k ++ drop (50 + k) d → x ≡ pairAt b 48 → set m 62 x ≡ setsRow b
 pairs-done b m d k x ek ed e ex =
     let g : m ≡ pairsTo b 12 ++ drop 62 d = rw ek at e in
     let n : drop 63 d ≡ [] = rw (← ed) (drop-length d) in
@@ -88,24 +88,24 @@ in-pairs b k l =
     ap (λ (n : ℕ). getD (masksOf b 49 ++ cat (λ j. fourAt b j ∷ []) 12) (n + k) 0) (sym (length-masks b 49))
     ∙ getD-append-add (masksOf b 49) (cat (λ j. fourAt b j ∷ []) 12) k 0 ∙ cat-at (fourAt b) 12 k l
 
-pub length-row : (b : List ℕ) → length (rowOf b) ≡ 63
+pub length-row : (b : List ℕ) → length (setsRow b) ≡ 63
 length-row b = ap length (sym (row-whole b)) ∙ length-append (pairsTo b 12) (pairAt b 48 ∷ []) ∙ omega (arith, length-pairs b 12)
 
-pub row-count : (b : List ℕ) → getD (rowOf b) 0 0 ≡ 64 + countField b
-unfolding rowOf masksOf
+pub row-count : (b : List ℕ) → getD (setsRow b) 0 0 ≡ 64 + countField b
+unfolding setsRow masksOf
 row-count b = refl
 
-pub row-mask : (b : List ℕ) (i : ℕ) → i < 49 → getD (rowOf b) (1 + i) 0 ≡ field 8 b (10 + 10 * i)
-unfolding rowOf
+pub row-mask : (b : List ℕ) (i : ℕ) → i < 49 → getD (setsRow b) (1 + i) 0 ≡ field 8 b (10 + 10 * i)
+unfolding setsRow
 row-mask b i l =
     List·getD-append (masksOf b 49) (cat (λ j. fourAt b j ∷ []) 12 ++ (pairAt b 48 ∷ [])) 0 (1 + i) (omega (arith, length-masks b 49))
     ∙ in-masks b i l
 
-pub row-four : (b : List ℕ) (k : ℕ) → k < 12 → getD (rowOf b) (50 + k) 0 ≡ fourAt b k
+pub row-four : (b : List ℕ) (k : ℕ) → k < 12 → getD (setsRow b) (50 + k) 0 ≡ fourAt b k
 row-four b k l =
     ap (λ (m : List ℕ). getD m (50 + k) 0) (sym (row-whole b))
     ∙ List·getD-append (pairsTo b 12) (pairAt b 48 ∷ []) 0 (50 + k) (omega (arith, length-pairs b 12))
     ∙ in-pairs b k l
 
-pub row-last : (b : List ℕ) → getD (rowOf b) 62 0 ≡ pairAt b 48
+pub row-last : (b : List ℕ) → getD (setsRow b) 62 0 ≡ pairAt b 48
 row-last b = ap (λ (m : List ℕ). getD m 62 0) (sym (row-whole b)) ∙ getD-at (pairsTo b 12) (pairAt b 48) [] 0 62 (length-pairs b 12)

@@ -13,10 +13,10 @@ use Rattle.le.proofs.Laws.{field2}
 use Rattle.le.specs.Le.{Bytes}
 use Rattle.site_block.specs.Block.{countField}
 use Rattle.threshold_block.specs.Block.{setsIn}
-use Rattle.threshold_row.specs.Inner.Row.{pairIn, setsOf, pairAt, fourAt, rowOf}
+use Rattle.threshold_row.specs.Inner.Row.{pairIn, setsOf, pairAt, fourAt, setsRow}
 use Rattle.threshold_row.proofs.Load.{row-count, row-mask, row-four, row-last}
 use Rattle.threshold_sets.proofs.Alike.{Agree, met-alike}
-use Rattle.threshold_sets.specs.Met.{met}
+use Rattle.threshold_sets.specs.Met.{rootMet}
 
 -- four numbers of 16 bits in one: each is read back
 module _ (p q r s : ℕ) (hp : p < 65536) (hq : q < 65536) (hr : r < 65536) (hs : s < 65536) where
@@ -48,7 +48,7 @@ module _ (b : List ℕ) (bytes : Bytes b) where
       (λ n1. ⊎-elim (λ e. rw e (third-of _ _ _ _ f0 f1 f2 f3))
       (λ n2. let e : j ≡ 3 = omega arith in rw e (fourth-of _ _ _ _ f0 f1 f2 f3)) (same? j 2)) (same? j 1)) (same? j 0)
 
-  pair-loaded : (i : ℕ) → i < 49 → pairIn (rowOf b) i ≡ pairAt b i
+  pair-loaded : (i : ℕ) → i < 49 → pairIn (setsRow b) i ≡ pairAt b i
   pair-loaded i l =
       ⊎-elim
       (λ t. let h = ltb-true i 48 t in
@@ -68,7 +68,7 @@ module _ (b : List ℕ) (bytes : Bytes b) where
       omega (arith, f, bytes (8 + 10 * i))
 
   -- the same sets, all 49
-  pub loaded : Agree 49 (setsOf (rowOf b)) (setsIn b)
+  pub loaded : Agree 49 (setsOf (setsRow b)) (setsIn b)
   loaded =
       record {
         count-alike = ap (λ (x : ℕ). x - 64) (row-count b) ∙ omega arith;
@@ -78,5 +78,5 @@ module _ (b : List ℕ) (bytes : Bytes b) where
       }
 
   -- met alike
-  pub loaded-met : countField b ≤ 49 → (u : ℕ) → met (setsOf (rowOf b)) u ≡ met (setsIn b) u
+  pub loaded-met : countField b ≤ 49 → (u : ℕ) → rootMet (setsOf (setsRow b)) u ≡ rootMet (setsIn b) u
   loaded-met few u = met-alike loaded (omega arith) (omega (arith, loaded .count-alike)) u

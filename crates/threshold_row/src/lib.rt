@@ -7,9 +7,9 @@ ghost use lib.Bits.{bitAnd};
 ghost use lib.Dec.{leb};
 ghost use lib.ListN.{length, getD, drop};
 ghost use Rattle.masks.specs.Mask.{size};
-ghost use Rattle.threshold_sets.specs.Met.{members, setAt, met};
-ghost use Rattle.threshold_row.specs.Inner.Row.{pairIn, setsOf, fourAt, masksOf, rowOf};
-ghost use Rattle.threshold_row.specs.Inner.Seen.{Says};
+ghost use Rattle.threshold_sets.specs.Met.{membersAt, setAt, rootMet};
+ghost use Rattle.threshold_row.specs.Inner.Row.{pairIn, setsOf, fourAt, masksOf, setsRow};
+ghost use Rattle.threshold_row.specs.Inner.Seen.{Tells};
 
 // How many sets are met, and the place behind them.
 struct Seen {
@@ -49,7 +49,7 @@ fn set_at(m: &[u64], many: usize, u: u64, levels: u64, i: usize) -> Seen
     requires { ⌜ many ≡ setsOf (now m) .count ⌝ }
     requires { ⌜ many ≤ 49 ⌝ }
     requires { ⌜ i < many ⌝ }
-    ensures { λ r. ⌜ Says (r .met) (r .next) (setAt (setsOf (now (m .entry))) u levels i) × (r .met ≤ 1) × (i < r .next) ⌝ }
+    ensures { λ r. ⌜ Tells (r .met) (r .next) (setAt (setsOf (now (m .entry))) u levels i) × (r .met ≤ 1) × (i < r .next) ⌝ }
 {
     if levels == 0 {
         return Seen {
@@ -72,7 +72,7 @@ fn members_at(m: &[u64], many: usize, u: u64, levels: u64, i: usize, k: u64) -> 
     requires { ⌜ many ≡ setsOf (now m) .count ⌝ }
     requires { ⌜ many ≤ 49 ⌝ }
     requires { ⌜ k ≤ 255 ⌝ }
-    ensures { λ r. ⌜ Says (r .met) (r .next) (members (setsOf (now (m .entry))) u (setAt (setsOf (now (m .entry))) u levels) k i)
+    ensures { λ r. ⌜ Tells (r .met) (r .next) (membersAt (setsOf (now (m .entry))) u (setAt (setsOf (now (m .entry))) u levels) k i)
         × (r .met ≤ k) × (i ≤ r .next) ⌝ }
 {
     if k == 0 {
@@ -94,7 +94,7 @@ pub fn is_met(m: &[u64], u: u64) -> bool
     requires { ⌜ length (now m) ≡ 63 ⌝ }
     requires { ⌜ 65 ≤ getD (now m) 0 0 ⌝ }
     requires { ⌜ getD (now m) 0 0 ≤ 113 ⌝ }
-    ensures { λ r. ⌜ r ≡ met (setsOf (now (m .entry))) u ⌝ }
+    ensures { λ r. ⌜ r ≡ rootMet (setsOf (now (m .entry))) u ⌝ }
 {
     let root = set_at(m, (m[0] - 64) as usize, u, 4, 0);
     root.met == 1
@@ -131,7 +131,7 @@ fn load_masks(b: &[u8], m: &mut [u64])
 pub fn load_row(b: &[u8], m: &mut [u64])
     requires { ⌜ length (now b) ≡ 512 ⌝ }
     requires { ⌜ length (now m) ≡ 63 ⌝ }
-    ensures { λ r. ⌜ now (m .exit) ≡ rowOf (now (b .entry)) ⌝ }
+    ensures { λ r. ⌜ now (m .exit) ≡ setsRow (now (b .entry)) ⌝ }
 {
     load_masks(b, m);
     let mut k: usize = 0;

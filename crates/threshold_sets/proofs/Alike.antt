@@ -9,8 +9,8 @@ use lib.Dec.{eqb, ltb}
 use borrow.Author.Tests.{ltb-true}
 use Rattle.ground.proofs.Logic.{cases}
 use Rattle.masks.specs.Mask.{allBelow, _⊆_}
-use Rattle.threshold_sets.specs.Check.{entered, owed, SoundSets}
-use Rattle.threshold_sets.specs.Met.{ThresholdSets, After, join, reach, members, setAt, met}
+use Rattle.threshold_sets.specs.Check.{enteredLevels, owed, SoundSets}
+use Rattle.threshold_sets.specs.Met.{ThresholdSets, AfterSets, join, reach, membersAt, setAt, rootMet}
 
 -- the same sets, as far as the first k go
 pub record Agree (k : ℕ) (S T : ThresholdSets) : Type 0 where
@@ -32,19 +32,19 @@ agree-sym a =
 module _ (S T : ThresholdSets) (u w k : ℕ) (few : S .count ≤ k) (counts : S .count ≡ T .count)
     (thresholds : (i : ℕ) → i < k → S .threshold i ≡ T .threshold i) (inners : (i : ℕ) → i < k → S .inner i ≡ T .inner i)
     (present : (i : ℕ) → i < k → bitAnd (S .plain i) u ≡ bitAnd (T .plain i) w) where
-  members-alike : (s r : ℕ → After) → ((i : ℕ) → i < k → s i ≡ r i) → (m i : ℕ) → members S u s m i ≡ members T w r m i
-  unfolding members
+  members-alike : (s r : ℕ → AfterSets) → ((i : ℕ) → i < k → s i ≡ r i) → (m i : ℕ) → membersAt S u s m i ≡ membersAt T w r m i
+  unfolding membersAt
   members-alike s r f zero i = refl
   members-alike s r f (suc m) i =
       ⊎-elim
       (λ e. let l = ltb-true i (S .count) e in
       let q : ltb i (T .count) ≡ true = rw (← counts) e in
       let z : s i ≡ r i = f i (omega arith) in
-      rw (e, q) (ap₂ join z (members-alike s r f m (s i .next) ∙ ap (λ (a : After). members T w r m (a .next)) z)))
+      rw (e, q) (ap₂ join z (members-alike s r f m (s i .next) ∙ ap (λ (a : AfterSets). membersAt T w r m (a .next)) z)))
       (λ e. let q : ltb i (T .count) ≡ false = rw (← counts) e in rw (e, q) refl)
       (cases (ltb i (S .count)))
 
-  reach-alike : (i : ℕ) {a b : After} → i < k → a ≡ b → reach S u i a ≡ reach T w i b
+  reach-alike : (i : ℕ) {a b : AfterSets} → i < k → a ≡ b → reach S u i a ≡ reach T w i b
   reach-alike i l e = rw (thresholds i l, present i l, e) refl
 
   set-alike : (l i : ℕ) → i < k → setAt S u l i ≡ setAt T w l i
@@ -53,14 +53,14 @@ module _ (S T : ThresholdSets) (u w k : ℕ) (few : S .count ≤ k) (counts : S 
   set-alike (suc l) i h =
       reach-alike i h
       (members-alike (setAt S u l) (setAt T w l) (set-alike l) (S .inner i) (i + 1)
-      ∙ ap (λ (x : ℕ). members T w (setAt T w l) x (i + 1)) (inners i h))
+      ∙ ap (λ (x : ℕ). membersAt T w (setAt T w l) x (i + 1)) (inners i h))
 
-  pub root-alike : 1 ≤ k → met S u ≡ met T w
-  unfolding met
-  root-alike h = ap (λ (a : After). eqb (a .met) 1) (set-alike 4 0 h)
+  pub root-alike : 1 ≤ k → rootMet S u ≡ rootMet T w
+  unfolding rootMet
+  root-alike h = ap (λ (a : AfterSets). eqb (a .met) 1) (set-alike 4 0 h)
 
 -- the same sets are met by the same sites
-pub met-alike : {S T : ThresholdSets} {k : ℕ} → Agree k S T → 1 ≤ k → S .count ≤ k → (u : ℕ) → met S u ≡ met T u
+pub met-alike : {S T : ThresholdSets} {k : ℕ} → Agree k S T → 1 ≤ k → S .count ≤ k → (u : ℕ) → rootMet S u ≡ rootMet T u
 met-alike {S} {T} {k} a h few u =
     root-alike S T u u k few (a .count-alike) (a .threshold-alike) (a .inner-alike) (λ i l. ap (λ (x : ℕ). bitAnd x u) (a .plain-alike i l)) h
 
@@ -68,7 +68,7 @@ met-alike {S} {T} {k} a h few u =
 owed-alike : {S T : ThresholdSets} {k : ℕ} → Agree k S T → (i : ℕ) → i ≤ k → owed S i ≡ owed T i
 unfolding owed
 owed-alike a zero h = refl
-owed-alike a (suc i) h = ap₂ entered (a .inner-alike i h) (owed-alike a i (omega arith))
+owed-alike a (suc i) h = ap₂ enteredLevels (a .inner-alike i h) (owed-alike a i (omega arith))
 
 -- and so whether they are sound
 pub sound-alike : {n : ℕ} {S T : ThresholdSets} {k : ℕ} → Agree k S T → S .count ≤ k → SoundSets n S → SoundSets n T

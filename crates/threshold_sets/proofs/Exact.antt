@@ -2,7 +2,6 @@
 use Prim.Native.Nat.{ℕ, _+_, _≤_, _<_}
 use mathlib.Core.Bool.{Bool, true, false, _||_}
 use mathlib.Core.List.{List, [], _∷_}
-use mathlib.Core.Logic.{_↔_}
 use mathlib.Core.Path.{_≡_, refl, ap}
 use native.Mathlib.Omega.{arith}
 use lib.Dec.{eqb, ltb}
@@ -15,7 +14,7 @@ use Rattle.refusals.proofs.First.{first-all, first-sound, missed, passed, kept,
 use Rattle.refusals.specs.First.{orElse, refuse, first}
 use Rattle.refusals.specs.declared.Check.the-variants.{Sound}
 use Rattle.refusals.specs.declared.Refusal.the-variants.{Count, Slice, Filler, Threshold, Nesting}
-use Rattle.threshold_sets.specs.Check.{owed, alien, unreachable, misplaced, setCheck, owing, setsCheck, SoundSets}
+use Rattle.threshold_sets.specs.Check.{owed, alien, unreachable, misplaced, oneSetCheck, owing, setsCheck, SoundSets}
 use Rattle.threshold_sets.specs.Met.{ThresholdSets}
 use Rattle.threshold_sets.proofs.Ways.{well-placed}
 
@@ -27,8 +26,8 @@ pub record SoundSet (n : ℕ) (S : ThresholdSets) (i : ℕ) : Type 0 where
   pub own-in-root : 1 ≤ length (owed S i)
   pub own-level : length (owed S i) ≤ 4
 
-pub set-sound : (n place : ℕ) (S : ThresholdSets) (i : ℕ) → setCheck n place S i ≡ Sound → SoundSet n S i
-unfolding setCheck alien unreachable misplaced
+pub set-sound : (n place : ℕ) (S : ThresholdSets) (i : ℕ) → oneSetCheck n place S i ≡ Sound → SoundSet n S i
+unfolding oneSetCheck alien unreachable misplaced
 set-sound n place S i h =
     let a = passed (within (S .plain i) (allBelow n)) (Slice place) (orElse (refuse (unreachable S i) (Threshold place)) (refuse (misplaced S i) (Nesting place))) h in
     let b = missed (unreachable S i) (Threshold place) (refuse (misplaced S i) (Nesting place)) (a .1) in
@@ -44,7 +43,7 @@ set-sound n place S i h =
       own-level = ltb-false 4 (length (owed S i)) (m .1);
     }
 
-sound-set : (n place : ℕ) (S : ThresholdSets) (i : ℕ) → SoundSet n S i → setCheck n place S i ≡ Sound
+sound-set : (n place : ℕ) (S : ThresholdSets) (i : ℕ) → SoundSet n S i → oneSetCheck n place S i ≡ Sound
 sound-set n place S i s =
     well-placed n place S i (s .own-below) (λ e. omega (arith, s .own-not-zero)) (s .own-reachable) (λ e. omega (arith, s .own-in-root)) (s .own-level)
 
@@ -57,11 +56,11 @@ pub sets-checked : (n place : ℕ) (S : ThresholdSets) (unfilled : Bool) → set
 unfolding setsCheck owing
 sets-checked n place S unfilled h =
     let rest = orElse (refuse (owing S) (Nesting place)) (refuse unfilled (Filler place)) in
-    let a = missed (eqb (S .count) 0 || ltb 49 (S .count)) (Count place) (orElse (first (setCheck n place S) (S .count)) rest) h in
+    let a = missed (eqb (S .count) 0 || ltb 49 (S .count)) (Count place) (orElse (first (oneSetCheck n place S) (S .count)) rest) h in
     let many = or-none (eqb (S .count) 0) (ltb 49 (S .count)) (a .0) in
-    let b = orElse-sound (first (setCheck n place S) (S .count)) rest (a .1) in
+    let b = orElse-sound (first (oneSetCheck n place S) (S .count)) rest (a .1) in
     let d = passed (eqb (length (owed S (S .count))) 0) (Nesting place) (refuse unfilled (Filler place)) (b .1) in
-    let each : (i : ℕ) → i < S .count → SoundSet n S i = λ i l. set-sound n place S i (first-all (setCheck n place S) (S .count) i (b .0) l) in
+    let each : (i : ℕ) → i < S .count → SoundSet n S i = λ i l. set-sound n place S i (first-all (oneSetCheck n place S) (S .count) i (b .0) l) in
     let z = eqb-false (S .count) 0 (many .0) in (
       record {
         some-set = omega arith;
@@ -80,8 +79,8 @@ sets-checked n place S unfilled h =
 pub sets-sound : (n place : ℕ) (S : ThresholdSets) (unfilled : Bool) → SoundSets n S → unfilled ≡ false → setsCheck n place S unfilled ≡ Sound
 unfolding setsCheck owing
 sets-sound n place S unfilled s e =
-    let q : first (setCheck n place S) (S .count) ≡ Sound =
-    first-sound (setCheck n place S) (S .count)
+    let q : first (oneSetCheck n place S) (S .count) ≡ Sound =
+    first-sound (oneSetCheck n place S) (S .count)
     (λ i l. sound-set n place S i
     (record {
       own-below = ⊆-within (s .below i l);
@@ -92,6 +91,3 @@ sets-sound n place S unfilled s e =
     })) in
     let z : eqb (length (owed S (S .count))) 0 ≡ true = ap (λ (l : List ℕ). eqb (length l) 0) (s .whole) in
     rw (ne-eqb (S .count) 0 (λ y. omega (arith, s .some-set)), le-ltb 49 (S .count) (s .few-sets), q, z, e) refl
-
-pub sets-exact : (n place : ℕ) (S : ThresholdSets) (unfilled : Bool) → (setsCheck n place S unfilled ≡ Sound) ↔ (SoundSets n S × (unfilled ≡ false))
-sets-exact n place S unfilled = (sets-checked n place S unfilled, λ s. sets-sound n place S unfilled (s .0) (s .1))

@@ -13,21 +13,21 @@ use lib.ListN.{length}
 use borrow.Author.Tests.{lt-ltb, le-leb}
 use Rattle.masks.proofs.Laws.Subsets.{⊆-antisym, and-⊆-l, ∈-and}
 use Rattle.masks.specs.Mask.{size, _⊆_}
-use Rattle.threshold_sets.specs.Check.{closed, entered, owed, SoundSets}
-use Rattle.threshold_sets.specs.Met.{ThresholdSets, After, members, setAt, met}
+use Rattle.threshold_sets.specs.Check.{closedLevels, enteredLevels, owed, SoundSets}
+use Rattle.threshold_sets.specs.Met.{ThresholdSets, AfterSets, membersAt, setAt, rootMet}
 
 -- where a set, or some sets, end
-record Ends (S : ThresholdSets) (a : After) (many : ℕ) (from : ℕ) (l : List ℕ) : Type 0 where
+record Ends (S : ThresholdSets) (a : AfterSets) (many : ℕ) (from : ℕ) (l : List ℕ) : Type 0 where
   all-met : a .met ≡ many
   later : from ≤ a .next
   inside : a .next ≤ S .count
-  owes : owed S (a .next) ≡ closed l
+  owes : owed S (a .next) ≡ closedLevels l
 
 module _ {n : ℕ} {S : ThresholdSets} (sets : SoundSets n S) (u : ℕ) (present : (i : ℕ) → i < S .count → S .plain i ⊆ u) where
-  owed-more : (i : ℕ) {a : ℕ} {l : List ℕ} → owed S i ≡ suc a ∷ l → owed S (i + 1) ≡ closed (S .inner i ∷ a ∷ l)
+  owed-more : (i : ℕ) {a : ℕ} {l : List ℕ} → owed S i ≡ suc a ∷ l → owed S (i + 1) ≡ closedLevels (S .inner i ∷ a ∷ l)
   unfolding owed
   owed-more i {a = a} {l = l} e =
-      ap (owed S) (add-one i) ∙ ap (entered (S .inner i)) e ∙ ap (λ (x : ℕ). closed (S .inner i ∷ x ∷ l)) sub
+      ap (owed S) (add-one i) ∙ ap (enteredLevels (S .inner i)) e ∙ ap (λ (x : ℕ). closedLevels (S .inner i ∷ x ∷ l)) sub
     where
       sub : suc a - 1 ≡ a
       sub = omega arith
@@ -55,9 +55,9 @@ module _ {n : ℕ} {S : ThresholdSets} (sets : SoundSets n S) (u : ℕ) (present
       Ends S (setAt S u (suc lv) i) 1 (i + 1) (a ∷ l)
 
   -- k sets are owed at the innermost level
-  some-sets : (f : ℕ) → OneSet f → (k i : ℕ) {l : List ℕ} (lv : ℕ) → S .count ≤ i + f → i ≤ S .count → owed S i ≡ closed (k ∷ l) → lv + length l ≡ 4 →
-      Ends S (members S u (setAt S u lv) k i) k i l
-  unfolding members
+  some-sets : (f : ℕ) → OneSet f → (k i : ℕ) {l : List ℕ} (lv : ℕ) → S .count ≤ i + f → i ≤ S .count → owed S i ≡ closedLevels (k ∷ l) → lv + length l ≡ 4 →
+      Ends S (membersAt S u (setAt S u lv) k i) k i l
+  unfolding membersAt
   some-sets f one zero i lv hf h e q = record { all-met = refl; later = omega arith; inside = h; owes = e }
   some-sets f one (suc k) i {l = l} zero hf h e q = let m = left i h e in let z = level i m e in absurd (omega arith)
   some-sets f one (suc k) i {l = l} (suc lv) hf h e q =
@@ -82,12 +82,12 @@ module _ {n : ℕ} {S : ThresholdSets} (sets : SoundSets n S) (u : ℕ) (present
   one-set (suc f) i a l lv hf h e q =
       let r = some-sets f (one-set f) (S .inner i) (i + 1) {l = a ∷ l} lv (omega arith) (omega arith) (owed-more i e) q in
       record {
-        all-met = ap (λ (x : Bool). cond x 1 0) (enough i (members S u (setAt S u lv) (S .inner i) (i + 1) .met) h (r .all-met));
+        all-met = ap (λ (x : Bool). cond x 1 0) (enough i (membersAt S u (setAt S u lv) (S .inner i) (i + 1) .met) h (r .all-met));
         later = r .later;
         inside = r .inside;
         owes = r .owes;
       }
 
-  pub all-meet : met S u ≡ true
-  unfolding met owed
+  pub all-meet : rootMet S u ≡ true
+  unfolding rootMet owed
   all-meet = ap (λ (x : ℕ). eqb x 1) (one-set (S .count) 0 0 [] 3 (omega arith) (sets .some-set) refl refl .all-met)

@@ -12,20 +12,20 @@ use Rattle.refusals.specs.declared.Refusal.the-variants.{Count, Slice, Filler, 
 use Rattle.threshold_sets.specs.Met.{ThresholdSets}
 
 -- the sets that are owed at each open level, the innermost first; a level that owes none is closed if it is the innermost
-abbrev pub closed : List ℕ → List ℕ
-closed [] = []
-closed (zero ∷ l) = closed l
-closed (suc k ∷ l) = suc k ∷ l
+abbrev pub closedLevels : List ℕ → List ℕ
+closedLevels [] = []
+closedLevels (zero ∷ l) = closedLevels l
+closedLevels (suc k ∷ l) = suc k ∷ l
 
 -- after a set with k inner sets: one fewer is owed at its level, and k at the next
-abbrev pub entered : ℕ → List ℕ → List ℕ
-entered k [] = []
-entered k (owe ∷ l) = closed (k ∷ (owe - 1) ∷ l)
+abbrev pub enteredLevels : ℕ → List ℕ → List ℕ
+enteredLevels k [] = []
+enteredLevels k (owe ∷ l) = closedLevels (k ∷ (owe - 1) ∷ l)
 
 -- before set i, "in preorder": at first the root is owed
 unfoldable pub owed : ThresholdSets → ℕ → List ℕ
 owed S zero = 1 ∷ []
-owed S (suc i) = entered (S .inner i) (owed S i)
+owed S (suc i) = enteredLevels (S .inner i) (owed S i)
 
 -- 5: "a site at or above n"
 unfoldable pub alien : ℕ → ThresholdSets → ℕ → Bool
@@ -41,9 +41,9 @@ unfolding owed
 misplaced S i = eqb (length (owed S i)) 0 || ltb 4 (length (owed S i))
 
 -- "set by set 5 .., 21 .., 22 ..": set i in a table of n sites; a refusal carries the place
-unfoldable pub setCheck : ℕ → ℕ → ThresholdSets → ℕ → Check
+unfoldable pub oneSetCheck : ℕ → ℕ → ThresholdSets → ℕ → Check
 unfolding alien unreachable misplaced
-setCheck n place S i =
+oneSetCheck n place S i =
     orElse (refuse (alien n S i) (Slice place))
     (orElse (refuse (unreachable S i) (Threshold place))
     (refuse (misplaced S i) (Nesting place)))
@@ -55,10 +55,10 @@ owing S = not (eqb (length (owed S (S .count))) 0)
 
 -- "4 a number of sets outside 1 to 49; set by set ..; 22 too if inner sets are owed at the end, then 8": whether the filler is not zero is handed over
 unfoldable pub setsCheck : ℕ → ℕ → ThresholdSets → Bool → Check
-unfolding setCheck owing first
+unfolding oneSetCheck owing first
 setsCheck n place S unfilled =
     orElse (refuse (eqb (S .count) 0 || ltb 49 (S .count)) (Count place))
-    (orElse (first (setCheck n place S) (S .count))
+    (orElse (first (oneSetCheck n place S) (S .count))
     (orElse (refuse (owing S) (Nesting place))
     (refuse unfilled (Filler place))))
 

@@ -13,34 +13,34 @@ pub record ThresholdSets : Type 0 where
   pub plain : ℕ → ℕ
 
 -- after some sets: how many of them are met, and the place behind them and all that is in them
-pub record After : Type 0 where
+pub record AfterSets : Type 0 where
   pub met : ℕ
   pub next : ℕ
 
-abbrev pub none : ℕ → After
-none i = record { met = 0; next = i }
+abbrev pub noneMet : ℕ → AfterSets
+noneMet i = record { met = 0; next = i }
 
 -- one set, and then others
-abbrev pub join : After → After → After
+abbrev pub join : AfterSets → AfterSets → AfterSets
 join a b = record { met = a .met + b .met; next = b .next }
 
 module _ (S : ThresholdSets) (u : ℕ) where
   -- "A set is met when plain sites present plus inner sets met reach the threshold": set i, given its inner sets
-  abbrev pub reach : ℕ → After → After
+  abbrev pub reach : ℕ → AfterSets → AfterSets
   reach i m = record { met = cond (leb (S .threshold i) (size (bitAnd (S .plain i) u) + m .met)) 1 0; next = m .next }
 
   -- "a set is met through its members": k sets from place i on, each asked by `set`. Sets that are not refused have so many.
-  unfoldable pub members : (ℕ → After) → ℕ → ℕ → After
-  members set zero i = none i
-  members set (suc k) i = cond (ltb i (S .count)) (join (set i) (members set k (set i .next))) (none i)
+  unfoldable pub membersAt : (ℕ → AfterSets) → ℕ → ℕ → AfterSets
+  membersAt set zero i = noneMet i
+  membersAt set (suc k) i = cond (ltb i (S .count)) (join (set i) (membersAt set k (set i .next))) (noneMet i)
 
   -- "and members through their sets, at most four levels": set i, with so many levels left. Of sets that are not refused they are enough.
-  unfoldable pub setAt : ℕ → ℕ → After
-  unfolding members
-  setAt zero i = none (i + 1)
-  setAt (suc levels) i = reach i (members (setAt levels) (S .inner i) (i + 1))
+  unfoldable pub setAt : ℕ → ℕ → AfterSets
+  unfolding membersAt
+  setAt zero i = noneMet (i + 1)
+  setAt (suc levels) i = reach i (membersAt (setAt levels) (S .inner i) (i + 1))
 
   -- "the root the first": the root set is met by u
-  unfoldable pub met : Bool
+  unfoldable pub rootMet : Bool
   unfolding setAt
-  met = eqb (setAt 4 0 .met) 1
+  rootMet = eqb (setAt 4 0 .met) 1

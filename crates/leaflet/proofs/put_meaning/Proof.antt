@@ -36,7 +36,9 @@ put-meaning-spec =
     (λ c. told (c .before .before .before .before .before .before .before .before .before .before .args .r) (c .before .before .before .before .before .before .before .before .number .ensures) (c .before .before .put-of-vote .ensures))
     (λ c κs. search needs)
     (λ c. search needs)
-    (λ c. told (c .before .before .before .before .before .before .before .before .before .before .before .args .r) (c .before .before .before .before .before .before .before .before .before .number .ensures) (c .before .before .put-of-journal .ensures))
+    (λ c.
+    let b = c .before .before .before .before .before .before .before .before .before in told (b .before .before .args .r) (b .number .ensures) (c .before .before .put-of-journal .ensures))
     put-of-sets-requires
     (λ c. search needs)
-    (λ c. told (c .before .before .before .before .before .before .before .before .before .before .before .args .r) (c .before .before .before .before .before .before .before .before .before .number .ensures) (c .before .before .put-of-sets .ensures)))
+    (λ c.
+    let b = c .before .before .before .before .before .before .before .before .before in told (b .before .before .args .r) (b .number .ensures) (c .before .before .put-of-sets .ensures)))

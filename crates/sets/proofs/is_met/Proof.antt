@@ -11,7 +11,7 @@ use Rattle.sets.proofs.is_met.Statement.{statement}
 use Rattle.sets.proofs.is_met.Tie as tie
 use Rattle.table.specs.Table.{countOf}
 use Rattle.threshold_row.specs.Inner.Row.{setsOf}
-use Rattle.threshold_sets.specs.Met.{met}
+use Rattle.threshold_sets.specs.Met.{rootMet}
 
 is-met-requires : tie.Need-is-met-requires
 is-met-requires c κs =
@@ -33,7 +33,7 @@ is-met-requires c κs =
 returns : tie.Need-returns
 returns c =
     let a = c .before .before .before .args in
-    c .is-met .ensures ∙ ap (λ (m : List ℕ). met (setsOf m) (a .u)) (part-cut 63 (a .v) (now (a .table)))
+    c .is-met .ensures ∙ ap (λ (m : List ℕ). rootMet (setsOf m) (a .u)) (part-cut 63 (a .v) (now (a .table)))
 
 pub is-met-spec : {M : Type 1} → statement M
 is-met-spec =

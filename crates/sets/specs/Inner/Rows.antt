@@ -1,6 +1,6 @@
--- A table as the functions inside see it: rows of 63 numbers, one a site. Which form a row has is said by its first number, the count of a list of slices, 1 to 62,
--- or 64 and the number of sets. What it then says is known behind these names and in the functions that read a row's numbers; all others go by `Rows` and
--- `rulesOf`.
+-- A table as the functions inside see it: rows of 63 numbers, one a site. Which form a row has is said by its first number: the count of a list of slices,
+-- 1 to 62, or 64 and the number of sets. What it then says is known behind these names and in the functions that read a row's numbers; all others go by
+-- `Rows` and `rulesOf`.
 use Prim.Native.Nat.{ℕ, suc, _*_, _≤_, _<_}
 use mathlib.Core.Bool.{Bool, true, false, _&&_, not, cond}
 use mathlib.Core.List.{List}
@@ -14,7 +14,7 @@ use Rattle.sets.specs.Slices.{Slices, slicesOf}
 use Rattle.table.specs.Table.{sites, siteOf, countOf, sliceOf}
 use Rattle.threshold_row.specs.Inner.Row.{setsOf}
 use Rattle.threshold_sets.specs.Check.{SoundSets}
-use Rattle.threshold_sets.specs.Met.{met}
+use Rattle.threshold_sets.specs.Met.{rootMet}
 
 -- the row of site v holds sets with thresholds, and no list of slices
 abbrev pub ofSets : List ℕ → ℕ → Bool
@@ -38,7 +38,7 @@ pub record Rows (rows : List ℕ) (n : ℕ) : Type 0 where
 
 -- site v, whose row holds sets, is in u, and its root is met by u
 abbrev pub rowHolds : List ℕ → ℕ → ℕ → Bool
-rowHolds rows v u = has u v && met (setsOf (siteOf rows v)) u
+rowHolds rows v u = has u v && rootMet (setsOf (siteOf rows v)) u
 
 -- what rows answer of their slices
 unfoldable pub rulesOf : List ℕ → Slices

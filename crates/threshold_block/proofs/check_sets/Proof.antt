@@ -13,13 +13,13 @@ use Rattle.threshold_block.specs.Inner.{opened}
 use Rattle.threshold_block.proofs.Block.{sets-stop, sets-owing, sets-whole}
 use Rattle.threshold_block.proofs.Opened.{innermost-owes, kept-depth, kept-first, kept-next}
 use Rattle.threshold_sets.proofs.Exact.{set-sound}
-use Rattle.threshold_sets.specs.Check.{owed, setCheck}
+use Rattle.threshold_sets.specs.Check.{owed, oneSetCheck}
 use Rattle.threshold_block.proofs.check_sets.Statement.{statement}
 use Rattle.threshold_block.proofs.check_sets.Tie as tie
 
 abbrev Inv-loop : tie.InvT-loop
 Inv-loop b n place many levels₀ depth₀ i₀ levels depth i =
-    (i ≤ many) × (length levels ≡ 5) × (opened levels depth ≡ owed (setsIn b) i) × (first (setCheck n place (setsIn b)) i ≡ Sound)
+    (i ≤ many) × (length levels ≡ 5) × (opened levels depth ≡ owed (setsIn b) i) × (first (oneSetCheck n place (setsIn b)) i ≡ Sound)
 
 abbrev μ-loop : tie.MeasureT-loop
 μ-loop b n place many levels₀ depth₀ i₀ levels depth i = many - i

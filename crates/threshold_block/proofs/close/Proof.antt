@@ -6,13 +6,13 @@ use native.Mathlib.Omega.{arith}
 use borrow.Author.Needs.{needs}
 use denote.Ref.{now}
 use Rattle.threshold_block.specs.Inner.{opened}
-use Rattle.threshold_sets.specs.Check.{closed}
+use Rattle.threshold_sets.specs.Check.{closedLevels}
 use Rattle.threshold_block.proofs.Opened.{open-stays, open-closes, open-none}
 use Rattle.threshold_block.proofs.close.Statement.{statement}
 use Rattle.threshold_block.proofs.close.Tie as tie
 
 abbrev Inv-loop : tie.InvT-loop
-Inv-loop levels depth d₀ d = (d ≤ depth) × (closed (opened levels d) ≡ closed (opened levels depth))
+Inv-loop levels depth d₀ d = (d ≤ depth) × (closedLevels (opened levels d) ≡ closedLevels (opened levels depth))
 
 abbrev μ-loop : tie.MeasureT-loop
 μ-loop levels depth d₀ d = d

@@ -9,7 +9,7 @@ use borrow.Rule.Slice.PartMut.{same-len-mid}
 use denote.Ref.{now}
 use Rattle.ground.proofs.Pieces.{part-cut}
 use Rattle.threshold_image.specs.Inner.{rowsOf}
-use Rattle.threshold_row.specs.Inner.Row.{rowOf}
+use Rattle.threshold_row.specs.Inner.Row.{setsRow}
 use Rattle.threshold_image.proofs.Rows.{rows-zero, rows-again}
 use Rattle.threshold_image.proofs.load.Statement.{statement}
 use Rattle.threshold_image.proofs.load.Tie as tie
@@ -30,7 +30,7 @@ loop-again c =
     let b = c .before .before .load-row in (
       omega arith,
       same-len-mid {X = ℕ} (63 * l .i) (63 * l .i + 63 - 63 * l .i) (l .room) (b .last .1 .0) (b .kept .1 .0) ∙ l .inv .1,
-      rows-again (now (a .image)) (l .room) (now (a .room)) _ (l .i) (l .inv .2) (b .ensures ∙ ap rowOf (part-cut 512 (l .i) (now (a .image)))),
+      rows-again (now (a .image)) (l .room) (now (a .room)) _ (l .i) (l .inv .2) (b .ensures ∙ ap setsRow (part-cut 512 (l .i) (now (a .image)))),
     )
 
 same-length : tie.Need-same-length Inv-loop μ-loop

@@ -3,12 +3,12 @@ use Prim.Native.Nat.{ℕ}
 use mathlib.Core.Path.{ap}
 use borrow.Author.Needs.{needs}
 use lib.Dec.{eqb}
-use Rattle.threshold_sets.specs.Met.{met}
+use Rattle.threshold_sets.specs.Met.{rootMet}
 use Rattle.threshold_row.proofs.is_met.Statement.{statement}
 use Rattle.threshold_row.proofs.is_met.Tie as tie
 
 returns : tie.Need-returns
-unfolding met
+unfolding rootMet
 returns c = ap (λ (x : ℕ). eqb x 1) (c .before .set-at .ensures .0 .met-so)
 
 pub is-met-spec : {M : Type 1} → statement M

@@ -32,6 +32,6 @@ fourAt b k = pairAt b (4 * k) + (65536 * pairAt b (4 * k + 1) + (4294967296 * pa
 unfoldable pub masksOf : List ℕ → ℕ → List ℕ
 masksOf b k = (64 + countField b) ∷ cat (λ i. field 8 b (10 + 10 * i) ∷ []) k
 
-unfoldable pub rowOf : List ℕ → List ℕ
+unfoldable pub setsRow : List ℕ → List ℕ
 unfolding masksOf
-rowOf b = masksOf b 49 ++ (cat (λ k. fourAt b k ∷ []) 12 ++ (pairAt b 48 ∷ []))
+setsRow b = masksOf b 49 ++ (cat (λ k. fourAt b k ∷ []) 12 ++ (pairAt b 48 ∷ []))

@@ -38,13 +38,15 @@ slice-aggregate-run-of c =
 run-of-requires : tie.Need-run-of-requires
 run-of-requires c κs =
     let b = c .before .before .before .before .before .before in
-    loaded-rows (now (b .before .before .before .before .before .before .before .args .image)) (sym (b .before .before .check .ensures) ∙ b .enum-told .given .1) (λ i. b .before .before .before .before .before .before .shared-slice-known .given i .fits) _ _ (c .before .before .before .before .load .ensures) .right
+    loaded-rows (now (b .before .before .before .before .before .before .before .args .image)) (sym (b .before .before .check .ensures) ∙ b .enum-told .given .1)
+    (λ i. b .before .before .before .before .before .before .shared-slice-known .given i .fits) _ _ (c .before .before .before .before .load .ensures) .right
 
 returns-2 : tie.Need-returns-2
 returns-2 c =
     let b = c .before .before .before .before .before .before .before .before .before .before .before in
     let a = b .before .before .before .before .before .before .before .args in
-    let w = loaded-rows (now (a .image)) (sym (b .before .before .check .ensures) ∙ b .enum-told .given .1) (λ i. b .before .before .before .before .before .before .shared-slice-known .given i .fits) _ _ (c .before .before .before .before .before .before .before .before .before .load .ensures) in
+    let w = loaded-rows (now (a .image)) (sym (b .before .before .check .ensures) ∙ b .enum-told .given .1)
+    (λ i. b .before .before .before .before .before .before .shared-slice-known .given i .fits) _ _ (c .before .before .before .before .before .before .before .before .before .load .ensures) in
     let x = c .before .before .before .before .run-of .ensures in (
       x .0 ∙ ran-rows w (a .faulty) (now (a .list)) (length (now (a .state))) (length (now (a .answers))),
       (x .1 .0 ∙ states-rows w (a .faulty) (now (a .list)) _ (now (a .state)), x .1 .1 ∙ answers-rows w (a .faulty) (now (a .list)) _ (now (a .answers))),

@@ -33,14 +33,16 @@ slice-aggregate-sound-of c =
 sound-of-requires : tie.Need-sound-of-requires
 sound-of-requires c κs =
     let b = c .before .before .before .before in
-    loaded-rows (now (b .before .before .before .before .before .args .image)) (sym (b .before .before .check .ensures) ∙ b .enum-told .given .1) (λ i. b .before .before .before .before .shared-slice-known .given i .fits) _ _ (c .before .before .load .ensures) .right
+    loaded-rows (now (b .before .before .before .before .before .args .image)) (sym (b .before .before .check .ensures) ∙ b .enum-told .given .1)
+    (λ i. b .before .before .before .before .shared-slice-known .given i .fits) _ _ (c .before .before .load .ensures) .right
 
 returns-2 : tie.Need-returns-2
 returns-2 c =
     let b = c .before .before .before .before .before in
     let a = b .before .before .before .before .before .args in
     c .sound-of .ensures
-    ∙ sound-rows (loaded-rows (now (a .image)) (sym (b .before .before .check .ensures) ∙ b .enum-told .given .1) (λ i. b .before .before .before .before .shared-slice-known .given i .fits) _ _ (c .before .before .before .load .ensures)) (a .faulty) (now (a .state))
+    ∙ sound-rows (loaded-rows (now (a .image)) (sym (b .before .before .check .ensures) ∙ b .enum-told .given .1)
+    (λ i. b .before .before .before .before .shared-slice-known .given i .fits) _ _ (c .before .before .before .load .ensures)) (a .faulty) (now (a .state))
 
 pub sound-spec : {M : Type 1} → statement M
 sound-spec =

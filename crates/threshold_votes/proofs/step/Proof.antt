@@ -36,13 +36,15 @@ slice-aggregate-step-of c =
 step-of-requires : tie.Need-step-of-requires
 step-of-requires c κs =
     let b = c .before .before .before .before .before in
-    loaded-rows (now (b .before .before .before .before .before .args .image)) (sym (b .before .before .check .ensures) ∙ b .enum-told .given .1) (λ i. b .before .before .before .before .shared-slice-known .given i .fits) _ _ (c .before .before .before .load .ensures) .right
+    loaded-rows (now (b .before .before .before .before .before .args .image)) (sym (b .before .before .check .ensures) ∙ b .enum-told .given .1)
+    (λ i. b .before .before .before .before .shared-slice-known .given i .fits) _ _ (c .before .before .before .load .ensures) .right
 
 returns-2 : tie.Need-returns-2
 returns-2 c =
     let b = c .before .before .before .before .before .before .before .before in
     let a = b .before .before .before .before .before .args in
-    let w = loaded-rows (now (a .image)) (sym (b .before .before .check .ensures) ∙ b .enum-told .given .1) (λ i. b .before .before .before .before .shared-slice-known .given i .fits) _ _ (c .before .before .before .before .before .before .load .ensures) in
+    let w = loaded-rows (now (a .image)) (sym (b .before .before .check .ensures) ∙ b .enum-told .given .1)
+    (λ i. b .before .before .before .before .shared-slice-known .given i .fits) _ _ (c .before .before .before .before .before .before .load .ensures) in
     let d = call (a .kind) (a .from) (a .to) (a .side) in
     let r = c .before .before .step-of .ensures in
     (r .0 ∙ ap toStepped (step-rows w (a .faulty) (now (a .state)) d), r .1 ∙ into-rows w (a .faulty) (now (a .state)) d)
