@@ -1,15 +1,17 @@
 -- Laws of the sets that have a slice inside: how marks and handing on lead to them; and of those in which each member has one.
 use Prim.Native.Nat.{ℕ, zero, suc, _+_, _-_, _*_, _/_, _%_, _^_, _≤_, _<_}
-use mathlib.Core.Bool.{Bool, true, false, _&&_, _||_, not}
+use mathlib.Core.Bool.{Bool, true, false, _&&_, _||_, not, cond}
 use mathlib.Core.List.{List}
 use mathlib.Core.Logic.{_⊎_, inl, inr, ⊎-elim}
 use mathlib.Core.Path.{_≡_, refl, sym, ap, ap₂, _∙_, subst}
-use native.Mathlib.Nat.{not-suc-le-zero, mod-lt}
+use native.Mathlib.Nat.{le-refl, not-suc-le-zero, mod-lt}
 use native.Mathlib.Omega.{arith}
 use lib.Bits.{bitAnd, bitOr}
+use lib.Dec.{eqb}
 use lib.ListN.{length, getD, set, replicate, length-replicate, getD-replicate, length-set}
 use lib.Pow.{ones-lt}
 use lib.Seq.{getD-set-same, getD-set-other}
+use borrow.Author.Tests.{eqb-true, eqb-false}
 use Rattle.ground.proofs.Every.{every-none, every-suc}
 use Rattle.ground.proofs.Logic.{iff, is-false, cases}
 use Rattle.ground.proofs.Numbers.{same?}
@@ -27,7 +29,7 @@ use Rattle.table.specs.Table.{countOf, sliceOf}
 use Rattle.set_words.specs.Inner.{Says, said, Above, Lacking, Spread}
 use Rattle.set_words.proofs.Places.{parts-⊆, low-⊆, high-⊆}
 use Rattle.set_words.proofs.WordLaws.{said-at, says-at, says-change}
-use Rattle.inside_words.specs.Inner.{Empty, Marked, fits}
+use Rattle.inside_words.specs.Inner.{Empty, Marked, Marking, fits}
 
 zeros : (n y : ℕ) → _≡_ {A = ℕ} (getD (replicate n 0) y 0) 0
 zeros zero y = refl
@@ -52,7 +54,7 @@ module _ (y u : ℕ) (s : y ⊆ u) where
   low-part = low-⊆ 6 (y / 64) (u / 64) (mod-lt y (omega arith)) (mod-lt u (omega arith)) both
 
 module _ (t : List ℕ) (v : ℕ) where
-  inside-up : {a b : ℕ} → a ⊆ b → slicesOf t .inside v a ≡ true → slicesOf t .inside v b ≡ true
+  pub inside-up : {a b : ℕ} → a ⊆ b → slicesOf t .inside v a ≡ true → slicesOf t .inside v b ≡ true
   inside-up {a} s e = let r = inside-ex t v a e in inside-of t v (r .0) (r .1) (⊆-trans (r .2) s)
 
   -- the marks: none, one slice more
@@ -113,6 +115,9 @@ module _ (t : List ℕ) (v : ℕ) where
       less : (k : ℕ) → k < i + 1 → (k ≡ i → ⊥) → k < i
       less k h ne = omega arith
 
+  pub marking-none : {words : List ℕ} → Empty words → Marking t v 0 0 0 words
+  marking-none h = record { marked = marked-none h; here = h .none 0; behind = λ y l. h .none y; next = λ k l lk. omega arith }
+
   -- with all slices marked, and handed on
   pub marked-spread : {old new : List ℕ} → Marked t v (countOf t v) old → Spread old new → Says (slicesOf t .inside v) new
   marked-spread {old} {new} m s =
@@ -133,6 +138,78 @@ module _ (t : List ℕ) (v : ℕ) where
 
       bit : (w j : ℕ) → j < 64 → (w * 64 + j) % 64 ≡ j
       bit w j l = omega arith
+
+-- slices ascend
+
+module _ {t : List ℕ} {n v : ℕ} (row : ListedRow t n v) where
+  ascend-by : (i d : ℕ) → i + d < countOf t v → sliceOf t v i ≤ sliceOf t v (i + d)
+  ascend-by i zero l = subst (λ (k : ℕ). sliceOf t v i ≤ sliceOf t v k) (plus-none i) (le-refl (sliceOf t v i))
+    where
+      plus-none : (k : ℕ) → k ≡ k + zero
+      plus-none k = omega arith
+  ascend-by i (suc d) l =
+      subst (λ (k : ℕ). sliceOf t v i ≤ sliceOf t v k) (next i d)
+      (more (ascend-by i d (less l)) (row .ascend (i + d) (subst (λ (k : ℕ). k < countOf t v) (sym (next i d)) l)))
+    where
+      next : (i d : ℕ) → suc (i + d) ≡ i + suc d
+      next i d = omega arith
+
+      less : i + suc d < countOf t v → i + d < countOf t v
+      less l = omega arith
+
+      more : {a b c : ℕ} → a ≤ b → b < c → a ≤ c
+      more p q = omega arith
+
+  pub ascend-le : (i k : ℕ) → i ≤ k → k < countOf t v → sliceOf t v i ≤ sliceOf t v k
+  ascend-le i k l h = subst (λ (y : ℕ). sliceOf t v i ≤ sliceOf t v y) (back l) (ascend-by i (k - i) (subst (λ (y : ℕ). y < countOf t v) (sym (back l)) h))
+    where
+      back : i ≤ k → i + (k - i) ≡ k
+      back l = omega arith
+
+  -- one slice more
+  pub marking-more : {list words : List ℕ} (i at word : ℕ) → Above 64 list → i < countOf t v → sliceOf t v i < 4096 → Marking t v i at word words
+      → Marking t v (i + 1) (sliceOf t v i / 64) (bitOr (cond (eqb (sliceOf t v i / 64) at) word 0) (getD list (sliceOf t v i % 64) 0))
+      (set words (sliceOf t v i / 64) (bitOr (cond (eqb (sliceOf t v i / 64) at) word 0) (getD list (sliceOf t v i % 64) 0)))
+  marking-more {list} {words} i at word a own below m =
+      subst (λ (x : ℕ). Marking t v (i + 1) w (bitOr x more) (set words w (bitOr x more))) old
+      (record {
+        marked = marked-more t v i a own below (m .marked);
+        here = getD-set-same words w (bitOr (getD words w 0) more) 0 short;
+        behind = λ y l. getD-set-other words w y (bitOr (getD words w 0) more) 0 (λ e. bad l e) ∙ m .behind y (far (m .next i (le-refl i) own) l);
+        next = λ k l lk. part (ascend-le i k (less l) lk);
+      })
+    where
+      w : ℕ
+      w = sliceOf t v i / 64
+
+      more : ℕ
+      more = getD list (sliceOf t v i % 64) 0
+
+      old : getD words w 0 ≡ cond (eqb w at) word 0
+      old =
+          ⊎-elim (λ e. ap (λ (y : ℕ). getD words y 0) (eqb-true w at e) ∙ m .here ∙ sym (ap (λ (c : Bool). cond c word 0) e))
+          (λ e. m .behind w (apart (m .next i (le-refl i) own) (eqb-false w at e)) ∙ sym (ap (λ (c : Bool). cond c word 0) e)) (cases (eqb w at))
+        where
+          apart : at ≤ w → (w ≡ at → ⊥) → at < w
+          apart l ne = omega arith
+
+      short : w < length words
+      short = subst (λ (k : ℕ). w < k) (sym (m .marked .long)) (word-few below)
+        where
+          word-few : sliceOf t v i < 4096 → sliceOf t v i / 64 < 64
+          word-few b = omega arith
+
+      bad : {y : ℕ} → w < y → y ≡ w → ⊥
+      bad l e = omega arith
+
+      far : {y : ℕ} → at ≤ w → w < y → at < y
+      far l h = omega arith
+
+      less : {k : ℕ} → i + 1 ≤ k → i ≤ k
+      less l = omega arith
+
+      part : {a b : ℕ} → a ≤ b → a / 64 ≤ b / 64
+      part l = omega arith
 
 -- who has a slice is a site
 pub inside-site : {t : List ℕ} {n : ℕ} → Rows t n → (v u : ℕ) → rulesOf t .inside v u ≡ true → v < n

@@ -1,7 +1,8 @@
 // Which sets have a slice of a site inside, of all sets of at most 12 sites, as words; and in which sets each member has one.
 ghost use mathlib.Core.Path.{_≡_};
-ghost use mathlib.Core.Bool.{_&&_, _||_, not};
+ghost use mathlib.Core.Bool.{_&&_, _||_, not, cond};
 ghost use Prim.Native.Nat.{_<_, _≤_, _+_, _*_};
+ghost use lib.Dec.{eqb};
 ghost use lib.ListN.{length};
 ghost use Rattle.masks.specs.Mask.{has};
 ghost use Rattle.table.specs.Table.{countOf};
@@ -10,22 +11,36 @@ ghost use Rattle.sets.specs.Inner.Rows.{Rows, ListedRow, rulesOf};
 ghost use Rattle.set_words.specs.Inner.{Says, Above, said};
 ghost use Rattle.inside_words.specs.Inner.{Empty, Marked, fits};
 
-// Each slice that site v lists marks the sets that contain it and have the same sites of the last six.
+// What stands in the word of a slice: that of the slice before, if it is the same word, else nothing.
+fn stands(here: usize, at: usize, word: u64) -> u64
+    ensures { λ r. ⌜ r ≡ cond (eqb here at) word 0 ⌝ }
+{
+    if here == at {
+        return word;
+    }
+    0
+}
+
+// Each slice that site v lists marks the sets that contain it and have the same sites of the last six. Slices ascend, so that those of a word follow each other.
 fn mark_listed(table: &[u64], n: usize, v: usize, above: &[u64; 64], words: &mut [u64; 64])
     requires { ⌜ length (now table) ≡ 63 * n ⌝ }
     requires { ⌜ ListedRow (now table) n v ⌝ }
     requires { ⌜ n ≤ 12 ⌝ }
     requires { ⌜ v < n ⌝ }
     requires { ⌜ Above 64 (now above) ⌝ }
-    requires { ⌜ Marked (now table) v 0 (now words) ⌝ }
+    requires { ⌜ Empty (now words) ⌝ }
     ensures { λ r. ⌜ Marked (now (table .entry)) v (countOf (now (table .entry)) v) (now (words .exit)) ⌝ }
 {
     let many = table[63 * v] as usize;
+    let mut at: usize = 0;
+    let mut word = 0u64;
     let mut i: usize = 0;
     while i < many {
         let q = table[63 * v + 1 + i];
-        let w = (q / 64) as usize;
-        words[w] = words[w] | above[(q % 64) as usize];
+        let here = (q / 64) as usize;
+        word = stands(here, at, word) | above[(q % 64) as usize];
+        words[here] = word;
+        at = here;
         i += 1;
     }
 }
