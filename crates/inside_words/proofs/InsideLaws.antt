@@ -1,8 +1,8 @@
 -- Laws of the sets that have a slice inside: how marks and handing on lead to them; and of those in which each member has one.
-use Prim.Native.Nat.{ℕ, zero, suc, _+_, _-_, _*_, _/_, _%_, _^_, _≤_, _<_}
-use mathlib.Core.Bool.{Bool, true, false, _&&_, _||_, not, cond}
+use Prim.Native.Nat.{ℕ, zero, suc, _+_, _-_, _*_, _/_, _%_, _≤_, _<_}
+use mathlib.Core.Bool.{Bool, true, _&&_, _||_, not, cond}
 use mathlib.Core.List.{List}
-use mathlib.Core.Logic.{_⊎_, inl, inr, ⊎-elim}
+use mathlib.Core.Logic.{_⊎_, ⊎-elim}
 use mathlib.Core.Path.{_≡_, refl, sym, ap, ap₂, _∙_, subst}
 use native.Mathlib.Nat.{le-refl, not-suc-le-zero, mod-lt}
 use native.Mathlib.Omega.{arith}
@@ -15,18 +15,18 @@ use borrow.Author.Tests.{eqb-true, eqb-false}
 use Rattle.ground.proofs.Every.{every-none, every-suc}
 use Rattle.ground.proofs.Logic.{iff, is-false, cases}
 use Rattle.ground.proofs.Numbers.{same?}
-use Rattle.ground.specs.Search.{every}
 use Rattle.masks.proofs.Laws.AllBelow.{in-all}
 use Rattle.masks.proofs.Laws.Members.{has-and, has-or, has-zero}
 use Rattle.masks.proofs.Laws.Single.{∈-or, ∈-eq}
 use Rattle.masks.proofs.Laws.Subsets.{mem, not-in-zero, ⊆-refl, ⊆-trans, ⊆-within, within-⊆, ∈-below, or-⊆-l, or-⊆-r}
-use Rattle.masks.specs.Mask.{has, within, _∈_, _⊆_}
+use Rattle.masks.specs.Mask.{has, _∈_, _⊆_}
 use Rattle.sets.specs.Slices.{Slices, slicesOf}
 use Rattle.sets.proofs.Slices.{inside-of, inside-ex}
 use Rattle.sets.proofs.Rows.{listed-inside, rows-lawful}
 use Rattle.sets.specs.Inner.Rows.{Rows, ListedRow, rulesOf}
 use Rattle.table.specs.Table.{countOf, sliceOf}
-use Rattle.set_words.specs.Inner.{Says, said, Above, Lacking, Spread}
+use Rattle.set_words.specs.Inner.{Says, inFamily, Above, Lacking}
+use Rattle.spread_words.specs.Inner.{Spread}
 use Rattle.set_words.proofs.Places.{parts-⊆, low-⊆, high-⊆}
 use Rattle.set_words.proofs.WordLaws.{said-at, says-at, says-change}
 use Rattle.inside_words.specs.Inner.{Empty, Marked, Marking, fits}
@@ -69,7 +69,9 @@ module _ (t : List ℕ) (v : ℕ) where
         long = length-set words w new ∙ m .long;
         right = λ y j l h.
             ⊎-elim
-            (λ e. subst (λ (z : ℕ). slicesOf t .inside v (z * 64 + j) ≡ true) (sym e) (⊎-elim (λ k. m .right w j l k) (λ k. fresh j l k) (∈-or old more (∈-eq (ap (λ (z : ℕ). getD (set words w new) z 0) e ∙ getD-set-same words w new 0 short) h))))
+            (λ e.
+            subst (λ (z : ℕ). slicesOf t .inside v (z * 64 + j) ≡ true) (sym e)
+            (⊎-elim (λ k. m .right w j l k) (λ k. fresh j l k) (∈-or old more (∈-eq (ap (λ (z : ℕ). getD (set words w new) z 0) e ∙ getD-set-same words w new 0 short) h))))
             (λ ne. m .right y j l (∈-eq (getD-set-other words w y new 0 ne) h)) (same? y w);
         each = λ k j lk l s.
             ⊎-elim (λ e. subst (λ (z : ℕ). j ∈ getD (set words w new) (sliceOf t v z / 64) 0) (sym e) (marks j l (subst (λ (z : ℕ). sliceOf t v z % 64 ⊆ j) e s)))
@@ -243,14 +245,14 @@ fits-none r b =
 
 -- of a set that one site more is asked of
 pub narrowed : (old words : List ℕ) (v w : ℕ) {here rest : ℕ} → here ≡ getD old w 0 → Lacking v w rest → (j : ℕ) → j < 64
-    → has (bitAnd here (bitOr rest (getD words w 0))) j ≡ said old (w * 64 + j) && (not (has (w * 64 + j) v) || said words (w * 64 + j))
+    → has (bitAnd here (bitOr rest (getD words w 0))) j ≡ inFamily old (w * 64 + j) && (not (has (w * 64 + j) v) || inFamily words (w * 64 + j))
 narrowed old words v w {here} {rest} e l j lj =
     has-and here (bitOr rest (getD words w 0)) j
     ∙ ap₂ (λ a b. a && b) (ap (λ (x : ℕ). has x j) e ∙ sym (said-at old w j lj))
     (has-or rest (getD words w 0) j ∙ ap₂ (λ a b. a || b) (l .each j lj) (sym (said-at words w j lj)))
 
 module _ (r : Slices) (v : ℕ) {old words new : List ℕ} where
-  pub fits-more : Says (fits r 0 v) old → Says (r .inside v) words → Says (λ s. said old s && (not (has s v) || said words s)) new → Says (fits r 0 (v + 1)) new
+  pub fits-more : Says (fits r 0 v) old → Says (r .inside v) words → Says (λ s. inFamily old s && (not (has s v) || inFamily words s)) new → Says (fits r 0 (v + 1)) new
   unfolding fits
   fits-more p q =
       says-change

@@ -8,7 +8,7 @@ ghost use Rattle.masks.specs.Mask.{has};
 ghost use Rattle.table.specs.Table.{countOf};
 ghost use Rattle.sets.specs.Slices.{slicesOf};
 ghost use Rattle.sets.specs.Inner.Rows.{Rows, ListedRow, rulesOf};
-ghost use Rattle.set_words.specs.Inner.{Says, Above, said};
+ghost use Rattle.set_words.specs.Inner.{Says, Above, inFamily};
 ghost use Rattle.inside_words.specs.Inner.{Empty, Marked, fits};
 
 // What stands in the word of a slice: that of the slice before, if it is the same word, else nothing.
@@ -21,7 +21,8 @@ fn stands(here: usize, at: usize, word: u64) -> u64
     0
 }
 
-// Each slice that site v lists marks the sets that contain it and have the same sites of the last six. Slices ascend, so that those of a word follow each other.
+// Each slice that site v lists marks the sets that contain it and have the same sites of the last six. Slices ascend, so that those of a word follow each
+// other.
 fn mark_listed(table: &[u64], n: usize, v: usize, above: &[u64; 64], words: &mut [u64; 64])
     requires { ⌜ length (now table) ≡ 63 * n ⌝ }
     requires { ⌜ ListedRow (now table) n v ⌝ }
@@ -56,7 +57,7 @@ fn inside_listed(table: &[u64], n: usize, v: usize, above: &[u64; 64], words: &m
     ensures { λ r. ⌜ Says (slicesOf (now (table .entry)) .inside v) (now (words .exit)) ⌝ }
 {
     mark_listed(table, n, v, above, words);
-    set_words::spread(words);
+    spread_words::spread(words);
 }
 
 // The sets that have a slice of site v inside; none if there is no such site.
@@ -77,9 +78,7 @@ pub fn inside(table: &[u64], n: usize, v: usize, above: &[u64; 64], words: &mut 
 fn narrow(v: usize, words: &[u64; 64], sets: &mut [u64; 64])
     requires { ⌜ v < 12 ⌝ }
     requires { ⌜ length (now sets) ≡ 64 ⌝ }
-    ensures {
-        λ r. ⌜ Says (λ s. said (now (sets .entry)) s && (not (has s v) || said (now (words .entry)) s)) (now (sets .exit)) ⌝
-    }
+    ensures { λ r. ⌜ Says (λ s. inFamily (now (sets .entry)) s && (not (has s v) || inFamily (now (words .entry)) s)) (now (sets .exit)) ⌝ }
 {
     let mut w: usize = 0;
     while w < 64 {
