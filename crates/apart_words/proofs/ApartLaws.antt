@@ -1,42 +1,41 @@
 -- Laws of the search: the sets that are quorums together with b, and the first that has one beside it.
-use Prim.Native.Nat.{ℕ, suc, _+_, _-_, _*_, _/_, _%_, _^_, _≤_, _<_}
+use Prim.Native.Nat.{ℕ, _+_, _-_, _*_, _/_, _%_, _^_, _≤_, _<_}
 use mathlib.Core.Bool.{Bool, true, false, _&&_, _||_, not}
 use mathlib.Core.List.{List}
 use mathlib.Core.Logic.{_⊎_, inl, inr, ⊎-elim}
 use mathlib.Core.Path.{_≡_, refl, sym, ap, ap₂, _∙_, subst}
-use native.Mathlib.Nat.{not-suc-le-zero, lt-of-lt-of-le, mod-lt, le-refl, lt-trans}
+use native.Mathlib.Nat.{lt-of-lt-of-le, mod-lt, le-refl}
 use native.Mathlib.Omega.{arith}
 use lib.Bits.{bitAnd, bitOr, or-lt, or-disjoint, or-zero-l}
 use lib.Dec.{eqb, ltb}
-use lib.ListN.{length, getD, set, length-set}
-use lib.Pow.{ones-lt, pow-mono}
+use lib.ListN.{getD, set, length-set}
+use lib.Pow.{pow-mono}
 use lib.Seq.{getD-set-same, getD-set-other}
 use borrow.Author.Tests.{eq-eqb, ne-eqb, eqb-true, eqb-false, ltb-true, ltb-false}
 use Rattle.ground.proofs.Every.{every-of, every-at}
 use Rattle.ground.proofs.Logic.{and-l, and-r, and-i, cases, iff, is-false, clash, or-e, or-i, not-t}
 use Rattle.ground.proofs.Numbers.{same?}
-use Rattle.ground.specs.Search.{every}
 use Rattle.masks.proofs.Laws.AllBelow.{in-all}
-use Rattle.masks.proofs.Laws.Apart.{apart-of, apart-not-in, common-of}
+use Rattle.masks.proofs.Laws.Apart.{apart-of, apart-not-in}
 use Rattle.masks.proofs.Laws.Members.{has-and, has-minus, has-single, has-zero}
 use Rattle.masks.proofs.Laws.Single.{in?, ∈-or, ∈-eq}
 use Rattle.masks.proofs.Laws.Step.{or-part, minus-or}
-use Rattle.masks.proofs.Laws.Subsets.{mem, not-in-zero, empty, ⊆-antisym, ⊆-le, within-⊆, ⊆-within, ∈-below, or-⊆, or-⊆-l, or-⊆-r, minus-⊆, ∈-minus, minus-not-in, minus-lt}
-use Rattle.masks.specs.Mask.{has, within, single, minus, allBelow, _∈_, _⊆_}
+use Rattle.masks.proofs.Laws.Subsets.{mem, empty, ⊆-antisym, within-⊆, ⊆-within, ∈-below, or-⊆, or-⊆-l, or-⊆-r, minus-⊆, ∈-minus, minus-not-in}
+use Rattle.masks.specs.Mask.{has, within, single, minus, _∈_, _⊆_}
 use Rattle.sets.proofs.Lawful.{deleted-stays, deleted-answers}
-use Rattle.sets.proofs.Quorum.{quorum-of, quorum-some, quorum-below, quorum-slice, quorum-lt}
+use Rattle.sets.proofs.Quorum.{quorum-of, quorum-some, quorum-slice, quorum-lt}
 use Rattle.sets.proofs.Rows.{rows-lawful}
 use Rattle.sets.specs.Inner.Rows.{Rows, rulesOf}
 use Rattle.sets.specs.Quorum.{quorum}
 use Rattle.verdicts.proofs.VerdictLaws.{apart-first, apart-second, apart-no-quorum, beside-apart, first-apart-found, first-apart-none, meeting-no-quorum}
 use Rattle.verdicts.proofs.VerdictLaws.{apart-of as verdict-apart-of}
 use Rattle.verdicts.specs.Verdicts.{apart, beside, firstApart}
-use Rattle.set_words.specs.Inner.{Says, said, Above, First}
+use Rattle.set_words.specs.Inner.{Says, inFamily, Above, FirstSet}
 use Rattle.set_words.proofs.Places.{parts-⊆, low-⊆, high-⊆}
 use Rattle.set_words.proofs.WordLaws.{said-at, says-at, says-change}
 use Rattle.inside_words.specs.Inner.{fits}
 use Rattle.inside_words.proofs.InsideLaws.{inside-site}
-use Rattle.apart_words.specs.Inner.{Kept, quorumWith, apartWith, Beside}
+use Rattle.apart_words.specs.Inner.{Containing, quorumWith, apartWith, Beside}
 
 -- a set that contains b, without it and with it again
 pub with-again : {b s : ℕ} → b ⊆ s → bitOr (minus s b) b ≡ s
@@ -65,8 +64,8 @@ within-parts b w j l =
     whole : (b : ℕ) → b / 64 * 64 + b % 64 ≡ b
     whole b = omega arith
 
-pub contained : (b w : ℕ) (old list : List ℕ) {here keep : ℕ} → here ≡ getD old w 0 → Above 64 list → Kept (b / 64) w (getD list (b % 64) 0) keep → (j : ℕ) → j < 64
-    → has (bitAnd here keep) j ≡ said old (w * 64 + j) && within b (w * 64 + j)
+pub contained : (b w : ℕ) (old list : List ℕ) {here keep : ℕ} → here ≡ getD old w 0 → Above 64 list → Containing (b / 64) w (getD list (b % 64) 0) keep → (j : ℕ) → j < 64
+    → has (bitAnd here keep) j ≡ inFamily old (w * 64 + j) && within b (w * 64 + j)
 contained b w old list {here} {keep} e a k j l =
     has-and here keep j
     ∙ ap₂ (λ x y. x && y) (ap (λ (x : ℕ). has x j) e ∙ sym (said-at old w j l))
@@ -166,7 +165,7 @@ module _ {t : List ℕ} {n : ℕ} (rows : Rows t n) (b : ℕ) where
           or-i (has b v) (not (has u v) || rulesOf t .inside v u)
           (ap (λ (c : Bool). not c || rulesOf t .inside v u) (is-false (has u v) (λ e. d (mem e))))
 
-  pub quorums-left : {old new : List ℕ} → Says (fits (rulesOf t) b 12) old → Says (λ u. (said old u && within b u) && not (eqb u b)) new → Says (quorumWith (rulesOf t) n b) new
+  pub quorums-left : {old new : List ℕ} → Says (fits (rulesOf t) b 12) old → Says (λ u. (inFamily old u && within b u) && not (eqb u b)) new → Says (quorumWith (rulesOf t) n b) new
   quorums-left p = says-change (λ u l. ap (λ c. (c && within b u) && not (eqb u b)) (says-at p u l) ∙ quorum-with u l)
 
   -- which of them have one beside them
@@ -175,13 +174,13 @@ module _ {t : List ℕ} {n : ℕ} (rows : Rows t n) (b : ℕ) where
     sites : {u : ℕ} → u < 2 ^ n → u < 4096
     sites l = lt-of-lt-of-le l (pow-mono few)
 
-    said-quorum : (q : ℕ) → q < 4096 → said sets q ≡ true → (b ⊆ q) × (quorum s n (minus q b) ≡ true)
+    said-quorum : (q : ℕ) → q < 4096 → inFamily sets q ≡ true → (b ⊆ q) × (quorum s n (minus q b) ≡ true)
     unfolding quorumWith
     said-quorum q l e =
         let k = sym (says-at quorums q l) ∙ e in
         (within-⊆ b q (and-l (within b q) (quorum s n (minus q b)) k), and-r (within b q) (quorum s n (minus q b)) k)
 
-    quorum-said : (q : ℕ) → q < 4096 → b ⊆ q → quorum s n (minus q b) ≡ true → said sets q ≡ true
+    quorum-said : (q : ℕ) → q < 4096 → b ⊆ q → quorum s n (minus q b) ≡ true → inFamily sets q ≡ true
     unfolding quorumWith
     quorum-said q l sub k = says-at quorums q l ∙ and-i (⊆-within sub) k
 
@@ -251,7 +250,7 @@ module _ {t : List ℕ} {n : ℕ} (rows : Rows t n) (b : ℕ) where
       pub none-here : both ≡ 0 → (u : ℕ) → u < (w + 1) * 64 → apartWith (rulesOf t) n b u ≡ false
       none-here e u l = before 64 (le-refl 64) (λ j lj. ap (λ (x : ℕ). has x j) e ∙ has-zero j) u (omega (arith, l))
 
-      pub found-here : {j : ℕ} → First both j → minus (w * 64 + j) b ≡ firstApart (rulesOf t .deleted b) n
+      pub found-here : {j : ℕ} → FirstSet both j → minus (w * 64 + j) b ≡ firstApart (rulesOf t .deleted b) n
       unfolding apartWith
       found-here {j} i =
           let a = sym (both-is w j lw (i .below)) ∙ i .member .holds in

@@ -1,10 +1,10 @@
 -- Sites that are turned, and which sets are said to be beside a set then.
-use Prim.Native.Nat.{ℕ, suc, _+_, _-_, _*_, _/_, _%_, _^_, _≤_, _<_}
+use Prim.Native.Nat.{ℕ, _+_, _-_, _*_, _/_, _%_, _^_, _≤_, _<_}
 use mathlib.Core.Bool.{Bool, true, false, _&&_, _||_, not, cond, or-false}
 use mathlib.Core.List.{List}
 use mathlib.Core.Logic.{_⊎_, inl, inr, ⊎-elim}
 use mathlib.Core.Path.{_≡_, refl, sym, ap, ap₂, _∙_, subst}
-use native.Mathlib.Nat.{not-suc-le-zero, lt-of-lt-of-le, mod-lt}
+use native.Mathlib.Nat.{not-suc-le-zero}
 use native.Mathlib.Omega.{arith}
 use lib.Bits.{bitAnd, bitOr, or-lt, or-disjoint}
 use lib.Dec.{ltb}
@@ -20,7 +20,8 @@ use Rattle.masks.proofs.Laws.Single.{in?, ∈-or, ∈-single, single-∈, singl
 use Rattle.masks.proofs.Laws.Step.{or-part, minus-or}
 use Rattle.masks.proofs.Laws.Subsets.{mem, ⊆-antisym, ⊆-le, ∈-below, or-⊆-l, or-⊆-r, minus-⊆, ∈-minus, minus-not-in, minus-lt}
 use Rattle.masks.specs.Mask.{has, single, minus, _∈_, _⊆_}
-use Rattle.set_words.specs.Inner.{Says, said, Without, Spread}
+use Rattle.set_words.specs.Inner.{Says, inFamily, Without}
+use Rattle.spread_words.specs.Inner.{Spread}
 use Rattle.set_words.proofs.Places.{has-shr, has-shifted, has-shifted-low, low-has, high-has, each-site}
 use Rattle.set_words.proofs.WordLaws.{said-at, says-at, says-change}
 use Rattle.apart_words.specs.Inner.{Turn, turnedAt, turnedUnless, Faces, Turned, Beside}
@@ -102,7 +103,8 @@ module _ (x word rest : ℕ) (few : x < 6) (w : Without x rest) where
         up y s =
             ⊎-elim (λ k. k)
             (λ k.
-            absurd (clash (mem (ap (λ (z : ℕ). has z x) (sym (or-disjoint y (single x) (apart-of y (single x) (λ v h m. clash (subst (λ (z : ℕ). z ∈ y) (single-∈ x m) h .holds) k)) ∙ turn y (2 ^ x) ∙ s)) ∙ or-⊆-r y (single x) .each x (∈-single x) .holds) .holds) e))
+            let sum = or-disjoint y (single x) (apart-of y (single x) (λ v h m. clash (subst (λ (z : ℕ). z ∈ y) (single-∈ x m) h .holds) k)) ∙ turn y (2 ^ x) ∙ s in
+            absurd (clash (ap (λ (z : ℕ). has z x) (sym sum) ∙ or-⊆-r y (single x) .each x (∈-single x) .holds) e))
             (cases (has y x))
           where
             turn : (a b : ℕ) → a + b ≡ b + a
@@ -136,7 +138,12 @@ module _ (x word rest : ℕ) (few : x < 6) (w : Without x rest) where
         both false false = refl
 
   pub turn-is : Turn x word turned
-  turn-is = record { each = λ j l. ⊎-elim (λ e. with-x j l e ∙ sym (ap (λ c. cond c (has word (minus j (single x))) (has word j || has word (bitOr j (single x)))) e)) (λ e. without-x j l e ∙ sym (ap (λ c. cond c (has word (minus j (single x))) (has word j || has word (bitOr j (single x)))) e)) (cases (has j x)) }
+  turn-is =
+      record {
+        each = λ j l.
+            ⊎-elim (λ e. with-x j l e ∙ sym (ap (λ c. cond c (has word (minus j (single x))) (has word j || has word (bitOr j (single x)))) e))
+            (λ e. without-x j l e ∙ sym (ap (λ c. cond c (has word (minus j (single x))) (has word j || has word (bitOr j (single x)))) e)) (cases (has j x));
+      }
 
 -- what is said of sets in their two parts, with a site of the first six more or less
 
@@ -188,8 +195,8 @@ module _ (x w : ℕ) {j : ℕ} (few : x < 6) (l : j < 64) where
       ∙ ap (λ (y : ℕ). cond (has j x) (has y (minus j (single x))) (has y j || has y (bitOr j (single x)))) e
       ∙ ap (λ (c : Bool). cond c (has word (minus j (single x))) (has word j || has word (bitOr j (single x)))) (sym (low-has 6 w l x few))
       ∙ ap₂ (λ a b. cond (has (w * 64 + j) x) a b)
-      (sym (said-at old w (minus j (single x)) (minus-lt 6 j (single x) l)) ∙ ap (said old) (sym part-less))
-      (ap₂ (λ a b. a || b) (sym (said-at old w j l)) (sym (said-at old w (bitOr j (single x)) more-few) ∙ ap (said old) (sym part-more)))
+      (sym (said-at old w (minus j (single x)) (minus-lt 6 j (single x) l)) ∙ ap (inFamily old) (sym part-less))
+      (ap₂ (λ a b. a || b) (sym (said-at old w j l)) (sym (said-at old w (bitOr j (single x)) more-few) ∙ ap (inFamily old) (sym part-more)))
     where
       word : ℕ
       word = getD old w 0
@@ -199,11 +206,11 @@ module _ (x w : ℕ) {j : ℕ} (few : x < 6) (l : j < 64) where
 module _ (b x : ℕ) (old : List ℕ) where
   pub unless-in : length old ≡ 64 → has b x ≡ true → Says (turnedUnless b x old) old
   unfolding turnedUnless
-  unless-in l e = record { long = l; each = λ w j lw lj. sym (said-at old w j lj) ∙ sym (ap (λ c. cond c (said old (w * 64 + j)) (turnedAt x old (w * 64 + j))) e) }
+  unless-in l e = record { long = l; each = λ w j lw lj. sym (said-at old w j lj) ∙ sym (ap (λ c. cond c (inFamily old (w * 64 + j)) (turnedAt x old (w * 64 + j))) e) }
 
   pub unless-out : {new : List ℕ} → has b x ≡ false → Says (turnedAt x old) new → Says (turnedUnless b x old) new
   unfolding turnedUnless
-  unless-out e = says-change (λ s l. sym (ap (λ c. cond c (said old s) (turnedAt x old s)) e))
+  unless-out e = says-change (λ s l. sym (ap (λ c. cond c (inFamily old s) (turnedAt x old s)) e))
 
 -- sites that are turned one after the other
 
@@ -212,7 +219,7 @@ turned-none b old e =
     record {
       long = e;
       right = λ s l h. (s, l, record { apart = λ y k. absurd (not-suc-le-zero k); to = λ y f i. i; back = λ y f i. i }, h);
-      full = λ q s lq ls f h. subst (λ (z : ℕ). said old z ≡ true) (same f) h;
+      full = λ q s lq ls f h. subst (λ (z : ℕ). inFamily old z ≡ true) (same f) h;
     }
   where
     same : {q s : ℕ} → Faces b 0 q s → q ≡ s
@@ -310,8 +317,8 @@ module _ (b x : ℕ) (few : x < 6) {old words new : List ℕ} (t : Turned b x ol
             full = λ q s lq ls f h. same s ls ∙ t .full q s lq ls (kept-faces b x q s (mem o) f) h;
           }
         where
-          same : (s : ℕ) → s < 4096 → said new s ≡ said words s
-          same s l = says-at u s l ∙ ap (λ c. cond c (said words s) (turnedAt x words s)) o
+          same : (s : ℕ) → s < 4096 → inFamily new s ≡ inFamily words s
+          same s l = says-at u s l ∙ ap (λ c. cond c (inFamily words s) (turnedAt x words s)) o
       pick (inr o) =
           record {
             long = u .long;
@@ -322,16 +329,16 @@ module _ (b x : ℕ) (few : x < 6) {old words new : List ℕ} (t : Turned b x ol
           out : x ∈ b → ⊥
           out k = clash (k .holds) o
 
-          value : (s : ℕ) → s < 4096 → said new s ≡ cond (has s x) (said words (minus s (single x))) (said words s || said words (bitOr s (single x)))
-          value s l = says-at u s l ∙ ap (λ c. cond c (said words s) (turnedAt x words s)) o
+          value : (s : ℕ) → s < 4096 → inFamily new s ≡ cond (has s x) (inFamily words (minus s (single x))) (inFamily words s || inFamily words (bitOr s (single x)))
+          value s l = says-at u s l ∙ ap (λ c. cond c (inFamily words s) (turnedAt x words s)) o
 
-          with-x : (s : ℕ) → s < 4096 → has s x ≡ true → said new s ≡ said words (minus s (single x))
-          with-x s l e = value s l ∙ ap (λ c. cond c (said words (minus s (single x))) (said words s || said words (bitOr s (single x)))) e
+          with-x : (s : ℕ) → s < 4096 → has s x ≡ true → inFamily new s ≡ inFamily words (minus s (single x))
+          with-x s l e = value s l ∙ ap (λ c. cond c (inFamily words (minus s (single x))) (inFamily words s || inFamily words (bitOr s (single x)))) e
 
-          without-x : (s : ℕ) → s < 4096 → has s x ≡ false → said new s ≡ said words s || said words (bitOr s (single x))
-          without-x s l e = value s l ∙ ap (λ c. cond c (said words (minus s (single x))) (said words s || said words (bitOr s (single x)))) e
+          without-x : (s : ℕ) → s < 4096 → has s x ≡ false → inFamily new s ≡ inFamily words s || inFamily words (bitOr s (single x))
+          without-x s l e = value s l ∙ ap (λ c. cond c (inFamily words (minus s (single x))) (inFamily words s || inFamily words (bitOr s (single x)))) e
 
-          from : (s : ℕ) → s < 4096 → (has s x ≡ true) ⊎ (has s x ≡ false) → said new s ≡ true → (q : ℕ) × (q < 4096) × Faces b (x + 1) q s × (said old q ≡ true)
+          from : (s : ℕ) → s < 4096 → (has s x ≡ true) ⊎ (has s x ≡ false) → inFamily new s ≡ true → (q : ℕ) × (q < 4096) × Faces b (x + 1) q s × (inFamily old q ≡ true)
           from s l (inl e) h =
               let r = t .right (minus s (single x)) (minus-lt 12 s (single x) l) (sym (with-x s l e) ∙ h) in
               (r .0, r .1, faces-more b x (r .0) s (minus s (single x)) out (from-less s x) (to-less s x) (λ i k. lacks-x s x i) (r .2), r .3)
@@ -343,26 +350,26 @@ module _ (b x : ℕ) (few : x < 6) {old words new : List ℕ} (t : Turned b x ol
               (λ k.
               let r = t .right (bitOr s (single x)) (more-few-sets s l) k in
               (r .0, r .1, faces-more b x (r .0) s (bitOr s (single x)) out (from-more s x) (to-more s x) (λ i k. clash (k .holds) e) (r .2), r .3))
-              (or-e (said words s) (said words (bitOr s (single x))) (sym (without-x s l e) ∙ h))
+              (or-e (inFamily words s) (inFamily words (bitOr s (single x))) (sym (without-x s l e) ∙ h))
 
-          into : (q s : ℕ) → q < 4096 → s < 4096 → Faces b (x + 1) q s → said old q ≡ true → (x ∈ s) ⊎ (x ∈ s → ⊥) → (x ∈ q) ⊎ (x ∈ q → ⊥) → said new s ≡ true
+          into : (q s : ℕ) → q < 4096 → s < 4096 → Faces b (x + 1) q s → inFamily old q ≡ true → (x ∈ s) ⊎ (x ∈ s → ⊥) → (x ∈ q) ⊎ (x ∈ q → ⊥) → inFamily new s ≡ true
           into q s lq ls f h (inl e) d =
               with-x s ls (e .holds)
               ∙ t .full q (minus s (single x)) lq (minus-lt 12 s (single x) ls)
               (more-faces b x q s (minus s (single x)) out (from-less s x) (to-less s x) (λ i. absurd (f .apart x (here b x q) out i e)) (λ i. absurd (lacks-x s x i)) f) h
           into q s lq ls f h (inr e) (inl d) =
               without-x s ls (is-false (has s x) (λ k. e (mem k)))
-              ∙ or-i (said words s) (said words (bitOr s (single x)))
+              ∙ or-i (inFamily words s) (inFamily words (bitOr s (single x)))
               (t .full q (bitOr s (single x)) lq (more-few-sets s ls)
               (more-faces b x q s (bitOr s (single x)) out (from-more s x) (to-more s x) (λ i. or-⊆-r s (single x) .each x (∈-single x)) (λ i. d) f) h)
           into q s lq ls f h (inr e) (inr d) =
               without-x s ls (is-false (has s x) (λ k. e (mem k)))
-              ∙ ap (λ (c : Bool). c || said words (bitOr s (single x)))
+              ∙ ap (λ (c : Bool). c || inFamily words (bitOr s (single x)))
               (t .full q s lq ls (more-faces b x q s s out (λ y ne i. i) (λ y ne i. i) (λ i. absurd (d i)) (λ i. absurd (e i)) f) h)
 
 -- all turned and handed on: what is beside a set
 
-module _ (b : ℕ) (sets : List ℕ) {copy turned words : List ℕ} (c : Says (said sets) copy) (t : Turned b 6 copy turned) (s : Spread turned words) where
+module _ (b : ℕ) (sets : List ℕ) {copy turned words : List ℕ} (c : Says (inFamily sets) copy) (t : Turned b 6 copy turned) (s : Spread turned words) where
   high-b : (x : ℕ) → has (b / 64) x ≡ has b (6 + x)
   high-b x = has-shr b 6 x
 
@@ -379,7 +386,7 @@ module _ (b : ℕ) (sets : List ℕ) {copy turned words : List ℕ} (c : Says (s
           part a b c = omega arith
 
       right : (w j : ℕ) → w < 64 → j < 64 → b ⊆ w * 64 + j → j ∈ getD words (bitOr (63 - w) (b / 64)) 0
-          → (q : ℕ) × (q < 4096) × ((z : ℕ) → z ∈ q → (z ∈ b → ⊥) → z ∈ w * 64 + j → ⊥) × (said sets q ≡ true)
+          → (q : ℕ) × (q < 4096) × ((z : ℕ) → z ∈ q → (z ∈ b → ⊥) → z ∈ w * 64 + j → ⊥) × (inFamily sets q ≡ true)
       right w j lw lj sub h =
           let l = place w lw (few-b lw lj sub) in
           let r = s .right (bitOr (63 - w) (b / 64)) j l h in
@@ -411,7 +418,7 @@ module _ (b : ℕ) (sets : List ℕ) {copy turned words : List ℕ} (c : Says (s
               flip true e = sym e
               flip false e = refl
 
-      full : (w j q : ℕ) → w < 64 → j < 64 → b ⊆ w * 64 + j → q < 4096 → b ⊆ q → ((z : ℕ) → z ∈ q → (z ∈ b → ⊥) → z ∈ w * 64 + j → ⊥) → said sets q ≡ true
+      full : (w j q : ℕ) → w < 64 → j < 64 → b ⊆ w * 64 + j → q < 4096 → b ⊆ q → ((z : ℕ) → z ∈ q → (z ∈ b → ⊥) → z ∈ w * 64 + j → ⊥) → inFamily sets q ≡ true
           → j ∈ getD words (bitOr (63 - w) (b / 64)) 0
       full w j q lw lj sub lq bq apart h =
           s .full y (bitOr (63 - w) (b / 64)) (place w lw (few-b lw lj sub)) (record { each = below }) .each j

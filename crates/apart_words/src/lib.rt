@@ -8,13 +8,13 @@ ghost use lib.ListN.{length};
 ghost use Rattle.masks.specs.Mask.{within};
 ghost use Rattle.sets.specs.Inner.Rows.{Rows, rulesOf};
 ghost use Rattle.verdicts.specs.Verdicts.{firstApart};
-ghost use Rattle.set_words.specs.Inner.{Says, Above, said};
+ghost use Rattle.set_words.specs.Inner.{Says, Above, inFamily};
 ghost use Rattle.inside_words.specs.Inner.{fits};
-ghost use Rattle.apart_words.specs.Inner.{Kept, Turn, turnedAt, turnedUnless, Turned, Beside, quorumWith};
+ghost use Rattle.apart_words.specs.Inner.{Containing, Turn, turnedAt, turnedUnless, Turned, Beside, quorumWith};
 
 // The sets of word w that contain b: as many as contain its first six sites, if w contains the others.
 fn chosen(high: u64, w: u64, low: u64) -> u64
-    ensures { λ r. ⌜ Kept high w low r ⌝ }
+    ensures { λ r. ⌜ Containing high w low r ⌝ }
 {
     if masks::within(high, w) {
         return low;
@@ -27,7 +27,7 @@ fn contain(b: u64, above: &[u64; 64], sets: &mut [u64; 64])
     requires { ⌜ b < 4096 ⌝ }
     requires { ⌜ Above 64 (now above) ⌝ }
     requires { ⌜ length (now sets) ≡ 64 ⌝ }
-    ensures { λ r. ⌜ Says (λ s. said (now (sets .entry)) s && within b s) (now (sets .exit)) ⌝ }
+    ensures { λ r. ⌜ Says (λ s. inFamily (now (sets .entry)) s && within b s) (now (sets .exit)) ⌝ }
 {
     let high = b / 64;
     let low = above[(b % 64) as usize];
@@ -43,7 +43,7 @@ fn leave(b: u64, above: &[u64; 64], sets: &mut [u64; 64])
     requires { ⌜ b < 4096 ⌝ }
     requires { ⌜ Above 64 (now above) ⌝ }
     requires { ⌜ length (now sets) ≡ 64 ⌝ }
-    ensures { λ r. ⌜ Says (λ s. (said (now (sets .entry)) s && within b s) && not (eqb s b)) (now (sets .exit)) ⌝ }
+    ensures { λ r. ⌜ Says (λ s. (inFamily (now (sets .entry)) s && within b s) && not (eqb s b)) (now (sets .exit)) ⌝ }
 {
     contain(b, above, sets);
     let w = (b / 64) as usize;
@@ -100,7 +100,7 @@ fn turn_all(b: u64, words: &mut [u64; 64])
 
 fn copy(sets: &[u64; 64], words: &mut [u64; 64])
     requires { ⌜ length (now words) ≡ 64 ⌝ }
-    ensures { λ r. ⌜ Says (said (now (sets .entry))) (now (words .exit)) ⌝ }
+    ensures { λ r. ⌜ Says (inFamily (now (sets .entry))) (now (words .exit)) ⌝ }
 {
     let mut w: usize = 0;
     while w < 64 {
@@ -116,7 +116,7 @@ fn beside(b: u64, sets: &[u64; 64], words: &mut [u64; 64])
 {
     copy(sets, words);
     turn_all(b, words);
-    set_words::spread(words);
+    spread_words::spread(words);
 }
 
 // The first of the sets beside which there is one, without b; 2^n if there is none.

@@ -1,5 +1,5 @@
 -- Laws of the contents of the sites: one word more, one site more, and the sets that fit all.
-use Prim.Native.Nat.{ℕ, _+_, _*_, _/_, _%_, _≤_, _<_}
+use Prim.Native.Nat.{ℕ, _+_, _*_, _/_, _%_, _<_}
 use mathlib.Core.Bool.{Bool, true, false, _&&_, _||_, not}
 use mathlib.Core.List.{List}
 use mathlib.Core.Logic.{⊎-elim}
@@ -10,7 +10,6 @@ use lib.Bits.{bitAnd, bitOr}
 use lib.ListN.{length, getD, set, length-set}
 use lib.Seq.{getD-set-same, getD-set-other}
 use Rattle.ground.proofs.Every.{every-suc}
-use Rattle.ground.proofs.Logic.{is-false}
 use Rattle.ground.proofs.Numbers.{same?}
 use Rattle.ground.specs.Search.{every}
 use Rattle.masks.proofs.Laws.Members.{has-and, has-or}
@@ -18,7 +17,7 @@ use Rattle.masks.proofs.Laws.Single.{not-in}
 use Rattle.masks.proofs.Laws.Subsets.{mem}
 use Rattle.masks.specs.Mask.{has, _∈_}
 use Rattle.sets.specs.Slices.{Slices}
-use Rattle.set_words.specs.Inner.{Says, said, Lacking}
+use Rattle.set_words.specs.Inner.{Says, inFamily, Lacking}
 use Rattle.set_words.proofs.WordLaws.{said-at, says-at, says-change}
 use Rattle.inside_words.specs.Inner.{fits}
 use Rattle.contents.specs.Inner.{Kept, Contents, content, contentAt}
@@ -105,7 +104,7 @@ module _ (r : Slices) (b : ℕ) where
       and-t false = refl
 
   pub fits-asked : {old new kept : List ℕ} (v : ℕ) → v < 12 → has b v ≡ false → Contents r b 12 kept → Says (fits r b v) old
-      → Says (λ s. said old s && contentAt kept v s) new → Says (fits r b (v + 1)) new
+      → Says (λ s. inFamily old s && contentAt kept v s) new → Says (fits r b (v + 1)) new
   unfolding fits contentAt
   fits-asked {old} {new} {kept} v lv e c p =
       says-change
@@ -119,7 +118,7 @@ module _ (r : Slices) (b : ℕ) where
 
 -- of a set that one site more is asked of
 pub asked : (old kept : List ℕ) (v w : ℕ) {here : ℕ} → here ≡ getD old w 0 → (j : ℕ) → j < 64
-    → has (bitAnd here (getD kept (64 * v + w) 0)) j ≡ said old (w * 64 + j) && contentAt kept v (w * 64 + j)
+    → has (bitAnd here (getD kept (64 * v + w) 0)) j ≡ inFamily old (w * 64 + j) && contentAt kept v (w * 64 + j)
 unfolding contentAt
 asked old kept v w {here} e j lj =
     has-and here (getD kept (64 * v + w) 0) j

@@ -1,11 +1,11 @@
-// Of each of 12 sites the sets that do not contain it or have a slice of it inside, as words, kept for all: from them the sets in which each member outside a set
-// has a slice.
+// Of each of 12 sites the sets that do not contain it or have a slice of it inside, as words, kept for all: from them the sets in which each member outside a
+// set has a slice.
 ghost use mathlib.Core.Path.{_≡_};
 ghost use mathlib.Core.Bool.{_&&_};
 ghost use Prim.Native.Nat.{_<_, _≤_, _+_};
 ghost use lib.ListN.{length};
 ghost use Rattle.sets.specs.Inner.Rows.{Rows, rulesOf};
-ghost use Rattle.set_words.specs.Inner.{Says, Above, said};
+ghost use Rattle.set_words.specs.Inner.{Says, Above, inFamily};
 ghost use Rattle.inside_words.specs.Inner.{fits};
 ghost use Rattle.contents.specs.Inner.{Contents, contentAt};
 
@@ -59,7 +59,7 @@ pub fn fill(table: &[u64], n: usize, b: u64, above: &[u64; 64], kept: &mut [u64;
 fn narrow(v: usize, kept: &[u64; 768], sets: &mut [u64; 64])
     requires { ⌜ v < 12 ⌝ }
     requires { ⌜ length (now sets) ≡ 64 ⌝ }
-    ensures { λ r. ⌜ Says (λ s. said (now (sets .entry)) s && contentAt (now (kept .entry)) v s) (now (sets .exit)) ⌝ }
+    ensures { λ r. ⌜ Says (λ s. inFamily (now (sets .entry)) s && contentAt (now (kept .entry)) v s) (now (sets .exit)) ⌝ }
 {
     let mut w: usize = 0;
     while w < 64 {

@@ -1,16 +1,16 @@
 -- Laws of the sets of the first six sites: how they are found in one word.
-use Prim.Native.Nat.{ℕ, zero, suc, _+_, _-_, _*_, _/_, _%_, _^_, _≤_, _<_}
+use Prim.Native.Nat.{ℕ, _+_, _-_, _*_, _%_, _^_, _≤_, _<_}
 use mathlib.Core.Bool.{Bool, true, false, _&&_, _||_, not}
 use mathlib.Core.List.{List}
 use mathlib.Core.Logic.{_⊎_, inl, inr, ⊎-elim}
-use mathlib.Core.Path.{_≡_, refl, sym, ap, ap₂, _∙_, subst}
-use native.Mathlib.Nat.{le-refl, not-suc-le-zero, lt-trans}
+use mathlib.Core.Path.{_≡_, sym, ap, ap₂, _∙_, subst}
+use native.Mathlib.Nat.{not-suc-le-zero, lt-trans}
 use native.Mathlib.Numerals.{add-one}
 use native.Mathlib.Omega.{arith}
 use lib.Bits.{bitAnd, bitOr, or-disjoint}
 use lib.Count.{trailingZeros, trailing-of-zero}
-use lib.Dec.{eqb, ltb}
-use lib.Pow.{ones-lt, pow-mono}
+use lib.Dec.{ltb}
+use lib.Pow.{pow-mono}
 use borrow.Author.Tests.{lt-ltb, ltb-true, ltb-false, eq-eqb, ne-eqb}
 use Rattle.ground.proofs.Every.{every-at, every-of, every-none, every-suc}
 use Rattle.ground.proofs.Least.{least-found, least-fails}
@@ -18,30 +18,27 @@ use Rattle.ground.proofs.Logic.{and-l, and-r, and-i, cases, iff, is-false, clas
 use Rattle.ground.proofs.Numbers.{same?}
 use Rattle.ground.specs.Search.{every, least}
 use Rattle.early_quorums.proofs.Reaching.{reaches-of, reaches-itself, reach-down}
+use Rattle.inside_words.proofs.InsideLaws.{inside-up, inside-site, ascend-le}
 use Rattle.set_words.specs.Inner.{Without}
 use Rattle.set_words.proofs.Ends.{trailing-before}
 use Rattle.set_words.proofs.Places.{has-shifted, has-shifted-low}
 use Rattle.masks.proofs.Laws.AllBelow.{in-all}
 use Rattle.masks.proofs.Laws.Apart.{apart-of}
 use Rattle.masks.proofs.Laws.Gather.{has-gather}
-use Rattle.masks.proofs.Laws.Members.{has-and, has-or, has-minus, has-zero, has-suc, has-single}
+use Rattle.masks.proofs.Laws.Members.{has-and, has-or, has-minus, has-zero, has-single}
 use Rattle.masks.proofs.Laws.Single.{∈-or, ∈-single, single-∈, single-⊆}
 use Rattle.masks.proofs.Laws.Step.{or-part, minus-or}
-use Rattle.masks.proofs.Laws.Subsets.{mem, not-in-zero, ⊆-refl, ⊆-trans, ⊆-le, ∈-below, or-⊆-l, or-⊆-r, minus-⊆, minus-lt, minus-not-in}
+use Rattle.masks.proofs.Laws.Subsets.{mem, not-in-zero, ⊆-refl, ⊆-le, ∈-below, or-⊆-l, or-⊆-r, minus-⊆, minus-lt, minus-not-in}
 use Rattle.masks.specs.Mask.{gather, has, single, minus, _∈_, _⊆_}
 use Rattle.early_quorums.specs.Inner.{reaches, Counted, Sets, Inside, Held}
 use Rattle.masks.proofs.Laws.First.{first-member}
 use Rattle.sets.specs.Quorum.{quorum}
 use Rattle.sets.specs.Slices.{Slices, slicesOf}
 use Rattle.sets.proofs.Quorum.{quorum-of, quorum-some, quorum-slice}
-use Rattle.sets.proofs.Rows.{lists-inside, rows-lawful}
+use Rattle.sets.proofs.Rows.{lists-inside}
 use Rattle.sets.proofs.Slices.{inside-of, inside-ex}
 use Rattle.sets.specs.Inner.Rows.{ofSets, Rows, ListedRow, rulesOf}
 use Rattle.table.specs.Table.{countOf, sliceOf}
-
--- who has a slice is a site
-site : {t : List ℕ} {n : ℕ} → Rows t n → (v u : ℕ) → rulesOf t .inside v u ≡ true → v < n
-site {t} {n} rows v u e = let x = rows-lawful rows .slice-inside v u e in ∈-below (ones-lt n) (x .1 .1 .each v (x .1 .2))
 
 -- the slices of a site: none, one more, all of them, or as many as are such sets
 
@@ -69,44 +66,17 @@ module _ (t : List ℕ) (v : ℕ) where
   counted-all {word} m =
       record { right = m .right; full = λ u i lu li e. subst (λ (q : ℕ). q ∈ word) (sym (reaches-itself (sliceOf t v i) u e)) (m .each i li) }
 
-module _ (t : List ℕ) (v : ℕ) where
-  inside-up : {a b : ℕ} → a ⊆ b → slicesOf t .inside v a ≡ true → slicesOf t .inside v b ≡ true
-  inside-up {a} s e = let r = inside-ex t v a e in inside-of t v (r .0) (r .1) (⊆-trans (r .2) s)
-
 module _ {t : List ℕ} {n v : ℕ} (row : ListedRow t n v) where
-  ascend-le : (i d : ℕ) → i + d < countOf t v → sliceOf t v i ≤ sliceOf t v (i + d)
-  ascend-le i zero l = subst (λ (k : ℕ). sliceOf t v i ≤ sliceOf t v k) (plus-none i) (le-refl (sliceOf t v i))
-    where
-      plus-none : (k : ℕ) → k ≡ k + zero
-      plus-none k = omega arith
-  ascend-le i (suc d) l =
-      subst (λ (k : ℕ). sliceOf t v i ≤ sliceOf t v k) (next i d)
-      (more (ascend-le i d (less l)) (row .ascend (i + d) (subst (λ (k : ℕ). k < countOf t v) (sym (next i d)) l)))
-    where
-      next : (i d : ℕ) → suc (i + d) ≡ i + suc d
-      next i d = omega arith
-
-      less : i + suc d < countOf t v → i + d < countOf t v
-      less l = omega arith
-
-      more : {a b c : ℕ} → a ≤ b → b < c → a ≤ c
-      more p q = omega arith
-
   pub counted-stop : (i : ℕ) {word : ℕ} → 64 ≤ sliceOf t v i → Counted t v i word → Sets t v 0 word
   counted-stop i {word} big m =
       record { right = m .right; full = λ u k lu lk e. let z = reaches-itself (sliceOf t v k) u e in subst (λ (q : ℕ). q ∈ word) (sym z) (pick k lk (subst (λ (q : ℕ). q < 64) z lu) (cases (ltb k i))) }
     where
-      back : {k : ℕ} → i ≤ k → i + (k - i) ≡ k
-      back l = omega arith
-
       bad : {q : ℕ} → sliceOf t v i ≤ q → q < 64 → ⊥
       bad a b = omega arith
 
       pick : (k : ℕ) → k < countOf t v → sliceOf t v k < 64 → (ltb k i ≡ true) ⊎ (ltb k i ≡ false) → sliceOf t v k ∈ word
       pick k lk few (inl b) = m .each k (ltb-true k i b)
-      pick k lk few (inr b) =
-          let e = back (ltb-false k i b) in
-          absurd (bad (subst (λ (y : ℕ). sliceOf t v i ≤ sliceOf t v y) e (ascend-le i (k - i) (subst (λ (y : ℕ). y < countOf t v) (sym e) lk))) few)
+      pick k lk few (inr b) = absurd (bad (ascend-le row i k (ltb-false k i b) lk) few)
 
 -- one site more: each set without it hands on to the set with it
 
@@ -201,7 +171,7 @@ module _ {t : List ℕ} {n : ℕ} (rows : Rows t n) (v : ℕ) where
       plain u = omega arith
 
   pub inside-nobody : n ≤ v → Inside (rulesOf t) v 0
-  inside-nobody l = record { each = λ u k. has-zero u ∙ sym (is-false (rulesOf t .inside v u) (λ e. none (site rows v u e))) }
+  inside-nobody l = record { each = λ u k. has-zero u ∙ sym (is-false (rulesOf t .inside v u) (λ e. none (inside-site rows v u e))) }
     where
       none : v < n → ⊥
       none h = omega arith
@@ -229,7 +199,7 @@ module _ {t : List ℕ} {n : ℕ} (rows : Rows t n) {word : ℕ} (h : Held (rule
       let some = not-t (has 1 u) (and-r (has word u) (not (has 1 u)) e) in
       let all = sym (h .each u l) ∙ and-l (has word u) (not (has 1 u)) e in
       quorum-of (rulesOf t .inside) n (λ z. clash (has-single 0 u ∙ eq-eqb u 0 z) some)
-      (record { each = λ v i. in-all (site rows v u (member all v i)) }) (λ v i. member all v i))
+      (record { each = λ v i. in-all (inside-site rows v u (member all v i)) }) (λ v i. member all v i))
       (λ e.
       and-i
       (h .each u l

@@ -1,21 +1,17 @@
 -- Which sets a slice reaches by sites below x.
-use Prim.Native.Nat.{ℕ, suc, _+_, _-_, _*_, _%_, _^_, _≤_, _<_}
+use Prim.Native.Nat.{ℕ, suc, _-_, _<_}
 use mathlib.Core.Bool.{true}
 use mathlib.Core.Logic.{_⊎_, inl, inr, ⊎-elim}
-use mathlib.Core.Path.{_≡_, sym, ap, _∙_, subst}
-use native.Mathlib.Nat.{not-suc-le-zero, suc-mul, div-eq-of-lt-le}
-use native.Mathlib.Numerals.{add-one}
+use mathlib.Core.Path.{_≡_, sym, subst}
+use native.Mathlib.Nat.{not-suc-le-zero}
 use native.Mathlib.Omega.{arith}
 use lib.Bits.{bitOr}
-use lib.Dec.{eqb}
 use lib.Pow.{ones-lt}
-use borrow.Author.Tests.{eq-eqb}
-use Rattle.ground.proofs.Logic.{and-l, and-r, and-i, clash}
+use Rattle.ground.proofs.Logic.{and-l, and-r, and-i}
 use Rattle.masks.proofs.Laws.AllBelow.{in-all}
-use Rattle.masks.proofs.Laws.Single.{in?, ∈-or, ∈-single, single-∈, single-⊆}
-use Rattle.masks.proofs.Laws.Step.{or-part, minus-or}
-use Rattle.masks.proofs.Laws.Subsets.{mem, ⊆-antisym, within-⊆, ⊆-within, ∈-below, or-⊆-l, or-⊆-r, minus-⊆, ∈-minus, minus-not-in}
-use Rattle.masks.specs.Mask.{has, single, within, minus, allBelow, _∈_, _⊆_}
+use Rattle.masks.proofs.Laws.Single.{in?, ∈-or, ∈-single, single-∈}
+use Rattle.masks.proofs.Laws.Subsets.{⊆-antisym, within-⊆, ⊆-within, ∈-below, or-⊆-l, or-⊆-r, minus-⊆, ∈-minus, minus-not-in}
+use Rattle.masks.specs.Mask.{single, within, minus, allBelow, _∈_, _⊆_}
 use Rattle.early_quorums.specs.Inner.{reaches}
 
 -- a slice q that reaches u, as a statement

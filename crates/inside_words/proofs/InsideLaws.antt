@@ -1,33 +1,35 @@
 -- Laws of the sets that have a slice inside: how marks and handing on lead to them; and of those in which each member has one.
-use Prim.Native.Nat.{ℕ, zero, suc, _+_, _-_, _*_, _/_, _%_, _^_, _≤_, _<_}
-use mathlib.Core.Bool.{Bool, true, false, _&&_, _||_, not}
+use Prim.Native.Nat.{ℕ, zero, suc, _+_, _-_, _*_, _/_, _%_, _≤_, _<_}
+use mathlib.Core.Bool.{Bool, true, _&&_, _||_, not, cond}
 use mathlib.Core.List.{List}
-use mathlib.Core.Logic.{_⊎_, inl, inr, ⊎-elim}
+use mathlib.Core.Logic.{_⊎_, ⊎-elim}
 use mathlib.Core.Path.{_≡_, refl, sym, ap, ap₂, _∙_, subst}
-use native.Mathlib.Nat.{not-suc-le-zero, mod-lt}
+use native.Mathlib.Nat.{le-refl, not-suc-le-zero, mod-lt}
 use native.Mathlib.Omega.{arith}
 use lib.Bits.{bitAnd, bitOr}
+use lib.Dec.{eqb}
 use lib.ListN.{length, getD, set, replicate, length-replicate, getD-replicate, length-set}
 use lib.Pow.{ones-lt}
 use lib.Seq.{getD-set-same, getD-set-other}
+use borrow.Author.Tests.{eqb-true, eqb-false}
 use Rattle.ground.proofs.Every.{every-none, every-suc}
 use Rattle.ground.proofs.Logic.{iff, is-false, cases}
 use Rattle.ground.proofs.Numbers.{same?}
-use Rattle.ground.specs.Search.{every}
 use Rattle.masks.proofs.Laws.AllBelow.{in-all}
 use Rattle.masks.proofs.Laws.Members.{has-and, has-or, has-zero}
 use Rattle.masks.proofs.Laws.Single.{∈-or, ∈-eq}
 use Rattle.masks.proofs.Laws.Subsets.{mem, not-in-zero, ⊆-refl, ⊆-trans, ⊆-within, within-⊆, ∈-below, or-⊆-l, or-⊆-r}
-use Rattle.masks.specs.Mask.{has, within, _∈_, _⊆_}
+use Rattle.masks.specs.Mask.{has, _∈_, _⊆_}
 use Rattle.sets.specs.Slices.{Slices, slicesOf}
 use Rattle.sets.proofs.Slices.{inside-of, inside-ex}
 use Rattle.sets.proofs.Rows.{lists-inside, rows-lawful}
 use Rattle.sets.specs.Inner.Rows.{ofSets, Rows, ListedRow, rulesOf}
 use Rattle.table.specs.Table.{countOf, sliceOf}
-use Rattle.set_words.specs.Inner.{Says, said, Above, Lacking, Spread}
+use Rattle.set_words.specs.Inner.{Says, inFamily, Above, Lacking}
+use Rattle.spread_words.specs.Inner.{Spread}
 use Rattle.set_words.proofs.Places.{parts-⊆, low-⊆, high-⊆}
 use Rattle.set_words.proofs.WordLaws.{said-at, says-at, says-change}
-use Rattle.inside_words.specs.Inner.{Empty, Marked, fits}
+use Rattle.inside_words.specs.Inner.{Empty, Marked, Marking, fits}
 
 zeros : (n y : ℕ) → _≡_ {A = ℕ} (getD (replicate n 0) y 0) 0
 zeros zero y = refl
@@ -52,7 +54,7 @@ module _ (y u : ℕ) (s : y ⊆ u) where
   low-part = low-⊆ 6 (y / 64) (u / 64) (mod-lt y (omega arith)) (mod-lt u (omega arith)) both
 
 module _ (t : List ℕ) (v : ℕ) where
-  inside-up : {a b : ℕ} → a ⊆ b → slicesOf t .inside v a ≡ true → slicesOf t .inside v b ≡ true
+  pub inside-up : {a b : ℕ} → a ⊆ b → slicesOf t .inside v a ≡ true → slicesOf t .inside v b ≡ true
   inside-up {a} s e = let r = inside-ex t v a e in inside-of t v (r .0) (r .1) (⊆-trans (r .2) s)
 
   -- the marks: none, one slice more
@@ -67,7 +69,9 @@ module _ (t : List ℕ) (v : ℕ) where
         long = length-set words w new ∙ m .long;
         right = λ y j l h.
             ⊎-elim
-            (λ e. subst (λ (z : ℕ). slicesOf t .inside v (z * 64 + j) ≡ true) (sym e) (⊎-elim (λ k. m .right w j l k) (λ k. fresh j l k) (∈-or old more (∈-eq (ap (λ (z : ℕ). getD (set words w new) z 0) e ∙ getD-set-same words w new 0 short) h))))
+            (λ e.
+            subst (λ (z : ℕ). slicesOf t .inside v (z * 64 + j) ≡ true) (sym e)
+            (⊎-elim (λ k. m .right w j l k) (λ k. fresh j l k) (∈-or old more (∈-eq (ap (λ (z : ℕ). getD (set words w new) z 0) e ∙ getD-set-same words w new 0 short) h))))
             (λ ne. m .right y j l (∈-eq (getD-set-other words w y new 0 ne) h)) (same? y w);
         each = λ k j lk l s.
             ⊎-elim (λ e. subst (λ (z : ℕ). j ∈ getD (set words w new) (sliceOf t v z / 64) 0) (sym e) (marks j l (subst (λ (z : ℕ). sliceOf t v z % 64 ⊆ j) e s)))
@@ -113,6 +117,9 @@ module _ (t : List ℕ) (v : ℕ) where
       less : (k : ℕ) → k < i + 1 → (k ≡ i → ⊥) → k < i
       less k h ne = omega arith
 
+  pub marking-none : {words : List ℕ} → Empty words → Marking t v 0 0 0 words
+  marking-none h = record { marked = marked-none h; here = h .none 0; behind = λ y l. h .none y; next = λ k l lk. omega arith }
+
   -- with all slices marked, and handed on
   pub marked-spread : {old new : List ℕ} → Marked t v (countOf t v) old → Spread old new → Says (slicesOf t .inside v) new
   marked-spread {old} {new} m s =
@@ -133,6 +140,78 @@ module _ (t : List ℕ) (v : ℕ) where
 
       bit : (w j : ℕ) → j < 64 → (w * 64 + j) % 64 ≡ j
       bit w j l = omega arith
+
+-- slices ascend
+
+module _ {t : List ℕ} {n v : ℕ} (row : ListedRow t n v) where
+  ascend-by : (i d : ℕ) → i + d < countOf t v → sliceOf t v i ≤ sliceOf t v (i + d)
+  ascend-by i zero l = subst (λ (k : ℕ). sliceOf t v i ≤ sliceOf t v k) (plus-none i) (le-refl (sliceOf t v i))
+    where
+      plus-none : (k : ℕ) → k ≡ k + zero
+      plus-none k = omega arith
+  ascend-by i (suc d) l =
+      subst (λ (k : ℕ). sliceOf t v i ≤ sliceOf t v k) (next i d)
+      (more (ascend-by i d (less l)) (row .ascend (i + d) (subst (λ (k : ℕ). k < countOf t v) (sym (next i d)) l)))
+    where
+      next : (i d : ℕ) → suc (i + d) ≡ i + suc d
+      next i d = omega arith
+
+      less : i + suc d < countOf t v → i + d < countOf t v
+      less l = omega arith
+
+      more : {a b c : ℕ} → a ≤ b → b < c → a ≤ c
+      more p q = omega arith
+
+  pub ascend-le : (i k : ℕ) → i ≤ k → k < countOf t v → sliceOf t v i ≤ sliceOf t v k
+  ascend-le i k l h = subst (λ (y : ℕ). sliceOf t v i ≤ sliceOf t v y) (back l) (ascend-by i (k - i) (subst (λ (y : ℕ). y < countOf t v) (sym (back l)) h))
+    where
+      back : i ≤ k → i + (k - i) ≡ k
+      back l = omega arith
+
+  -- one slice more
+  pub marking-more : {list words : List ℕ} (i at word : ℕ) → Above 64 list → i < countOf t v → sliceOf t v i < 4096 → Marking t v i at word words
+      → Marking t v (i + 1) (sliceOf t v i / 64) (bitOr (cond (eqb (sliceOf t v i / 64) at) word 0) (getD list (sliceOf t v i % 64) 0))
+      (set words (sliceOf t v i / 64) (bitOr (cond (eqb (sliceOf t v i / 64) at) word 0) (getD list (sliceOf t v i % 64) 0)))
+  marking-more {list} {words} i at word a own below m =
+      subst (λ (x : ℕ). Marking t v (i + 1) w (bitOr x more) (set words w (bitOr x more))) old
+      (record {
+        marked = marked-more t v i a own below (m .marked);
+        here = getD-set-same words w (bitOr (getD words w 0) more) 0 short;
+        behind = λ y l. getD-set-other words w y (bitOr (getD words w 0) more) 0 (λ e. bad l e) ∙ m .behind y (far (m .next i (le-refl i) own) l);
+        next = λ k l lk. part (ascend-le i k (less l) lk);
+      })
+    where
+      w : ℕ
+      w = sliceOf t v i / 64
+
+      more : ℕ
+      more = getD list (sliceOf t v i % 64) 0
+
+      old : getD words w 0 ≡ cond (eqb w at) word 0
+      old =
+          ⊎-elim (λ e. ap (λ (y : ℕ). getD words y 0) (eqb-true w at e) ∙ m .here ∙ sym (ap (λ (c : Bool). cond c word 0) e))
+          (λ e. m .behind w (apart (m .next i (le-refl i) own) (eqb-false w at e)) ∙ sym (ap (λ (c : Bool). cond c word 0) e)) (cases (eqb w at))
+        where
+          apart : at ≤ w → (w ≡ at → ⊥) → at < w
+          apart l ne = omega arith
+
+      short : w < length words
+      short = subst (λ (k : ℕ). w < k) (sym (m .marked .long)) (word-few below)
+        where
+          word-few : sliceOf t v i < 4096 → sliceOf t v i / 64 < 64
+          word-few b = omega arith
+
+      bad : {y : ℕ} → w < y → y ≡ w → ⊥
+      bad l e = omega arith
+
+      far : {y : ℕ} → at ≤ w → w < y → at < y
+      far l h = omega arith
+
+      less : {k : ℕ} → i + 1 ≤ k → i ≤ k
+      less l = omega arith
+
+      part : {a b : ℕ} → a ≤ b → a / 64 ≤ b / 64
+      part l = omega arith
 
 -- who has a slice is a site
 pub inside-site : {t : List ℕ} {n : ℕ} → Rows t n → (v u : ℕ) → rulesOf t .inside v u ≡ true → v < n
@@ -166,14 +245,14 @@ fits-none r b =
 
 -- of a set that one site more is asked of
 pub narrowed : (old words : List ℕ) (v w : ℕ) {here rest : ℕ} → here ≡ getD old w 0 → Lacking v w rest → (j : ℕ) → j < 64
-    → has (bitAnd here (bitOr rest (getD words w 0))) j ≡ said old (w * 64 + j) && (not (has (w * 64 + j) v) || said words (w * 64 + j))
+    → has (bitAnd here (bitOr rest (getD words w 0))) j ≡ inFamily old (w * 64 + j) && (not (has (w * 64 + j) v) || inFamily words (w * 64 + j))
 narrowed old words v w {here} {rest} e l j lj =
     has-and here (bitOr rest (getD words w 0)) j
     ∙ ap₂ (λ a b. a && b) (ap (λ (x : ℕ). has x j) e ∙ sym (said-at old w j lj))
     (has-or rest (getD words w 0) j ∙ ap₂ (λ a b. a || b) (l .each j lj) (sym (said-at words w j lj)))
 
 module _ (r : Slices) (v : ℕ) {old words new : List ℕ} where
-  pub fits-more : Says (fits r 0 v) old → Says (r .inside v) words → Says (λ s. said old s && (not (has s v) || said words s)) new → Says (fits r 0 (v + 1)) new
+  pub fits-more : Says (fits r 0 v) old → Says (r .inside v) words → Says (λ s. inFamily old s && (not (has s v) || inFamily words s)) new → Says (fits r 0 (v + 1)) new
   unfolding fits
   fits-more p q =
       says-change

@@ -1,5 +1,5 @@
 -- Which sets of at most 12 sites have a slice of a site inside, as words; and in which sets each member has one.
-use Prim.Native.Nat.{ℕ, _*_, _+_, _/_, _%_, _<_}
+use Prim.Native.Nat.{ℕ, _*_, _+_, _/_, _%_, _≤_, _<_}
 use mathlib.Core.Bool.{Bool, true, _||_, not}
 use mathlib.Core.List.{List}
 use mathlib.Core.Path.{_≡_}
@@ -19,6 +19,13 @@ pub record Marked (t : List ℕ) (v i : ℕ) (words : List ℕ) : Type 0 where
   pub long : length words ≡ 64
   pub right : (w j : ℕ) → j < 64 → j ∈ getD words w 0 → slicesOf t .inside v (w * 64 + j) ≡ true
   pub each : (k j : ℕ) → k < i → j < 64 → sliceOf t v k % 64 ⊆ j → j ∈ getD words (sliceOf t v k / 64) 0
+
+-- and the last of them is in word at, which is word; behind it there is nothing yet
+pub record Marking (t : List ℕ) (v i at word : ℕ) (words : List ℕ) : Type 0 where
+  pub marked : Marked t v i words
+  pub here : getD words at 0 ≡ word
+  pub behind : (y : ℕ) → at < y → getD words y 0 ≡ 0
+  pub next : (k : ℕ) → i ≤ k → k < countOf t v → at ≤ sliceOf t v k / 64
 
 -- each member of u below k that is not in b has a slice inside u
 unfoldable pub fits : Slices → ℕ → ℕ → ℕ → Bool

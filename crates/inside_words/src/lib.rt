@@ -1,31 +1,47 @@
 // Which sets have a slice of a site inside, of all sets of at most 12 sites, as words; and in which sets each member has one.
 ghost use mathlib.Core.Path.{_≡_};
-ghost use mathlib.Core.Bool.{true, _&&_, _||_, not};
+ghost use mathlib.Core.Bool.{true, _&&_, _||_, not, cond};
 ghost use Prim.Native.Nat.{_<_, _≤_, _+_, _*_};
+ghost use lib.Dec.{eqb};
 ghost use lib.ListN.{length};
 ghost use Rattle.masks.specs.Mask.{has, gather};
 ghost use Rattle.table.specs.Table.{countOf};
 ghost use Rattle.sets.specs.Slices.{slicesOf};
 ghost use Rattle.sets.specs.Inner.Rows.{ofSets, Rows, ListedRow, rulesOf};
-ghost use Rattle.set_words.specs.Inner.{Says, Above, said};
+ghost use Rattle.set_words.specs.Inner.{Says, Above, inFamily};
 ghost use Rattle.inside_words.specs.Inner.{Empty, Marked, fits};
 
-// Each slice that site v lists marks the sets that contain it and have the same sites of the last six.
+// What stands in the word of a slice: that of the slice before, if it is the same word, else nothing.
+fn stands(here: usize, at: usize, word: u64) -> u64
+    ensures { λ r. ⌜ r ≡ cond (eqb here at) word 0 ⌝ }
+{
+    if here == at {
+        return word;
+    }
+    0
+}
+
+// Each slice that site v lists marks the sets that contain it and have the same sites of the last six. Slices ascend, so that those of a word follow each
+// other.
 fn mark_listed(table: &[u64], n: usize, v: usize, above: &[u64; 64], words: &mut [u64; 64])
     requires { ⌜ length (now table) ≡ 63 * n ⌝ }
     requires { ⌜ ListedRow (now table) n v ⌝ }
     requires { ⌜ n ≤ 12 ⌝ }
     requires { ⌜ v < n ⌝ }
     requires { ⌜ Above 64 (now above) ⌝ }
-    requires { ⌜ Marked (now table) v 0 (now words) ⌝ }
+    requires { ⌜ Empty (now words) ⌝ }
     ensures { λ r. ⌜ Marked (now (table .entry)) v (countOf (now (table .entry)) v) (now (words .exit)) ⌝ }
 {
     let many = table[63 * v] as usize;
+    let mut at: usize = 0;
+    let mut word = 0u64;
     let mut i: usize = 0;
     while i < many {
         let q = table[63 * v + 1 + i];
-        let w = (q / 64) as usize;
-        words[w] = words[w] | above[(q % 64) as usize];
+        let here = (q / 64) as usize;
+        word = stands(here, at, word) | above[(q % 64) as usize];
+        words[here] = word;
+        at = here;
         i += 1;
     }
 }
@@ -41,7 +57,7 @@ fn inside_listed(table: &[u64], n: usize, v: usize, above: &[u64; 64], words: &m
     ensures { λ r. ⌜ Says (slicesOf (now (table .entry)) .inside v) (now (words .exit)) ⌝ }
 {
     mark_listed(table, n, v, above, words);
-    set_words::spread(words);
+    spread_words::spread(words);
 }
 
 // Of a row of sets: which sets of word w have a slice of site v inside.
@@ -100,9 +116,7 @@ pub fn inside(table: &[u64], n: usize, v: usize, above: &[u64; 64], words: &mut 
 fn narrow(v: usize, words: &[u64; 64], sets: &mut [u64; 64])
     requires { ⌜ v < 12 ⌝ }
     requires { ⌜ length (now sets) ≡ 64 ⌝ }
-    ensures {
-        λ r. ⌜ Says (λ s. said (now (sets .entry)) s && (not (has s v) || said (now (words .entry)) s)) (now (sets .exit)) ⌝
-    }
+    ensures { λ r. ⌜ Says (λ s. inFamily (now (sets .entry)) s && (not (has s v) || inFamily (now (words .entry)) s)) (now (sets .exit)) ⌝ }
 {
     let mut w: usize = 0;
     while w < 64 {

@@ -3,7 +3,7 @@ use Prim.Native.Nat.{ℕ, _+_, _-_, _^_, _≤_, _<_}
 use mathlib.Core.Bool.{Bool, true, false, _&&_, _||_, not, cond}
 use mathlib.Core.List.{List}
 use mathlib.Core.Logic.{_⊎_, inl, inr, ⊎-elim}
-use mathlib.Core.Path.{_≡_, sym, ap, ap₂, _∙_, subst}
+use mathlib.Core.Path.{_≡_, sym, ap, _∙_, subst}
 use native.Mathlib.Nat.{lt-of-lt-of-le, le-refl}
 use native.Mathlib.Omega.{arith}
 use lib.Bits.{bitAnd, bitOr, or-zero-r}
@@ -16,17 +16,16 @@ use Rattle.masks.proofs.Laws.AllBelow.{in-all, ⊆-all}
 use Rattle.masks.proofs.Laws.Apart.{apart-of, apart-not-in}
 use Rattle.masks.proofs.Laws.Single.{in?, ∈-eq}
 use Rattle.masks.proofs.Laws.Step.{or-part, minus-or}
-use Rattle.masks.proofs.Laws.Subsets.{mem, not-in-zero, empty, ⊆-zero, ⊆-trans, ⊆-antisym, ⊆-le, ∈-below, within-⊆, or-⊆-l, minus-⊆, ∈-minus, minus-not-in, minus-lt, below-⊆}
+use Rattle.masks.proofs.Laws.Subsets.{mem, not-in-zero, empty, ⊆-zero, ⊆-antisym, ⊆-le, ∈-below, within-⊆, or-⊆-l, minus-⊆, ∈-minus, minus-not-in, minus-lt}
 use Rattle.masks.specs.Mask.{has, within, minus, allBelow, _∈_, _⊆_}
 use Rattle.sets.proofs.Quorum.{quorum-of, quorum-below, quorum-slice, quorum-lt}
-use Rattle.sets.proofs.Rows.{rows-lawful}
 use Rattle.sets.specs.Inner.Rows.{Rows, rulesOf}
 use Rattle.sets.specs.Quorum.{quorum}
 use Rattle.sets.specs.Slices.{Slices}
 use Rattle.verdicts.proofs.VerdictLaws.{dispensable-left, dispensable-not, first-apart-is, apart-first, leavesQuorum, gathered-more, gathered-end, gathered-all}
 use Rattle.verdicts.specs.Inner.{Gathered}
 use Rattle.verdicts.specs.Verdicts.{firstApart, meets, dispensable, intact}
-use Rattle.set_words.specs.Inner.{Says, said}
+use Rattle.set_words.specs.Inner.{Says, inFamily}
 use Rattle.set_words.proofs.WordLaws.{says-at, says-change}
 use Rattle.inside_words.specs.Inner.{fits}
 use Rattle.inside_words.proofs.InsideLaws.{inside-site}
@@ -90,24 +89,24 @@ first-quorum s n e ne =
 
 -- the second
 pub second-quorum : (r : Slices) (n gone p : ℕ) {old sets : List ℕ} {u : ℕ} → quorum (r .deleted gone) n p ≡ true → Says (quorumWith r n gone) old
-    → Says (λ s. said old s && eqb (bitAnd s p) 0) sets → LastBelow sets 4095 u → (minus u gone ≡ 0 → ⊥) → Pair r n gone p (minus u gone)
+    → Says (λ s. inFamily old s && eqb (bitAnd s p) 0) sets → LastBelow sets 4095 u → (minus u gone ≡ 0 → ⊥) → Pair r n gone p (minus u gone)
 unfolding quorumWith
 second-quorum r n gone p {old} {sets} {u} k q s h ne =
     let some : (u ≡ 0 → ⊥) = λ z. ne (empty (minus u gone) (λ v i. not-in-zero (∈-eq z (minus-⊆ u gone .each v i)))) in
     let l : u < 4096 = less (h .below some) in
     let e = sym (says-at s u l) ∙ h .member some in
-    let w = sym (says-at q u l) ∙ and-l (said old u) (eqb (bitAnd u p) 0) e in
+    let w = sym (says-at q u l) ∙ and-l (inFamily old u) (eqb (bitAnd u p) 0) e in
     record {
       first = k;
       second = and-r (within gone u) (quorum (r .deleted gone) n (minus u gone)) w;
-      apart = apart-of p (minus u gone) (λ v i j. apart-not-in (eqb-true (bitAnd u p) 0 (and-r (said old u) (eqb (bitAnd u p) 0) e)) (minus-⊆ u gone .each v j) i);
+      apart = apart-of p (minus u gone) (λ v i j. apart-not-in (eqb-true (bitAnd u p) 0 (and-r (inFamily old u) (eqb (bitAnd u p) 0) e)) (minus-⊆ u gone .each v j) i);
     }
   where
     less : {u : ℕ} → u < 4095 → u < 4096
     less l = omega arith
 
 -- of the sets that fit those without a site of b
-pub quorums-said : (r : Slices) (b : ℕ) {old new : List ℕ} → Says (fits r b 12) old → Says (λ s. said old s && eqb (bitAnd s b) 0) new → Says (λ s. fits r b 12 s && eqb (bitAnd s b) 0) new
+pub quorums-said : (r : Slices) (b : ℕ) {old new : List ℕ} → Says (fits r b 12) old → Says (λ s. inFamily old s && eqb (bitAnd s b) 0) new → Says (λ s. fits r b 12 s && eqb (bitAnd s b) 0) new
 quorums-said r b p = says-change (λ s l. ap (λ c. c && eqb (bitAnd s b) 0) (says-at p s l))
 
 -- the quorums inside left, from the last on
@@ -121,7 +120,7 @@ module _ (t : List ℕ) (n left : ℕ) (rows : Rows t n) (few : n ≤ 12) (kl : 
   sites l = lt-of-lt-of-le l (pow-mono few)
 
   -- what is said to be one is one
-  pub said-one : (u : ℕ) → u < 4096 → said quorums u ≡ true → (u ≡ 0 → ⊥) → (quorum (rulesOf t .inside) n u ≡ true) × (u ⊆ left)
+  pub said-one : (u : ℕ) → u < 4096 → inFamily quorums u ≡ true → (u ≡ 0 → ⊥) → (quorum (rulesOf t .inside) n u ≡ true) × (u ⊆ left)
   unfolding fits
   said-one u l e ne =
       let k = sym (says-at says u l) ∙ e in
@@ -138,7 +137,7 @@ module _ (t : List ℕ) (n left : ℕ) (rows : Rows t n) (few : n ≤ 12) (kl : 
       )
 
   -- what a dispensable set leaves is said to be one
-  one-said : (u : ℕ) → quorum (rulesOf t .inside) n u ≡ true → bitAnd u f ≡ 0 → said quorums u ≡ true
+  one-said : (u : ℕ) → quorum (rulesOf t .inside) n u ≡ true → bitAnd u f ≡ 0 → inFamily quorums u ≡ true
   unfolding fits
   one-said u k z =
       says-at says u (sites (quorum-lt (rulesOf t .inside) n k))
@@ -148,7 +147,7 @@ module _ (t : List ℕ) (n left : ℕ) (rows : Rows t n) (few : n ≤ 12) (kl : 
       slice v (inl i) = or-i (not (has u v)) (rulesOf t .inside v u) (quorum-slice (rulesOf t .inside) n k i)
       slice v (inr o) = ap (λ (c : Bool). not c || rulesOf t .inside v u) (is-false (has u v) (λ e. o (mem e)))
 
-  left-said : (c : ℕ) → c < 2 ^ n → f ⊆ c → dispensable (rulesOf t) n c ≡ true → (minus (allBelow n) c ≡ 0 → ⊥) → said quorums (minus (allBelow n) c) ≡ true
+  left-said : (c : ℕ) → c < 2 ^ n → f ⊆ c → dispensable (rulesOf t) n c ≡ true → (minus (allBelow n) c ≡ 0 → ⊥) → inFamily quorums (minus (allBelow n) c) ≡ true
   left-said c l s d ne =
       ⊎-elim
       (λ e.

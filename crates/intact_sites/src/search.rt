@@ -26,7 +26,14 @@ fn other(table: &[u64], n: usize, gone: u64, p: u64, sets: &mut [u64; 64]) -> u6
 }
 
 // The quorum rest if the sites outside it are dispensable, else none, and then why is noted.
-fn ask(table: &[u64], n: usize, rest: u64, above: &[u64; 64], kept: &[u64; 768], pairs: &mut [u64; 49]) -> u64
+fn ask(
+    table: &[u64],
+    n: usize,
+    rest: u64,
+    above: &[u64; 64],
+    kept: &[u64; 768],
+    pairs: &mut [u64; 49],
+) -> u64
     requires { ⌜ Rows (now table) n ⌝ }
     requires { ⌜ n ≤ 12 ⌝ }
     requires { ⌜ quorum (rulesOf (now table) .inside) n rest ≡ true ⌝ }
@@ -49,16 +56,22 @@ fn ask(table: &[u64], n: usize, rest: u64, above: &[u64; 64], kept: &[u64; 768],
 }
 
 // The same, but where those sites are known already, or a pair that is kept shows it, it is not asked.
-fn spared(table: &[u64], n: usize, rest: u64, known: u64, above: &[u64; 64], kept: &[u64; 768], pairs: &mut [u64; 49]) -> u64
+fn spared(
+    table: &[u64],
+    n: usize,
+    rest: u64,
+    known: u64,
+    above: &[u64; 64],
+    kept: &[u64; 768],
+    pairs: &mut [u64; 49],
+) -> u64
     requires { ⌜ Rows (now table) n ⌝ }
     requires { ⌜ n ≤ 12 ⌝ }
     requires { ⌜ quorum (rulesOf (now table) .inside) n rest ≡ true ⌝ }
     requires { ⌜ Above 64 (now above) ⌝ }
     requires { ⌜ Contents (rulesOf (now table)) (minus (allBelow n) rest) 12 (now kept) ⌝ }
     requires { ⌜ Pairs (rulesOf (now table)) n (now pairs) ⌝ }
-    ensures spared {
-        λ r. ⌜ bitOr known r ≡ bitOr known (cond (dispensable (rulesOf (now (table .entry))) n (minus (allBelow n) rest)) rest 0) ⌝
-    }
+    ensures spared { λ r. ⌜ bitOr known r ≡ bitOr known (cond (dispensable (rulesOf (now (table .entry))) n (minus (allBelow n) rest)) rest 0) ⌝ }
     ensures pairs { λ r. ⌜ Pairs (rulesOf (now (table .entry))) n (now (pairs .exit)) ⌝ }
 {
     if masks::within(rest, known) {
@@ -71,15 +84,20 @@ fn spared(table: &[u64], n: usize, rest: u64, known: u64, above: &[u64; 64], kep
 }
 
 // The intact sites when those outside left are faulty: the quorums inside left are asked from the last on, until every site of left is found.
-fn gather(table: &[u64], n: usize, left: u64, above: &[u64; 64], kept: &[u64; 768], quorums: &[u64; 64]) -> u64
+fn gather(
+    table: &[u64],
+    n: usize,
+    left: u64,
+    above: &[u64; 64],
+    kept: &[u64; 768],
+    quorums: &[u64; 64],
+) -> u64
     requires { ⌜ Rows (now table) n ⌝ }
     requires { ⌜ n ≤ 12 ⌝ }
     requires { ⌜ quorum (rulesOf (now table) .inside) n left ≡ true ⌝ }
     requires { ⌜ Above 64 (now above) ⌝ }
     requires { ⌜ Contents (rulesOf (now table)) (minus (allBelow n) left) 12 (now kept) ⌝ }
-    requires {
-        ⌜ Says (λ s. fits (rulesOf (now table)) (minus (allBelow n) left) 12 s && eqb (bitAnd s (minus (allBelow n) left)) 0) (now quorums) ⌝
-    }
+    requires { ⌜ Says (λ s. fits (rulesOf (now table)) (minus (allBelow n) left) 12 s && eqb (bitAnd s (minus (allBelow n) left)) 0) (now quorums) ⌝ }
     ensures { λ r. ⌜ r ≡ intact (rulesOf (now (table .entry))) n (minus (allBelow n) left) ⌝ }
 {
     let mut pairs = [0u64; 49];

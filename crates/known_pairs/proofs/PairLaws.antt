@@ -1,8 +1,8 @@
 -- Laws of pairs that are kept: a pair shows that a larger set is not dispensable; one pair more.
-use Prim.Native.Nat.{ℕ, zero, suc, _+_, _*_, _/_, _%_, _≤_, _<_}
-use mathlib.Core.Bool.{Bool, true, false, _&&_, _||_, not}
+use Prim.Native.Nat.{ℕ, zero, suc, _+_, _*_, _<_}
+use mathlib.Core.Bool.{Bool, true, false, _||_, not}
 use mathlib.Core.List.{List}
-use mathlib.Core.Logic.{_⊎_, inl, inr, ⊎-elim}
+use mathlib.Core.Logic.{_⊎_, ⊎-elim}
 use mathlib.Core.Path.{_≡_, refl, sym, ap, _∙_, subst}
 use native.Mathlib.Omega.{arith}
 use lib.Bits.{bitAnd, bitOr, and-zero-l}
@@ -11,7 +11,7 @@ use lib.ListN.{length, getD, set, replicate, length-set, length-replicate}
 use lib.Seq.{getD-set-same, getD-set-other}
 use Rattle.ground.proofs.Logic.{and-l, and-r, and-i, is-false}
 use Rattle.ground.proofs.Numbers.{same?}
-use Rattle.masks.proofs.Laws.Apart.{apart-⊆, apart-not-in, common-of}
+use Rattle.masks.proofs.Laws.Apart.{apart-⊆, common-of}
 use Rattle.masks.proofs.Laws.Single.{in?, ∈-or, ∈-eq}
 use Rattle.masks.proofs.Laws.Subsets.{mem, not-in-zero, ⊆-trans, or-⊆-l, or-⊆-r, minus-⊆, ∈-minus, minus-not-in}
 use Rattle.masks.specs.Mask.{has, minus, allBelow, _∈_, _⊆_}

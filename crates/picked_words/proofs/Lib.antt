@@ -1,1 +1,2 @@
 pub mod PickedLaws
+pub mod Coincide

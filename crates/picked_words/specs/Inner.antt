@@ -6,7 +6,7 @@ use mathlib.Core.Path.{_≡_}
 use lib.Bits.{bitAnd}
 use lib.Dec.{eqb}
 use Rattle.masks.specs.Mask.{has, _∈_}
-use Rattle.set_words.specs.Inner.{said}
+use Rattle.set_words.specs.Inner.{inFamily}
 
 -- of the sets of the first six sites those that have no site of m below x
 pub record Missing (m x word : ℕ) : Type 0 where
@@ -20,5 +20,5 @@ pub record Chosen (high w low word : ℕ) : Type 0 where
 -- the last of the sets below end, or 0 if there is none but perhaps the empty set
 pub record LastBelow (sets : List ℕ) (end r : ℕ) : Type 0 where
   pub below : (r ≡ 0 → ⊥) → r < end
-  pub member : (r ≡ 0 → ⊥) → said sets r ≡ true
-  pub none : (u : ℕ) → r < u → u < end → said sets u ≡ false
+  pub member : (r ≡ 0 → ⊥) → inFamily sets r ≡ true
+  pub none : (u : ℕ) → r < u → u < end → inFamily sets u ≡ false

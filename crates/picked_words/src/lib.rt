@@ -5,7 +5,7 @@ ghost use Prim.Native.Nat.{_<_, _≤_, _+_, _*_};
 ghost use lib.Bits.{bitAnd};
 ghost use lib.Dec.{eqb};
 ghost use lib.ListN.{length};
-ghost use Rattle.set_words.specs.Inner.{Says, said};
+ghost use Rattle.set_words.specs.Inner.{Says, inFamily};
 ghost use Rattle.picked_words.specs.Inner.{Missing, Chosen, LastBelow};
 
 // Of the sets of the first six sites those that do not have site x, if it is in m.
@@ -47,7 +47,7 @@ fn chosen(high: u64, w: u64, low: u64) -> u64
 pub fn lack(m: u64, sets: &mut [u64; 64])
     requires { ⌜ m < 4096 ⌝ }
     requires { ⌜ length (now sets) ≡ 64 ⌝ }
-    ensures { λ r. ⌜ Says (λ s. said (now (sets .entry)) s && eqb (bitAnd s m) 0) (now (sets .exit)) ⌝ }
+    ensures { λ r. ⌜ Says (λ s. inFamily (now (sets .entry)) s && eqb (bitAnd s m) 0) (now (sets .exit)) ⌝ }
 {
     let high = m / 64;
     let low = missing(m);

@@ -10,7 +10,7 @@ use Rattle.masks.proofs.Laws.First.{first-member}
 use Rattle.masks.proofs.Laws.Members.{has-suc, has-above}
 use Rattle.masks.proofs.Laws.Subsets.{mem, ∈-below}
 use Rattle.masks.specs.Mask.{has}
-use Rattle.set_words.specs.Inner.{First, Last}
+use Rattle.set_words.specs.Inner.{FirstSet, LastSet}
 
 lowest : (m : ℕ) → m % 2 ≡ 0 → has m 0 ≡ false
 unfolding has
@@ -26,7 +26,7 @@ trailing-before (suc k) m v l = go (m % 2) refl v l (trailing-before k (m / 2))
     go zero e (suc v) l ih = has-suc m v ∙ ih v (le-of-suc-le-suc l)
     go (suc r) e v l ih = absurd (not-suc-le-zero l)
 
-pub first-is : (m : ℕ) → (m ≡ 0 → ⊥) → m < 2 ^ 64 → First m (trailingZeros 64 m)
+pub first-is : (m : ℕ) → (m ≡ 0 → ⊥) → m < 2 ^ 64 → FirstSet m (trailingZeros 64 m)
 first-is m ne l = let i = first-member 64 m ne l in record { below = ∈-below l i; member = i; before = λ y k. trailing-before 64 m y k }
 
 highest : (m j : ℕ) → 2 ^ j ≤ m → m < 2 ^ suc j → has m j ≡ true
@@ -42,10 +42,10 @@ highest m j a b = ap (λ (x : ℕ). eqb (x % 2) 1) (div-eq-of-lt-le (2 ^ j) (one
     two : (k : ℕ) → 2 ^ suc j ≡ k + k → m < 2 ^ suc j → m < (1 + 1) * k
     two k e h = omega arith
 
-pub last-is : (m : ℕ) → (m ≡ 0 → ⊥) → m < 2 ^ 64 → Last m (63 - leadingZeros 64 m)
+pub last-is : (m : ℕ) → (m ≡ 0 → ⊥) → m < 2 ^ 64 → LastSet m (63 - leadingZeros 64 m)
 last-is m ne l =
     let r = leading-top 64 m (pos m ne) l in
-    subst (Last m) (top (r .0) (r .1))
+    subst (LastSet m) (top (r .0) (r .1))
     (record {
       below = few (r .0) (r .1);
       member = mem (highest m (r .0) (r .2) (r .3));

@@ -1,4 +1,3 @@
 pub mod Places
 pub mod Ends
 pub mod WordLaws
-pub mod Joining

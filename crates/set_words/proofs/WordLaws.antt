@@ -4,9 +4,9 @@ use mathlib.Core.Bool.{Bool, true, false, _&&_, not}
 use mathlib.Core.List.{List}
 use mathlib.Core.Logic.{⊎-elim}
 use mathlib.Core.Path.{_≡_, refl, sym, ap, ap₂, _∙_, subst}
-use native.Mathlib.Nat.{not-suc-le-zero, lt-of-lt-of-le}
+use native.Mathlib.Nat.{not-suc-le-zero}
 use native.Mathlib.Omega.{arith}
-use lib.Bits.{bitOr, or-disjoint}
+use lib.Bits.{or-disjoint}
 use lib.ListN.{length, getD, set, length-set}
 use lib.Pow.{pow-mono}
 use lib.Seq.{getD-set-same, getD-set-other}
@@ -20,7 +20,7 @@ use Rattle.masks.proofs.Laws.Members.{has-minus, has-zero}
 use Rattle.masks.proofs.Laws.Single.{∈-single, single-∈, single-⊆}
 use Rattle.masks.proofs.Laws.Subsets.{mem, ⊆-zero, within-⊆, ⊆-within, ∈-below, or-within}
 use Rattle.masks.specs.Mask.{has, single, minus, within, _∈_}
-use Rattle.set_words.specs.Inner.{Says, said, Written, Without, Lacking, Above}
+use Rattle.set_words.specs.Inner.{Says, inFamily, Written, Without, Lacking, Above}
 use Rattle.set_words.proofs.Places.{low-has, high-has}
 
 -- the sets without a site, as words
@@ -173,8 +173,8 @@ module _ (p : ℕ → Bool) where
 
 -- words say of the set w * 64 + j what stands at bit j of word w
 
-pub said-at : (words : List ℕ) (w j : ℕ) → j < 64 → said words (w * 64 + j) ≡ has (getD words w 0) j
-unfolding said
+pub said-at : (words : List ℕ) (w j : ℕ) → j < 64 → inFamily words (w * 64 + j) ≡ has (getD words w 0) j
+unfolding inFamily
 said-at words w j l = ap₂ (λ a b. has (getD words a 0) b) (word l) (bit l)
   where
     word : j < 64 → (w * 64 + j) / 64 ≡ w
@@ -184,8 +184,8 @@ said-at words w j l = ap₂ (λ a b. has (getD words a 0) b) (word l) (bit l)
     bit l = omega arith
 
 -- what is said of every set
-pub says-at : {p : ℕ → Bool} {words : List ℕ} → Says p words → (s : ℕ) → s < 4096 → said words s ≡ p s
-unfolding said
+pub says-at : {p : ℕ → Bool} {words : List ℕ} → Says p words → (s : ℕ) → s < 4096 → inFamily words s ≡ p s
+unfolding inFamily
 says-at {p} h s l = h .each (s / 64) (s % 64) (omega arith) (omega arith) ∙ ap p (back s)
   where
     back : (s : ℕ) → s / 64 * 64 + s % 64 ≡ s

@@ -1,5 +1,4 @@
 -- `chosen` meets its contract: the word contains the others or not.
-use Prim.Native.Nat.{ℕ}
 use mathlib.Core.Bool.{Bool, _&&_}
 use mathlib.Core.Path.{sym, ap, _∙_}
 use borrow.Author.Needs.{needs}

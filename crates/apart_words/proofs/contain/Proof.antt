@@ -7,7 +7,7 @@ use native.Mathlib.Nat.{le-refl}
 use native.Mathlib.Omega.{arith}
 use borrow.Author.Needs.{needs}
 use denote.Ref.{now}
-use Rattle.set_words.specs.Inner.{said, Written}
+use Rattle.set_words.specs.Inner.{inFamily, Written}
 use Rattle.set_words.proofs.WordLaws.{written-none, written-more, written-all}
 use Rattle.masks.specs.Mask.{within}
 use Rattle.apart_words.proofs.ApartLaws.{contained}
@@ -15,7 +15,7 @@ use Rattle.apart_words.proofs.contain.Statement.{statement}
 use Rattle.apart_words.proofs.contain.Tie as tie
 
 abbrev left : List ℕ → ℕ → ℕ → Bool
-left old b s = said old s && within b s
+left old b s = inFamily old s && within b s
 
 abbrev Inv-loop : tie.InvT-loop
 Inv-loop b above sets₀ high low w₀ sets w = (w ≤ 64) × Written (left sets₀ b) sets₀ w sets

@@ -1,10 +1,8 @@
 -- `first_apart` meets its contract: the quorums are left, and the first is looked for that has one beside it.
-use native.Mathlib.Omega.{arith}
 use native.Mathlib.Nat.{lt-of-lt-of-le}
 use lib.ListN.{length-replicate}
 use Prim.Native.Nat.{ℕ}
 use lib.Pow.{pow-mono}
-use borrow.Author.Needs.{needs}
 use Rattle.apart_words.proofs.ApartLaws.{quorums-left}
 use Rattle.apart_words.proofs.first_apart.Statement.{statement}
 use Rattle.apart_words.proofs.first_apart.Tie as tie

@@ -1,6 +1,5 @@
 -- `turn_unless` meets its contract: a site of b stays as it is.
-use mathlib.Core.Bool.{Bool, cond}
-use mathlib.Core.Path.{sym, ap, _∙_}
+use mathlib.Core.Path.{sym, _∙_}
 use borrow.Author.Needs.{needs}
 use denote.Ref.{now}
 use Rattle.apart_words.proofs.Turning.{unless-in, unless-out}

@@ -7,7 +7,7 @@ use native.Mathlib.Nat.{le-refl}
 use native.Mathlib.Omega.{arith}
 use borrow.Author.Needs.{needs}
 use denote.Ref.{now}
-use Rattle.set_words.specs.Inner.{said, Written}
+use Rattle.set_words.specs.Inner.{inFamily, Written}
 use Rattle.set_words.proofs.WordLaws.{written-none, written-more, written-all}
 use Rattle.contents.specs.Inner.{contentAt}
 use Rattle.contents.proofs.ContentLaws.{asked}
@@ -15,7 +15,7 @@ use Rattle.contents.proofs.narrow.Statement.{statement}
 use Rattle.contents.proofs.narrow.Tie as tie
 
 abbrev left : List ℕ → List ℕ → ℕ → ℕ → Bool
-left old kept v s = said old s && contentAt kept v s
+left old kept v s = inFamily old s && contentAt kept v s
 
 abbrev Inv-loop : tie.InvT-loop
 Inv-loop v kept sets₀ w₀ sets w = (w ≤ 64) × Written (left sets₀ kept v) sets₀ w sets

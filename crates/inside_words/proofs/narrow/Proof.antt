@@ -8,14 +8,14 @@ use native.Mathlib.Omega.{arith}
 use borrow.Author.Needs.{needs}
 use denote.Ref.{now}
 use Rattle.masks.specs.Mask.{has}
-use Rattle.set_words.specs.Inner.{said, Written}
+use Rattle.set_words.specs.Inner.{inFamily, Written}
 use Rattle.set_words.proofs.WordLaws.{written-none, written-more, written-all}
 use Rattle.inside_words.proofs.InsideLaws.{narrowed}
 use Rattle.inside_words.proofs.narrow.Statement.{statement}
 use Rattle.inside_words.proofs.narrow.Tie as tie
 
 abbrev kept : List ℕ → List ℕ → ℕ → ℕ → Bool
-kept old words v s = said old s && (not (has s v) || said words s)
+kept old words v s = inFamily old s && (not (has s v) || inFamily words s)
 
 abbrev Inv-loop : tie.InvT-loop
 Inv-loop v words sets₀ w₀ sets w = (w ≤ 64) × Written (kept sets₀ words v) sets₀ w sets

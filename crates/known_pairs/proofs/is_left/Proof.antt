@@ -1,7 +1,7 @@
 -- `is_left` meets its contract: three tests, one after the other.
 use Prim.Native.Nat.{ℕ}
-use mathlib.Core.Bool.{Bool, true, false, not}
-use mathlib.Core.Path.{_≡_, refl, sym, _∙_}
+use mathlib.Core.Bool.{false}
+use mathlib.Core.Path.{refl, sym, _∙_}
 use lib.Bits.{bitAnd}
 use lib.Dec.{eqb}
 use borrow.Author.Needs.{needs}

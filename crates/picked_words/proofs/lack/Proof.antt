@@ -9,14 +9,14 @@ use lib.Bits.{bitAnd}
 use lib.Dec.{eqb}
 use borrow.Author.Needs.{needs}
 use denote.Ref.{now}
-use Rattle.set_words.specs.Inner.{said, Written}
+use Rattle.set_words.specs.Inner.{inFamily, Written}
 use Rattle.set_words.proofs.WordLaws.{written-none, written-more, written-all}
 use Rattle.picked_words.proofs.PickedLaws.{lacking-all}
 use Rattle.picked_words.proofs.lack.Statement.{statement}
 use Rattle.picked_words.proofs.lack.Tie as tie
 
 abbrev left : List ℕ → ℕ → ℕ → Bool
-left old m s = said old s && eqb (bitAnd s m) 0
+left old m s = inFamily old s && eqb (bitAnd s m) 0
 
 abbrev Inv-loop : tie.InvT-loop
 Inv-loop m sets₀ high low w₀ sets w = (w ≤ 64) × Written (left sets₀ m) sets₀ w sets

@@ -1,19 +1,19 @@
 -- `last_before` meets its contract: the words from k on have none.
 use Prim.Native.Nat.{ℕ, _+_, _-_, _*_, _≤_, _<_}
 use mathlib.Core.Bool.{false}
-use mathlib.Core.Path.{_≡_, refl, sym, subst}
+use mathlib.Core.Path.{_≡_, refl, subst}
 use native.Mathlib.Nat.{le-refl}
 use native.Mathlib.Omega.{arith}
 use lib.ListN.{getD}
 use borrow.Author.Needs.{needs}
 use denote.Ref.{now}
-use Rattle.set_words.specs.Inner.{said}
+use Rattle.set_words.specs.Inner.{inFamily}
 use Rattle.picked_words.proofs.PickedLaws.{none-before, found-in, nothing-found}
 use Rattle.picked_words.proofs.last_before.Statement.{statement}
 use Rattle.picked_words.proofs.last_before.Tie as tie
 
 abbrev Inv-loop : tie.InvT-loop
-Inv-loop sets w k₀ k = (k ≤ w) × (w ≤ 64) × ((u : ℕ) → k * 64 ≤ u → u < w * 64 → said sets u ≡ false)
+Inv-loop sets w k₀ k = (k ≤ w) × (w ≤ 64) × ((u : ℕ) → k * 64 ≤ u → u < w * 64 → inFamily sets u ≡ false)
 
 abbrev μ-loop : tie.MeasureT-loop
 μ-loop sets w k₀ k = k

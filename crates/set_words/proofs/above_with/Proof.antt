@@ -1,11 +1,10 @@
 -- `above_with` meets its contract: the words below half + i are known.
 use Prim.Native.Nat.{ℕ, _+_, _-_, _^_, _≤_, _<_}
 use mathlib.Core.Path.{_≡_, sym, ap, _∙_, subst}
-use mathlib.Core.List.{List}
 use native.Mathlib.Numerals.{add-one}
 use native.Mathlib.Omega.{arith}
 use lib.ListN.{getD, set}
-use lib.Pow.{pow-mono, pow-lt}
+use lib.Pow.{pow-mono}
 use borrow.Author.Needs.{needs}
 use denote.Ref.{now}
 use Rattle.masks.specs.Mask.{minus}
@@ -38,12 +37,13 @@ loop-again c =
     let s = c .before .before .before .before .before .before in
     let l = c .before .before .before .loop in
     let h = c .before .before .before .before .before .single in
-    let w = c .before .before .before .before .without in
-    (search needs,
+    let w = c .before .before .before .before .without in (
+      search needs,
       search needs,
       subst (λ (k : ℕ). Above (h .result + (l .i + 1)) (set (l .list) (h .result + l .i) k)) (sym (c .minus .ensures))
-      (subst (λ (k : ℕ). Above (k + (l .i + 1)) (set (l .list) (k + l .i) (minus (getD (l .list) (l .i) 0) (w .result)))) (sym (h .ensures))
-      (above-more (s .args .x) (s .pre .0) (w .ensures) (l .i) (subst (λ (k : ℕ). l .i < k) (h .ensures) (c .before .before .loop-test .taken)) (subst (λ (k : ℕ). Above (k + l .i) (l .list)) (h .ensures) (l .inv .2)))))
+          (subst (λ (k : ℕ). Above (k + (l .i + 1)) (set (l .list) (k + l .i) (minus (getD (l .list) (l .i) 0) (w .result)))) (sym (h .ensures))
+          (above-more (s .args .x) (s .pre .0) (w .ensures) (l .i) (subst (λ (k : ℕ). l .i < k) (h .ensures) (c .before .before .loop-test .taken)) (subst (λ (k : ℕ). Above (k + l .i) (l .list)) (h .ensures) (l .inv .2)))),
+    )
 
 returns : tie.Need-returns Inv-loop μ-loop
 returns c =

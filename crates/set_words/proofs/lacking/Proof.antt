@@ -1,6 +1,5 @@
 -- `lacking` meets its contract: the first six sites are those of the bit, the others those of the word.
-use mathlib.Core.Path.{_≡_, sym, _∙_}
-use mathlib.Core.Bool.{true, false}
+use mathlib.Core.Path.{sym, _∙_}
 use borrow.Author.Needs.{needs}
 use Rattle.set_words.proofs.WordLaws.{lacking-low, lacking-in, lacking-out}
 use Rattle.set_words.proofs.lacking.Statement.{statement}

@@ -3,7 +3,6 @@ use Prim.Native.Nat.{ℕ, _^_, _<_}
 use mathlib.Core.Path.{_≡_, sym, ap, _∙_, subst}
 use native.Mathlib.Nat.{lt-of-lt-of-le}
 use native.Mathlib.Omega.{arith}
-use mathlib.Core.Bool.{cond}
 use lib.Pow.{ones-lt, pow-mono}
 use borrow.Author.Needs.{needs}
 use denote.Ref.{now}

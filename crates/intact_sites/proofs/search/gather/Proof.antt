@@ -1,15 +1,14 @@
 -- `gather` meets its contract: the sets outside the quorums behind rest are looked at.
-use Prim.Native.Nat.{ℕ, _^_, _≤_, _<_}
+use Prim.Native.Nat.{ℕ, _<_}
 use mathlib.Core.Bool.{true}
 use mathlib.Core.Logic.{⊎-elim}
-use mathlib.Core.Path.{_≡_, sym, ap, _∙_, subst}
+use mathlib.Core.Path.{_≡_, sym, subst}
 use native.Mathlib.Nat.{lt-of-lt-of-le}
 use native.Mathlib.Omega.{arith}
 use lib.Pow.{pow-mono}
-use borrow.Author.Needs.{needs}
 use denote.Ref.{now}
 use Rattle.ground.proofs.Numbers.{same?}
-use Rattle.masks.proofs.Laws.Subsets.{⊆-refl, ⊆-trans, ⊆-zero}
+use Rattle.masks.proofs.Laws.Subsets.{⊆-refl, ⊆-zero}
 use Rattle.masks.specs.Mask.{minus, allBelow, _⊆_}
 use Rattle.sets.proofs.Quorum.{quorum-lt, quorum-below}
 use Rattle.sets.specs.Inner.Rows.{rulesOf}

@@ -1,7 +1,6 @@
 -- `intact` meets its contract: the sites outside left are left out of what is kept, and the quorums inside left are found.
-use Prim.Native.Nat.{ℕ, _^_, _<_}
+use Prim.Native.Nat.{ℕ, _<_}
 use mathlib.Core.Bool.{_&&_}
-use mathlib.Core.List.{List}
 use mathlib.Core.Path.{_≡_, sym, ap, _∙_, subst}
 use native.Mathlib.Nat.{lt-of-lt-of-le}
 use lib.Bits.{bitAnd}

@@ -1,6 +1,6 @@
 -- `other` meets its contract: of the quorums those without a site of p, and of them the last.
 use Prim.Native.Nat.{ℕ}
-use mathlib.Core.Path.{_≡_, sym, _∙_, subst}
+use mathlib.Core.Path.{sym, _∙_, subst}
 use borrow.Author.Needs.{needs}
 use denote.Ref.{now}
 use Rattle.sets.specs.Inner.Rows.{rulesOf}

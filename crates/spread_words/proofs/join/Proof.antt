@@ -1,13 +1,13 @@
 -- `join` meets its contract: each of the eight words is what it has and those below it.
 use Prim.Native.Nat.{ℕ, zero, suc, _+_, _*_}
 use mathlib.Core.List.{List}
-use mathlib.Core.Path.{_≡_, refl, ap, _∙_}
+use mathlib.Core.Path.{_≡_, refl, ap}
 use native.Mathlib.Omega.{arith}
 use borrow.Author.Needs.{needs}
 use denote.Ref.{now}
-use Rattle.set_words.specs.Inner.{joined, puts, joins}
-use Rattle.set_words.proofs.join.Statement.{statement}
-use Rattle.set_words.proofs.join.Tie as tie
+use Rattle.spread_words.specs.Inner.{joinEight, puts, joins}
+use Rattle.spread_words.proofs.join.Statement.{statement}
+use Rattle.spread_words.proofs.join.Tie as tie
 
 -- the eight places as they are written
 placeAt : ℕ → ℕ → ℕ → ℕ
@@ -22,7 +22,7 @@ place-is start step (suc zero) = omega arith
 place-is start step (suc (suc i)) = refl
 
 returns : tie.Need-returns
-unfolding joins puts joined placeAt
+unfolding joins puts joinEight placeAt
 returns c =
     let a = c .before .before .before .before .before .before .before .before .args in
     same (a .start) (a .step) (now (a .words))

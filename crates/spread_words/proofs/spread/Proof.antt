@@ -1,8 +1,7 @@
 -- `spread` meets its contract: first the words beside each other, then every eighth word.
-use borrow.Author.Needs.{needs}
-use Rattle.set_words.proofs.Joining.{spread-both}
-use Rattle.set_words.proofs.spread.Statement.{statement}
-use Rattle.set_words.proofs.spread.Tie as tie
+use Rattle.spread_words.proofs.Joining.{spread-both}
+use Rattle.spread_words.proofs.spread.Statement.{statement}
+use Rattle.spread_words.proofs.spread.Tie as tie
 
 pub spread-spec : {M : Type 1} → statement M
 spread-spec =

@@ -1,10 +1,10 @@
 -- Eight words joined, and all of them: how each word gets what stands in those below it.
-use Prim.Native.Nat.{ℕ, zero, suc, _+_, _-_, _*_, _/_, _%_, _^_, _≤_, _<_}
+use Prim.Native.Nat.{ℕ, zero, suc, _+_, _-_, _*_, _/_, _%_, _≤_, _<_}
 use mathlib.Core.Bool.{Bool, true, _||_, not}
 use mathlib.Core.List.{List}
-use mathlib.Core.Logic.{_⊎_, inl, inr, ⊎-elim}
+use mathlib.Core.Logic.{_⊎_, ⊎-elim}
 use mathlib.Core.Path.{_≡_, refl, sym, ap, ap₂, _∙_, subst}
-use native.Mathlib.Nat.{not-suc-le-zero, lt-trans, mod-lt}
+use native.Mathlib.Nat.{not-suc-le-zero, mod-lt}
 use native.Mathlib.Omega.{arith}
 use lib.Bits.{bitOr}
 use lib.Dec.{eqb}
@@ -18,8 +18,8 @@ use Rattle.ground.specs.Search.{every}
 use Rattle.masks.proofs.Laws.Single.{∈-or, ∈-eq}
 use Rattle.masks.proofs.Laws.Subsets.{⊆-refl, ⊆-trans, ⊆-le, within-⊆, ⊆-within, or-⊆-l, or-⊆-r}
 use Rattle.masks.specs.Mask.{within, _∈_, _⊆_}
-use Rattle.set_words.specs.Inner.{pair, four, joined, puts, joins, Joined, nearPlace, farPlace, Spread}
+use Rattle.spread_words.specs.Inner.{joinTwo, joinFour, joinEight, puts, joins, Joined, nearPlace, farPlace, Spread}
 use Rattle.set_words.proofs.Places.{parts-⊆, low-⊆, high-⊆}
 
 -- what holds of the eight numbers below 8
 eight : (P : ℕ → Type 0) → P 0 → P 1 → P 2 → P 3 → P 4 → P 5 → P 6 → P 7 → (i : ℕ) → i < 8 → P i
@@ -51,9 +51,9 @@ module _ (f : ℕ → ℕ) where
   both : {i : ℕ} (a b : ℕ) → Right f i a → Right f i b → Right f i (bitOr a b)
   both a b p q = record { each = λ j h. ⊎-elim (λ k. p .each j k) (λ k. q .each j k) (∈-or a b h) }
 
-  joined-right : (i : ℕ) → i < 8 → Right f i (joined f i)
-  unfolding joined within
-  joined-right = eight (λ i. Right f i (joined f i)) (own 0) r1 r2 r3 r4 r5 r6 (both _ _ (both _ _ (both _ _ (own 7) (more refl r3)) (more refl r5)) (more refl r6))
+  joined-right : (i : ℕ) → i < 8 → Right f i (joinEight f i)
+  unfolding joinEight within
+  joined-right = eight (λ i. Right f i (joinEight f i)) (own 0) r1 r2 r3 r4 r5 r6 (both _ _ (both _ _ (both _ _ (own 7) (more refl r3)) (more refl r5)) (more refl r6))
     where
       r1 : Right f 1 (bitOr (f 1) (f 0))
       r1 = both _ _ (own 1) (more refl (own 0))
@@ -101,10 +101,10 @@ module _ (f : ℕ → ℕ) where
       none : {y : ℕ} → y ≤ 0 → 0 ≡ y
       none l = omega arith
 
-  joined-full : (i : ℕ) → i < 8 → Full f i (joined f i)
-  unfolding joined within every
+  joined-full : (i : ℕ) → i < 8 → Full f i (joinEight f i)
+  unfolding joinEight within every
   joined-full =
-      eight (λ i. Full f i (joined f i)) first f1 f2 f3 f4 f5 f6
+      eight (λ i. Full f i (joinEight f i)) first f1 f2 f3 f4 f5 f6
       (grown 7 3 5 6 refl
       (⊆-trans (or-⊆-l _ _) (⊆-trans (or-⊆-l _ _) (or-⊆-l _ _)))
       f3 (⊆-trans (or-⊆-r (f 7) _) (⊆-trans (or-⊆-l _ _) (or-⊆-l _ _)))
@@ -182,20 +182,20 @@ module _ (place g : ℕ → ℕ) (words : List ℕ) where
       less a b = omega arith
 
 -- words that are the same are joined to the same
-joined-same : (f g : ℕ → ℕ) → ((i : ℕ) → i < 8 → f i ≡ g i) → (i : ℕ) → i < 8 → joined f i ≡ joined g i
-unfolding joined
+joined-same : (f g : ℕ → ℕ) → ((i : ℕ) → i < 8 → f i ≡ g i) → (i : ℕ) → i < 8 → joinEight f i ≡ joinEight g i
+unfolding joinEight
 joined-same f g e =
-    eight (λ i. joined f i ≡ joined g i) e0 (pairs 1 (omega arith)) (pairs 2 (omega arith)) (fours 3 1 2 (omega arith) (omega arith) (omega arith)) (pairs 4 (omega arith))
+    eight (λ i. joinEight f i ≡ joinEight g i) e0 (pairs 1 (omega arith)) (pairs 2 (omega arith)) (fours 3 1 2 (omega arith) (omega arith) (omega arith)) (pairs 4 (omega arith))
     (fours 5 1 4 (omega arith) (omega arith) (omega arith)) (fours 6 2 4 (omega arith) (omega arith) (omega arith))
     (ap₂ bitOr (ap₂ bitOr (ap₂ bitOr (e 7 (omega arith)) (fours 3 1 2 (omega arith) (omega arith) (omega arith))) (fours 5 1 4 (omega arith) (omega arith) (omega arith))) (fours 6 2 4 (omega arith) (omega arith) (omega arith)))
   where
     e0 : f 0 ≡ g 0
     e0 = e 0 (omega arith)
 
-    pairs : (i : ℕ) → i < 8 → pair f i ≡ pair g i
+    pairs : (i : ℕ) → i < 8 → joinTwo f i ≡ joinTwo g i
     pairs i l = ap₂ bitOr (e i l) e0
 
-    fours : (i a b : ℕ) → i < 8 → a < 8 → b < 8 → four f i a b ≡ four g i a b
+    fours : (i a b : ℕ) → i < 8 → a < 8 → b < 8 → joinFour f i a b ≡ joinFour g i a b
     fours i a b li la lb = ap₂ bitOr (ap₂ bitOr (e i li) (pairs a la)) (pairs b lb)
 
 -- one eight more
@@ -206,31 +206,31 @@ module _ (place : ℕ → ℕ → ℕ) (inside : (k i : ℕ) → k < 8 → i < 8
   joined-none old e = record { long = e; done = λ k i l. absurd (not-suc-le-zero l); left = λ k i l lk li. refl }
 
   module _ {old words : List ℕ} (k : ℕ) (lk : k < 8) (h : Joined place old k words) where
-    at : (i : ℕ) → i < 8 → getD (joins (place k) words) (place k i) 0 ≡ joined (λ y. getD words (place k y) 0) i
-    unfolding joins joined
-    at zero li = puts-other (place k) (joined (λ y. getD words (place k y) 0)) words 7 (place k 0) (λ y ly e. first-alone y (alone k 0 k (suc y) lk li lk (omega (arith, ly)) e .1))
+    at : (i : ℕ) → i < 8 → getD (joins (place k) words) (place k i) 0 ≡ joinEight (λ y. getD words (place k y) 0) i
+    unfolding joins joinEight
+    at zero li = puts-other (place k) (joinEight (λ y. getD words (place k y) 0)) words 7 (place k 0) (λ y ly e. first-alone y (alone k 0 k (suc y) lk li lk (omega (arith, ly)) e .1))
       where
         first-alone : (y : ℕ) → 0 ≡ suc y → ⊥
         first-alone y e = omega arith
     at (suc i) li =
-        puts-at (place k) (joined (λ y. getD words (place k y) 0)) words 7 i (omega arith) (λ y ly e. alone k (suc i) k y lk li lk (omega (arith, ly)) e .1)
+        puts-at (place k) (joinEight (λ y. getD words (place k y) 0)) words 7 i (omega arith) (λ y ly e. alone k (suc i) k y lk li lk (omega (arith, ly)) e .1)
         (subst (λ (y : ℕ). place k (suc i) < y) (sym (h .long)) (inside k (suc i) lk li))
 
     kept : (m i : ℕ) → m < 8 → i < 8 → (m ≡ k → ⊥) → getD (joins (place k) words) (place m i) 0 ≡ getD words (place m i) 0
     unfolding joins
     kept m i lm li ne =
-        puts-other (place k) (joined (λ y. getD words (place k y) 0)) words 7 (place m i) (λ y ly e. ne (alone m i k (suc y) lm li lk (omega (arith, ly)) e .0))
+        puts-other (place k) (joinEight (λ y. getD words (place k y) 0)) words 7 (place m i) (λ y ly e. ne (alone m i k (suc y) lm li lk (omega (arith, ly)) e .0))
 
     long : length (joins (place k) words) ≡ 64
     unfolding joins
-    long = puts-long (place k) (joined (λ y. getD words (place k y) 0)) words 7 ∙ h .long
+    long = puts-long (place k) (joinEight (λ y. getD words (place k y) 0)) words 7 ∙ h .long
 
     pub joined-more : Joined place old (k + 1) (joins (place k) words)
     joined-more =
         record {
           long = long;
           done = λ m i lm li.
-              ⊎-elim (λ e. subst (λ (z : ℕ). getD (joins (place k) words) (place z i) 0 ≡ joined (λ y. getD old (place z y) 0) i) (sym e) (at i li ∙ joined-same _ _ (λ y ly. h .left k y (omega arith) lk ly) i li))
+              ⊎-elim (λ e. subst (λ (z : ℕ). getD (joins (place k) words) (place z i) 0 ≡ joinEight (λ y. getD old (place z y) 0) i) (sym e) (at i li ∙ joined-same _ _ (λ y ly. h .left k y (omega arith) lk ly) i li))
               (λ ne. kept m i (omega (arith, lm, lk)) li ne ∙ h .done m i (less m lm ne) li) (same? m k);
           left = λ m i lm lk8 li. kept m i lk8 li (λ e. bad m lm e) ∙ h .left m i (omega (arith, lm)) lk8 li;
         }
