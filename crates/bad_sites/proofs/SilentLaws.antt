@@ -1,13 +1,13 @@
 -- A site that has heard nothing of either side, and is in none of the six masks: no clause of 18 is against it.
 use Prim.Native.Nat.{ℕ, _<_}
-use mathlib.Core.Bool.{Bool, true, false, _&&_, _||_, not}
+use mathlib.Core.Bool.{Bool, true, false, _&&_, not}
 use mathlib.Core.List.{List}
 use mathlib.Core.Path.{_≡_, refl, sym, ap, _∙_, subst}
 use lib.Bits.{bitOr}
 use lib.Dec.{eqb}
 use borrow.Author.Tests.{eqb-true, eq-eqb, ne-eqb}
 use Rattle.ground.proofs.Logic.{and-l, and-r, is-false, clash, not-t}
-use Rattle.ground.proofs.Some.{some-of, some-more}
+use Rattle.ground.proofs.Some.{some-of}
 use Rattle.ground.specs.Search.{some}
 use Rattle.masks.proofs.Laws.Subsets.{⊆-trans, ⊆-antisym, ⊆-zero, mem, or-⊆-l, or-⊆-r}
 use Rattle.masks.specs.Mask.{has, _⊆_}

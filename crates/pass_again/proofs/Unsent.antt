@@ -6,8 +6,8 @@ use mathlib.Core.Logic.{⊎-elim}
 use mathlib.Core.Path.{_≡_, refl, sym, ap, _∙_}
 use native.Mathlib.Omega.{arith}
 use lib.Dec.{eqb}
-use borrow.Author.Tests.{eq-eqb, ne-eqb, not-false}
-use Rattle.ground.proofs.Logic.{and-l, and-r, not-t, clash, cases}
+use borrow.Author.Tests.{eq-eqb, ne-eqb}
+use Rattle.ground.proofs.Logic.{and-l, and-r, not-t, clash}
 use Rattle.ground.proofs.Numbers.{same?}
 use Rattle.masks.specs.Mask.{has}
 use Rattle.refusals.specs.Refusal.{code}

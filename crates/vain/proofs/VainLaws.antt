@@ -1,27 +1,26 @@
 -- A vote that is heard in vain: the receiver hears it, and the rules change nothing else.
 use Prim.Native.Nat.{ℕ, _<_}
-use mathlib.Core.Bool.{Bool, true, false, _&&_}
+use mathlib.Core.Bool.{Bool, true, false}
 use mathlib.Core.List.{List}
 use mathlib.Core.Logic.{⊎-elim}
 use mathlib.Core.Path.{_≡_, refl, sym, ap, ap₂, _∙_, subst}
 use native.Mathlib.Omega.{arith}
 use lib.Bits.{bitOr}
 use lib.Dec.{eqb}
-use lib.ListN.{length}
 use borrow.Author.Tests.{eqb-true, eq-eqb, ne-eqb}
 use Rattle.asking.proofs.KnownLaws.{hopeless-none}
 use Rattle.asking.specs.Inner.{Known, hopeless}
 use Rattle.ground.proofs.Logic.{and-l, and-r, clash}
 use Rattle.masks.proofs.Laws.Subsets.{mem, ⊆-trans, or-⊆, or-⊆-l, or-⊆-r, minus-⊆}
-use Rattle.masks.specs.Mask.{has, single, others, _∈_, _⊆_}
+use Rattle.masks.specs.Mask.{single, others, _∈_, _⊆_}
 use Rattle.rules.proofs.Answer.{Takes}
 use Rattle.rules.proofs.Heard.{hears-vote}
-use Rattle.rules.proofs.Receiver.{acceptsNow, confirmsNow, nowAccepts-still, nowConfirms-still}
+use Rattle.rules.proofs.Receiver.{acceptsNow, nowAccepts-still, nowConfirms-still}
 use Rattle.rules.proofs.RuleLaws.{by-blocked, accepting-either}
 use Rattle.rules.proofs.State.{get-add, get-add-other}
 use Rattle.rules.specs.Rules.{accepting, confirming, hears, taken, nowAccepts, nowConfirms}
 use Rattle.rules.specs.Sound.{Sound}
-use Rattle.rules.specs.State.{votes, accepts, accepted, confirmed, width, get, add}
+use Rattle.rules.specs.State.{votes, accepts, accepted, confirmed, get, add}
 use Rattle.sets.specs.Paper.{Fbqs}
 use Rattle.sets.specs.Promises.{Questions, Promises}
 use Rattle.vain.specs.Inner.{vain}

@@ -41,13 +41,16 @@ has-sent-requires c κs =
 
 returns : tie.Need-returns
 returns c =
-    let b = c .before .before .before .before .before .before .before .before .before .before .before .before .before in
+    let side = c .before .before .before in
+    let from = side .before .before in
+    let kind = from .before .before in
+    let b = kind .before .before .before .before .before .before in
     let a = b .args in
     let p = b .pre in
     let d = callAt (now (a .list)) (a .i) in
     let w = p .1 .1 .1 .1 .1 .0 in
     let S = sending (a .n) (a .faulty) d (w .once) (w .refused) in
-    let h = sent-read (a .n) d (now (a .state)) (c .before .before .before .before .before .before .before .wide .ensures .0) (c .before .before .before .before .before .wide2 .ensures .0) (c .before .before .before .wide3 .ensures .0) (c .before .has-sent .ensures) in (
+    let h = sent-read (a .n) d (now (a .state)) (kind .wide .ensures .0) (from .wide2 .ensures .0) (side .wide3 .ensures .0) (c .before .has-sent .ensures) in (
       again-waits (a .i) (now (a .answers))
           (works-refused (p .1 .0) d (waits-still (a .n) (a .faulty) d S (now (a .state)) h (not-true _ (c .if1 .taken))) refl) (p .1 .1 .1 .1 .0),
       p .1 .1 .1 .1 .1 .1,
@@ -55,23 +58,28 @@ returns c =
 
 change-requires : tie.Need-change-requires
 change-requires c κs =
-    let b = c .before .before .before .before .before .before .before .before .before .before .before .before .before .before .before .before .before in
+    let to = c .before .before in
+    let test = to .before .before in
+    let side = test .before .before .before in
+    let from = side .before .before in
+    let kind = from .before .before in
+    let b = kind .before .before .before .before .before .before in
     let a = b .args in
     let p = b .pre in
     let s = now (a .state) in
     let d = callAt (now (a .list)) (a .i) in
     let w = p .1 .1 .1 .1 .1 .0 in
     let S = sending (a .n) (a .faulty) d (w .once) (w .refused) in
-    let ek = c .before .before .before .before .before .before .before .before .before .before .before .wide .ensures .0 in
-    let ef = c .before .before .before .before .before .before .before .before .before .wide2 .ensures .0 in
-    let ed = c .before .before .before .before .before .before .before .wide3 .ensures .0 in
-    let ev = c .before .before .wide4 .ensures .0 in
-    let h = sent-read (a .n) d s ek ef ed (c .before .before .before .before .before .has-sent .ensures) in (
+    let ek = kind .wide .ensures .0 in
+    let ef = from .wide2 .ensures .0 in
+    let ed = side .wide3 .ensures .0 in
+    let ev = to .wide4 .ensures .0 in
+    let h = sent-read (a .n) d s ek ef ed (test .before .has-sent .ensures) in (
       p .0,
       (
         p .1 .0,
         (
-          (λ j. answer (a .n) (a .faulty) (call (ek j) (ef j) (ev j) (ed j)) s) ∙ taken-now (a .n) (a .faulty) d S s h (not-false _ (c .before .before .before .before .if1 .left)),
+          (λ j. answer (a .n) (a .faulty) (call (ek j) (ef j) (ev j) (ed j)) s) ∙ taken-now (a .n) (a .faulty) d S s h (not-false _ (test .if1 .left)),
           p .1 .1 .1 .1 .1 .1,
         ),
       ),
@@ -79,11 +87,15 @@ change-requires c κs =
 
 returns-2 : tie.Need-returns-2
 returns-2 c =
-    let b = c .before .before .before .before .before .before .before .before .before .before .before .before .before .before .before .before .before .before .before .before in
-    let a = b .args in
+    let to = c .before .before .before .before .before in
+    let side = to .before .before .before .before .before in
+    let from = side .before .before in
+    let kind = from .before .before in
+    let a = kind .before .before .before .before .before .before .args in
     let r = c .before .before .change .ensures in (
       again-taken (a .i) (now (a .answers))
-          (works-at (rowVote (now (a .table)) (a .n) (a .faulty)) (a .i) (now (a .list)) (c .before .before .before .before .before .before .before .before .before .before .before .before .before .before .wide .ensures .0) (c .before .before .before .before .before .before .before .before .before .before .before .before .wide2 .ensures .0) (c .before .before .before .before .before .wide4 .ensures .0) (c .before .before .before .before .before .before .before .before .before .before .wide3 .ensures .0) (r .0)),
+          (works-at (rowVote (now (a .table)) (a .n) (a .faulty)) (a .i) (now (a .list)) (kind .wide .ensures .0) (from .wide2 .ensures .0) (to .wide4 .ensures .0)
+          (side .wide3 .ensures .0) (r .0)),
       r .1,
     )
 
