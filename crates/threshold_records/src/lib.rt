@@ -29,15 +29,7 @@ fn run_packed(
     let sites = image.len() / 512;
     let mut rows = [0u64; 4032];
     threshold_image::load(image, sites, &mut rows);
-    records::run_packed_of(
-        &rows[..63 * sites],
-        sites,
-        faulty,
-        room,
-        n,
-        state,
-        answers,
-    )
+    records::run_packed_of(&rows[..63 * sites], sites, faulty, room, n, state, answers)
 }
 
 // The run of a list of calls: equal in everything to the run of its bytes.
