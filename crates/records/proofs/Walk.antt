@@ -85,17 +85,17 @@ module _ (cs : List Call) where
     bytes-are = ended .answered (bytesOf cs) (bytesOf-length cs) begins
 
 -- the code, with the width of the table's numbers and the name of the run of packed calls left open
-abbrev slot : Ty → Local
+abbrev pub slot : Ty → Local
 slot τ = local τ valueLocal
 
-abbrev read : ℕ → Operand
+abbrev pub read : ℕ → Operand
 read k = copy (place k [])
 
 abbrev half : ℕ → ℕ → Operand
 half k i = copy (place k (field i ∷ []))
 
 -- the slice in a local lent on, through a pointer in another
-abbrev lent-on : ℕ → Ty → ℕ → ℕ → Block → Block
+abbrev pub lent-on : ℕ → Ty → ℕ → ℕ → Block → Block
 lent-on k τ pointer slice rest =
     seq (assign (place pointer []) (addrOf (place k (field 0 ∷ deref τ ∷ [])))) (seq (assign (place slice []) (aggregate (read pointer ∷ half k 1 ∷ []))) rest)
 
@@ -131,7 +131,7 @@ module _ (width : Width) (form : List ℕ → Groups) where
     kept = (yes, (yes, (yes, (yes, (yes, (yes, tt))))));
   }
 
-  abbrev ended : Ends
+  abbrev pub ended : Ends
   ended = record {
     signature = record {
       lifetimes = 4;
@@ -161,7 +161,7 @@ module _ (width : Width) (form : List ℕ → Groups) where
           r (now (e .1 .1 .1 .1 .0)) (now (e .1 .1 .1 .1 .1 .0)));
     }
 
-    abbrev clauses : Clauses 𝓤 ended
+    abbrev pub clauses : Clauses 𝓤 ended
     clauses κs x = record {
       ghost = Unit {0};
       requires = λ _. emp 𝓤;
