@@ -22,7 +22,8 @@ pub extern "C" fn siren_threshold_run_records(
     ensures states { λ r.
         ⌜ now (state .exit) ≡ runState (thresholds (now (image .entry))) faulty (bytesOf (now (calls .entry))) (now (state .entry)) (now (answers .entry)) ⌝ }
     ensures bytes { λ r.
-        ⌜ now (answers .exit) ≡ runAnswers (thresholds (now (image .entry))) faulty (bytesOf (now (calls .entry))) (now (state .entry)) (now (answers .entry)) ⌝ }
+        ⌜ now (answers .exit) ≡ runAnswers (thresholds (now (image .entry))) faulty (bytesOf (now (calls .entry))) (now (state .entry))
+        (now (answers .entry)) ⌝ }
 {
     said_votes::ran(
         threshold_records::run_records(image, faulty, calls, state, answers),

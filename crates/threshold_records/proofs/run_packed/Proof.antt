@@ -35,14 +35,19 @@ slice-aggregate-run-packed-of c =
 run-packed-of-requires : tie.Need-run-packed-of-requires
 run-packed-of-requires c κs =
     let b = c .before .before .before .before .before .before in
-    loaded-rows (now (b .before .before .before .before .before .before .args .image)) (sym (b .before .before .check .ensures) ∙ b .enum-told .given .1) (λ i. b .before .before .before .before .before .shared-slice-known .given i .fits) _ _ (c .before .before .before .before .load .ensures) .right
+    let k = b .before .before .before .before .before in
+    loaded-rows (now (k .before .args .image)) (sym (b .before .before .check .ensures) ∙ b .enum-told .given .1)
+    (λ i. k .shared-slice-known .given i .fits) _ _ (c .before .before .before .before .load .ensures) .right
 
 returns-2 : tie.Need-returns-2
 returns-2 c =
-    let b = c .before .before .before .before .before .before .before .before .before .before .before in
-    let a = b .before .before .before .before .before .before .args in
-    let w = loaded-rows (now (a .image)) (sym (b .before .before .check .ensures) ∙ b .enum-told .given .1) (λ i. b .before .before .before .before .before .shared-slice-known .given i .fits) _ _ (c .before .before .before .before .before .before .before .before .before .load .ensures) in
-    table-ends w (a .faulty) (now (a .room)) (a .n) (now (a .state)) (now (a .answers)) (c .before .before .before .before .run-packed-of .ensures)
+    let r = c .before .before .before .before in
+    let b = r .before .before .before .before .before .before .before in
+    let k = b .before .before .before .before .before in
+    let a = k .before .args in
+    let w = loaded-rows (now (a .image)) (sym (b .before .before .check .ensures) ∙ b .enum-told .given .1)
+    (λ i. k .shared-slice-known .given i .fits) _ _ (r .before .before .before .before .before .load .ensures) in
+    table-ends w (a .faulty) (now (a .room)) (a .n) (now (a .state)) (now (a .answers)) (r .run-packed-of .ensures)
 
 pub run-packed-spec : {M : Type 1} → statement M
 run-packed-spec =
