@@ -30,13 +30,13 @@ fn written(sets: &[(u8, u8, u64)]) -> Vec<Written> {
         .collect()
 }
 
-/// The number of the refusal of one block of one site with these sets, and that it carries the block.
+/// The number of the refusal of three blocks, the second with these sets, and that it carries the block; 0 if the second has
+/// no fault, so that the third is refused.
 fn refusal_of(sets: &[(u8, u8, u64)]) -> u64 {
     let n = 3;
     let good = block_on_file(0, n, &written(&[(1, 0, 1)]));
     let bad = block_on_file(1, n, &written(sets));
     let answer = check(&[good, bad, block_on_file(2, n, &written(&[(0, 0, 0)]))].concat());
-    // The block behind it has a fault of its own, which is not reached.
     assert_eq!(answer.values, [0; 3]);
     match (answer.number, answer.place) {
         (21, 2) => 0,

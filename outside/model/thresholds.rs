@@ -89,7 +89,7 @@ impl Groups for Thresholds {
         contains(set, site) && self.roots[site].is_met(set)
     }
 
-    /// A set that some slice does not meet has that slice outside it.
+    /// A slice that the set does not meet is inside the sites outside the set.
     fn meets_every_slice(&self, set: u64, site: usize) -> bool {
         !self.has_slice_inside(site, self.sites() & !set)
     }
