@@ -202,14 +202,13 @@ impl Lender {
 
     /// The table in memory that the library translates an image into; nothing if it refuses.
     pub fn translated(&mut self, image: &[u8]) -> Option<Vec<u64>> {
-        let n = image.len() / model::BLOCK;
-        let mut table = vec![0; model::ROW * n];
+        let mut table = cells(model::ROW * (image.len() / model::BLOCK));
         let mut out = [0; 4];
         let (bytes, length) = (self.image.put(image, 0), image.len());
+        let (room, room_length) = pointer(&mut table);
         // SAFETY: as above.
-        let number =
-            unsafe { siren_threshold_translate(bytes, length, table.as_mut_ptr(), table.len(), out.as_mut_ptr()) };
-        (number == 0).then_some(table)
+        let number = unsafe { siren_threshold_translate(bytes, length, room, room_length, out.as_mut_ptr()) };
+        (number == 0).then(|| lent(&mut table).to_vec())
     }
 
     fn ask(&mut self, input: &Input, call: impl FnOnce(&Input, Lent) -> u64) -> Outcome {
