@@ -15,6 +15,14 @@ mod inputs;
 mod library;
 #[path = "../model/model.rs"]
 mod model;
+#[cfg(thresholds)]
+mod threshold_inputs;
+#[cfg(thresholds)]
+#[allow(dead_code)]
+#[path = "../compare/threshold_library.rs"]
+mod threshold_library;
+#[cfg(thresholds)]
+mod threshold_rows;
 
 use inputs::{memory, Rng};
 use library::*;
@@ -216,6 +224,8 @@ fn main() {
     runs(&bench);
     verdicts(&bench);
     journals(&bench);
+    #[cfg(thresholds)]
+    threshold_rows::rows(&bench);
     if timed {
         bench.end();
     } else {

@@ -6,6 +6,9 @@
 
 #![allow(dead_code)]
 
+#[path = "fast_thresholds.rs"]
+pub mod thresholds;
+
 use crate::model::Answer;
 
 const BLOCK: usize = 512;
@@ -703,6 +706,13 @@ fn content(row: &[u64; ROW], site: usize) -> Sets {
         sets[at] = word;
     }
     with_more_words(&mut sets);
+    or_absent(&mut sets, site);
+    sets
+}
+
+/// To the sets those that the site is not a member of.
+#[inline(always)]
+fn or_absent(sets: &mut Sets, site: usize) {
     if site < 6 {
         sets.iter_mut().for_each(|word| *word |= !CONTAIN[site]);
     } else {
@@ -710,7 +720,6 @@ fn content(row: &[u64; ROW], site: usize) -> Sets {
             *word |= if at >> (site - 6) & 1 == 0 { u64::MAX } else { 0 };
         }
     }
-    sets
 }
 
 /// The first of two quorums of the table without `gone` that have no common site, with the smallest mask. `fitting` are
@@ -749,19 +758,26 @@ fn first_apart(fitting: &Sets, sites: u32, gone: u32) -> Option<u32> {
     None
 }
 
+/// Shared sites of a table of n sites, from `content` of each and `largest` quorum inside a set without another.
+#[inline(always)]
+fn shared_from_words(n: usize, content: impl Fn(usize) -> Sets, largest: impl Fn(u64, u64) -> u64) -> [u64; 3] {
+    let sites = all_sites(n);
+    let mut fitting = [u64::MAX; 64];
+    for site in 0..n {
+        for (sets, more) in fitting.iter_mut().zip(content(site)) {
+            *sets &= more;
+        }
+    }
+    match first_apart(&fitting, sites as u32, 0) {
+        None => [1, 0, 0],
+        Some(p) => [0, p.into(), largest(sites & !u64::from(p), 0)],
+    }
+}
+
 pub fn shared_by_words(table: &[u64]) -> Answer {
     answer(few(table, 0).map(|rows| {
-        let sites = all_sites(rows.len());
-        let mut fitting = [u64::MAX; 64];
-        for (site, row) in rows.iter().enumerate() {
-            for (sets, more) in fitting.iter_mut().zip(content(row, site)) {
-                *sets &= more;
-            }
-        }
-        match first_apart(&fitting, sites as u32, 0) {
-            None => [1, 0, 0],
-            Some(p) => [0, p.into(), narrow(rows, sites & !u64::from(p), 0, 0).0],
-        }
+        let largest = |set, gone| narrow(rows, set, gone, 0).0;
+        shared_from_words(rows.len(), |site| content(&rows[site], site), largest)
     }))
 }
 
@@ -795,14 +811,15 @@ const PAIRS: usize = 16;
 /// The intact sites of a table of at most 12. What a dispensable set leaves is a quorum, and so inside the largest quorum
 /// outside the faulty set. Two quorums that have no common site without B have none without any larger set either, as
 /// long as something of both is left: the pairs that were found are tried first.
-fn intact_from_words(rows: &[[u64; ROW]], faulty: u64) -> u64 {
-    let sites = all_sites(rows.len()) as u32;
-    let most = narrow(rows, u64::from(sites) & !faulty, 0, 0).0 as u32;
+#[inline(always)]
+fn intact_from_words(n: usize, faulty: u64, content: impl Fn(usize) -> Sets, largest: impl Fn(u64, u64) -> u64) -> u64 {
+    let sites = all_sites(n) as u32;
+    let most = largest(u64::from(sites) & !faulty, 0) as u32;
     if most == 0 {
         return 0;
     }
     let mut contents = [[u64::MAX; 64]; 12];
-    each(most.into(), |site| contents[site] = content(&rows[site], site));
+    each(most.into(), |site| contents[site % 12] = content(site));
     let fitting = |set: u32| {
         let mut fitting = [u64::MAX; 64];
         each(set.into(), |site| fitting.iter_mut().zip(&contents[site % 12]).for_each(|(sets, more)| *sets &= more));
@@ -819,7 +836,7 @@ fn intact_from_words(rows: &[[u64; ROW]], faulty: u64) -> u64 {
             match first_apart(&if rest == most { all } else { fitting(rest) }, sites, gone) {
                 None => intact |= rest,
                 Some(p) => {
-                    pairs[found % PAIRS] = (gone, p, narrow(rows, (rest & !p).into(), gone.into(), 0).0 as u32);
+                    pairs[found % PAIRS] = (gone, p, largest((rest & !p).into(), gone.into()) as u32);
                     found += 1;
                 }
             }
@@ -830,7 +847,10 @@ fn intact_from_words(rows: &[[u64; ROW]], faulty: u64) -> u64 {
 }
 
 pub fn intact_by_words(table: &[u64], faulty: u64) -> Answer {
-    answer(few(table, faulty).map(|rows| [intact_from_words(rows, faulty), 0, 0]))
+    answer(few(table, faulty).map(|rows| {
+        let largest = |set, gone| narrow(rows, set, gone, 0).0;
+        [intact_from_words(rows.len(), faulty, |site| content(&rows[site], site), largest), 0, 0]
+    }))
 }
 
 // ---- The voting

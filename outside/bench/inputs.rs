@@ -9,7 +9,7 @@ pub type Call = [u8; 4];
 pub struct Rng(pub u64);
 
 impl Rng {
-    fn next(&mut self) -> u64 {
+    pub fn next(&mut self) -> u64 {
         self.0 ^= self.0 << 13;
         self.0 ^= self.0 >> 7;
         self.0 ^= self.0 << 17;
@@ -161,7 +161,7 @@ fn faulty_flood(n: u8, f: u8) -> (u64, Vec<Call>) {
 
 /// All proposals, then every vote and every accept of each site to each other, in an order that is drawn: what a day
 /// brings.
-fn plain_day(n: u8) -> Vec<Call> {
+pub fn plain_day(n: u8) -> Vec<Call> {
     let mut calls: Vec<Call> = (0..n).map(|v| [0, v, v, 0]).collect();
     for kind in [1, 2] {
         calls.extend((0..n).flat_map(|u| (0..n).filter(move |v| *v != u).map(move |v| [kind, u, v, 0])));

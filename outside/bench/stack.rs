@@ -11,6 +11,13 @@ mod inputs;
 mod library;
 #[path = "../model/model.rs"]
 mod model;
+#[cfg(thresholds)]
+#[allow(dead_code)]
+mod threshold_inputs;
+#[cfg(thresholds)]
+#[allow(dead_code)]
+#[path = "../compare/threshold_library.rs"]
+mod threshold_library;
 
 use inputs::{memory, Rng};
 use library::*;
@@ -68,10 +75,10 @@ impl Depths {
 fn main() {
     let measure = std::thread::Builder::new().stack_size(4 * PAINTED).spawn(measure).expect("a thread");
     let depths = measure.join().expect("the measure");
-    println!("| {:<19} | {:>6} | {:<48} |", "function", "bytes", "deepest on");
-    println!("|{:-<21}|{:->7}:|{:-<50}|", "", "", "");
+    println!("| {:<27} | {:>6} | {:<48} |", "function", "bytes", "deepest on");
+    println!("|{:-<29}|{:->7}:|{:-<50}|", "", "", "");
     for (function, depth, input) in depths.0 {
-        println!("| {:<19} | {depth:>6} | {input:<48} |", function);
+        println!("| {:<27} | {depth:>6} | {input:<48} |", function);
     }
 }
 
@@ -190,5 +197,73 @@ fn measure() -> Depths {
             depths.note("siren_journal_next", depth!(unsafe { siren_journal_next(journal, bytes, place, out) }), name);
         }
     }
+    #[cfg(thresholds)]
+    thresholds(&mut depths);
     depths
+}
+
+/// The calls over tables of thresholds.
+#[cfg(thresholds)]
+#[inline(never)]
+fn thresholds(depths: &mut Depths) {
+    use threshold_inputs as inputs;
+    use threshold_library::*;
+
+    let mut out = [0u64; 4];
+    let out = out.as_mut_ptr();
+    let (mut cells, mut bytes) = (vec![0u64; 63 * 64], vec![0u8; 4096]);
+    let (room, room_length) = (cells.as_mut_ptr(), cells.len());
+    let (byte_room, byte_room_length) = (bytes.as_mut_ptr(), bytes.len());
+    macro_rules! note {
+        ($call:ident($($argument:expr),*), $name:expr) => {
+            // SAFETY: as above.
+            depths.note(stringify!($call), depth!(unsafe { $call($($argument),*) }), $name)
+        };
+    }
+    for (name, image, set) in &inputs::questions() {
+        let (image, length, set) = (image.as_ptr(), image.len(), *set);
+        note!(siren_threshold_check(image, length, out), name);
+        note!(siren_threshold_quorum(image, length, set, out), name);
+        note!(siren_threshold_largest(image, length, set, out), name);
+        note!(siren_threshold_blocks(image, length, set, 0, out), name);
+    }
+    for (name, image, faulty) in &inputs::twelve_sites() {
+        let (image, length, faulty) = (image.as_ptr(), image.len(), *faulty);
+        note!(siren_threshold_shared(image, length, out), name);
+        note!(siren_threshold_intact(image, length, faulty, out), name);
+        note!(siren_threshold_translate(image, length, room, room_length, out), name);
+    }
+    for (name, image, calls) in &inputs::lists() {
+        let table = model::thresholds::table_on_file(image).expect("a table");
+        let (image, length) = (image.as_ptr(), image.len());
+        let (list, many) = (calls.as_flattened().as_ptr(), 4 * calls.len());
+        note!(
+            siren_threshold_run(image, length, 0, list, many, room, room_length, byte_room, byte_room_length, out),
+            name
+        );
+        let (list, many) = (calls.as_ptr().cast::<Call>(), calls.len());
+        note!(
+            siren_threshold_run_records(
+                image,
+                length,
+                0,
+                list,
+                many,
+                room,
+                room_length,
+                byte_room,
+                byte_room_length,
+                out
+            ),
+            name
+        );
+        let mut state = vec![0; model::state_length(table.roots.len())];
+        for call in &calls[..calls.len() / 2] {
+            model::take(&table, 0, &mut state, *call);
+        }
+        let [kind, from, to, side] = crate::inputs::one_more(table.roots.len(), 0, &state);
+        let (state, state_length) = (state.as_mut_ptr(), state.len());
+        note!(siren_threshold_sound(image, length, 0, state, state_length, out), name);
+        note!(siren_threshold_step(image, length, 0, state, state_length, kind, from, to, side, out), name);
+    }
 }

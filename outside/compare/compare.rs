@@ -10,14 +10,15 @@ mod input;
 mod library;
 #[path = "../model/model.rs"]
 mod model;
+mod outcome;
 mod page;
 mod shrink;
 mod watch;
 
-use generate::{Rng, SHAPES};
-use input::{ask_model, difference, Input, Lender, Question};
+use generate::{mend, Rng, SHAPES};
+use input::{ask_model, Input, Lender, Question};
 use model::{BLOCK, CALLS_OF_A_BLOCK, LONGEST_JOURNAL, MOST_CALLS, MOST_SLICES, ROW};
-use shrink::mend;
+use outcome::difference;
 use std::collections::BTreeMap;
 use std::io::Write;
 use std::process::{exit, Command, Stdio};

@@ -1,7 +1,7 @@
 //! The inputs: tables of every shape and size, damage to tables and images, states that calls lead to and states that
 //! none leads to, lists, journals and damage to them.
 
-use crate::model::{self, BLOCK, CALLS_OF_A_BLOCK, MOST_CALLS, MOST_SLICES, ROW};
+use crate::model::{self, Groups, BLOCK, CALLS_OF_A_BLOCK, MOST_CALLS, MOST_SLICES, ROW};
 
 /// Numbers that the seed decides.
 pub struct Rng(u64);
@@ -336,15 +336,34 @@ pub fn damage_image(rng: &mut Rng, image: &mut [u8]) {
             _ => block[503] = 1,
         }
         if !rng.once_in(4) {
-            crate::shrink::mend(block);
+            mend(block);
         }
     }
 }
 
+/// Writes the right check into a block.
+pub fn mend(block: &mut [u8]) {
+    let (s, t) = model::block_sums(block);
+    block[504..508].copy_from_slice(&(s as u32).to_le_bytes());
+    block[508..512].copy_from_slice(&(t as u32).to_le_bytes());
+}
+
 // ---- States and calls
 
+/// A table of whichever form that calls are drawn for.
+pub trait Near: Groups {
+    /// Sites that a site may need, itself among them.
+    fn near(&self, rng: &mut Rng, site: usize) -> u64;
+}
+
+impl Near for model::Table {
+    fn near(&self, rng: &mut Rng, site: usize) -> u64 {
+        rng.pick(&self.slices[site])
+    }
+}
+
 /// A call that may well be taken in the state; now and then any bytes.
-pub fn call(rng: &mut Rng, table: &model::Table, faulty: u64, state: &[u64]) -> [u8; 4] {
+pub fn call(rng: &mut Rng, table: &impl Near, faulty: u64, state: &[u64]) -> [u8; 4] {
     let n = table.n();
     if rng.once_in(16) {
         return rng.next().to_le_bytes()[..4].try_into().unwrap();
@@ -354,7 +373,7 @@ pub fn call(rng: &mut Rng, table: &model::Table, faulty: u64, state: &[u64]) -> 
         return [rng.below(4) as u8, near(rng), near(rng), rng.below(3) as u8];
     }
     let side = rng.below(2);
-    let correct = table.sites & !faulty;
+    let correct = table.sites() & !faulty;
     let to = if correct == 0 || rng.once_in(20) { rng.below(n) } else { rng.member(correct) };
     let kind = rng.below(3);
     let sent = match kind {
@@ -362,7 +381,7 @@ pub fn call(rng: &mut Rng, table: &model::Table, faulty: u64, state: &[u64]) -> 
         _ => state[model::accepted_at(n, side)] | faulty,
     };
     // A sender that the receiver has a slice with, if it has sent already.
-    let near = rng.pick(&table.slices[to]) & sent;
+    let near = table.near(rng, to) & sent;
     let from = match kind {
         0 if rng.once_in(20) => rng.below(n),
         0 => to,
@@ -451,9 +470,9 @@ pub fn plant(rng: &mut Rng, n: usize, faulty: u64, state: &[u64], way: usize) ->
 
 /// A sound state in which sites hold each other up: every correct site has accepted, except those that the rule does
 /// not let once the others are gone. Calls from a fresh state seldom lead there.
-pub fn circular(rng: &mut Rng, table: &model::Table, faulty: u64) -> Vec<u64> {
+pub fn circular(rng: &mut Rng, table: &impl Near, faulty: u64) -> Vec<u64> {
     let n = table.n();
-    let correct = table.sites & !faulty;
+    let correct = table.sites() & !faulty;
     let mut state = vec![0; model::state_length(n)];
     let thin = rng.between(0, 2);
     let drill = rng.next();
@@ -464,7 +483,7 @@ pub fn circular(rng: &mut Rng, table: &model::Table, faulty: u64) -> Vec<u64> {
         for site in (0..n).filter(|site| model::contains(correct, *site)) {
             let own = model::only(site);
             state[model::votes_at(site, side)] = (voted | faulty) & rng.mask(1) & !own | voted & own;
-            state[model::accepts_at(site, side)] = table.sites & (rng.mask(1) | rng.mask(1)) | own;
+            state[model::accepts_at(site, side)] = table.sites() & (rng.mask(1) | rng.mask(1)) | own;
         }
         loop {
             let holds = |site: &usize| {
@@ -492,7 +511,7 @@ pub fn circular(rng: &mut Rng, table: &model::Table, faulty: u64) -> Vec<u64> {
 
 /// A list of calls: proposals, votes and accepts between sites that have slices with each other, in an order that may
 /// need many passes.
-pub fn list(rng: &mut Rng, table: &model::Table, faulty: u64, most: usize) -> Vec<[u8; 4]> {
+pub fn list(rng: &mut Rng, table: &impl Near, faulty: u64, most: usize) -> Vec<[u8; 4]> {
     let n = table.n();
     let mut calls: Vec<[u8; 4]> = Vec::new();
     let main = rng.below(2) as u8;
@@ -509,7 +528,7 @@ pub fn list(rng: &mut Rng, table: &model::Table, faulty: u64, most: usize) -> Ve
     let length = rng.below(most.max(1));
     while calls.len() < length {
         let to = rng.below(n);
-        let near = rng.pick(&table.slices[to]) | faulty;
+        let near = table.near(rng, to) | faulty;
         let from = if rng.once_in(8) { rng.below(n) } else { rng.member(near) };
         let side = if rng.once_in(4) { 1 - main } else { main };
         let kind = rng.between(1, 2);
@@ -542,7 +561,7 @@ pub fn list(rng: &mut Rng, table: &model::Table, faulty: u64, most: usize) -> Ve
 
 /// A walk of calls as they are taken one after the other, told from its end: a call waits for one that stands behind
 /// it, so that every pass gets on by little.
-pub fn backward(rng: &mut Rng, table: &model::Table, faulty: u64, most: usize) -> Vec<[u8; 4]> {
+pub fn backward(rng: &mut Rng, table: &impl Near, faulty: u64, most: usize) -> Vec<[u8; 4]> {
     let mut state = vec![0; model::state_length(table.n())];
     let mut calls = Vec::new();
     for _ in 0..3 * most {
@@ -641,7 +660,7 @@ pub fn journal(rng: &mut Rng, counts: &[usize]) -> Vec<u8> {
     for (place, count) in counts.iter().enumerate() {
         let mut block = model::journal_block(place, &kept_calls(rng, (*count).min(CALLS_OF_A_BLOCK)));
         block[2..4].copy_from_slice(&(*count as u16).to_le_bytes());
-        crate::shrink::mend(&mut block);
+        mend(&mut block);
         bytes.extend(block);
     }
     bytes
@@ -677,7 +696,7 @@ pub fn damage_journal_block(rng: &mut Rng, block: &mut [u8], fault: usize) {
     }
     let check_is_the_fault = fault == 14 || fault == 13 && end == 504 || fault == 15 && rng.once_in(2);
     if !check_is_the_fault {
-        crate::shrink::mend(block);
+        mend(block);
     }
 }
 

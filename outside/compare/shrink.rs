@@ -1,6 +1,7 @@
 //! From an input that shows a difference to a smaller one: calls, sites, slices and bits are dropped one after the
 //! other, as long as some difference stays.
 
+use crate::generate::mend;
 use crate::input::{Input, Question};
 use crate::model::{self, BLOCK, CALLS_OF_A_BLOCK, ROW};
 use std::time::{Duration, Instant};
@@ -127,13 +128,6 @@ fn without_blocks(input: &Input, first: usize, last: usize) -> Input {
         }
     }
     less
-}
-
-/// Writes the right check into a block.
-pub fn mend(block: &mut [u8]) {
-    let (s, t) = model::block_sums(block);
-    block[504..508].copy_from_slice(&(s as u32).to_le_bytes());
-    block[508..512].copy_from_slice(&(t as u32).to_le_bytes());
 }
 
 /// The mask without a site, those above it numbered one less.

@@ -7,6 +7,7 @@
 mod fast;
 #[path = "../model/model.rs"]
 mod model;
+mod threshold_stand_in;
 
 use model::Answer;
 use std::slice::{from_raw_parts as lent, from_raw_parts_mut as room};

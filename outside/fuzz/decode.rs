@@ -2,10 +2,9 @@
 //! end is zero. Most of the bytes say what is sound and some what is wrong with it, so that small changes lead past the
 //! first refusals.
 
-use crate::generate::{damage_row, ROW_FAULTS};
+use crate::generate::{damage_row, mend, ROW_FAULTS};
 use crate::input::{Input, Question};
 use crate::model::{self, BLOCK, CALLS_OF_A_BLOCK, MOST_CALLS, MOST_SITES, MOST_SLICES, ROW};
-use crate::shrink::mend;
 
 /// The questions, chosen by the first byte: it is a place in this list, and if it is none it goes round among the first
 /// questions, so that kept inputs stay what they are when the list grows.

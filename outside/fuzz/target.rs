@@ -9,6 +9,8 @@ mod input;
 mod library;
 #[path = "../model/model.rs"]
 mod model;
+#[path = "../compare/outcome.rs"]
+mod outcome;
 #[path = "../compare/page.rs"]
 mod page;
 #[path = "../compare/shrink.rs"]
@@ -17,7 +19,8 @@ mod shrink;
 mod decode;
 
 pub use input::Question;
-use input::{ask_model, difference, Lender};
+use input::{ask_model, Lender};
+use outcome::difference;
 use std::cell::RefCell;
 
 thread_local! {

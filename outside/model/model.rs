@@ -4,8 +4,13 @@
 //! Each public function is one public call of the library. It answers the number of the refusal (0 if there is none),
 //! the place that the refusal carries, and the values of the answer, unused ones 0. On refusal no lent memory changes.
 //! The comment at each function is the sentence of the rules that the function states.
+//!
+//! Tables of thresholds are in thresholds.rs; what does not depend on the form of a table is here, for both.
 
 #![allow(dead_code)]
+
+#[path = "thresholds.rs"]
+pub mod thresholds;
 
 /// "Blocks of 512 bytes, one a site"
 pub const BLOCK: usize = 512;
@@ -127,6 +132,27 @@ pub fn block_check(block: &[u8]) -> Answer {
 
 // ---- Tables
 
+/// A table of whichever form: how many sites there are, and of each what its slices are asked for.
+pub trait Groups {
+    fn n(&self) -> usize;
+
+    /// The site has some slice inside the set.
+    fn has_slice_inside(&self, site: usize, set: u64) -> bool;
+
+    /// The set meets every slice of the site.
+    fn meets_every_slice(&self, set: u64, site: usize) -> bool;
+
+    /// The set of the sites that there are.
+    fn sites(&self) -> u64 {
+        all_sites(self.n())
+    }
+
+    /// The numbers of the sites in a set.
+    fn members(&self, set: u64) -> impl Iterator<Item = usize> {
+        (0..self.n()).filter(move |site| contains(set, *site))
+    }
+}
+
 /// A table of groups: the sites that there are, and of each its slices. A table with sites deleted keeps the numbers of
 /// the others.
 #[derive(Clone, Debug, PartialEq, Eq)]
@@ -135,15 +161,22 @@ pub struct Table {
     pub slices: Vec<Vec<u64>>,
 }
 
-impl Table {
+impl Groups for Table {
     /// The number of sites, those deleted counted too.
-    pub fn n(&self) -> usize {
+    fn n(&self) -> usize {
         self.slices.len()
     }
 
-    /// The numbers of the sites in a set.
-    fn members(&self, set: u64) -> impl Iterator<Item = usize> {
-        (0..self.n()).filter(move |site| contains(set, *site))
+    fn has_slice_inside(&self, site: usize, set: u64) -> bool {
+        self.slices[site].iter().any(|slice| inside(*slice, set))
+    }
+
+    fn meets_every_slice(&self, set: u64, site: usize) -> bool {
+        self.slices[site].iter().all(|slice| slice & set != 0)
+    }
+
+    fn sites(&self) -> u64 {
+        self.sites
     }
 }
 
@@ -211,17 +244,36 @@ pub fn row_in_memory(slices: &[u64]) -> Vec<u64> {
 /// "Bytes 0 to 1 site, 2 to 3 n, 4 to 5 slice count, 6 to 7 zero, then the slices of 8 bytes, zeros up to byte 503."
 /// "Bytes 504 to 507 hold s, 508 to 511 hold t."
 pub fn block_on_file(site: usize, n: usize, slices: &[u64]) -> Vec<u8> {
+    block_of(site, n, slices.len(), &slices.iter().flat_map(|slice| slice.to_le_bytes()).collect::<Vec<u8>>())
+}
+
+/// A block with its header, its count and what stands behind them, and its check.
+fn block_of(site: usize, n: usize, count: usize, bytes: &[u8]) -> Vec<u8> {
     let mut block = Vec::new();
     block.extend((site as u16).to_le_bytes());
     block.extend((n as u16).to_le_bytes());
-    block.extend((slices.len() as u16).to_le_bytes());
+    block.extend((count as u16).to_le_bytes());
     block.extend([0; 2]);
-    block.extend(slices.iter().flat_map(|slice| slice.to_le_bytes()));
+    block.extend(bytes);
     block.resize(504, 0);
     let (s, t) = block_sums(&block);
     block.extend((s as u32).to_le_bytes());
     block.extend((t as u32).to_le_bytes());
     block
+}
+
+/// 3: "site is not the block's place, n is not the number of blocks, or bytes 6 to 7 not zero"
+fn header_differs(block: &[u8], place: usize, n: usize) -> bool {
+    let (site, sites, zero) = (number(&block[0..2]), number(&block[2..4]), number(&block[6..8]));
+    site != place as u64 || sites != n as u64 || zero != 0
+}
+
+/// 1: "image length zero, not a multiple of 512, or over 32,768". The number of blocks if it is not.
+fn image_sites(image: &[u8]) -> Result<usize, Refusal> {
+    if image.is_empty() || !image.len().is_multiple_of(BLOCK) || image.len() > 32768 {
+        return refused(1);
+    }
+    Ok(image.len() / BLOCK)
 }
 
 /// One block of an image of n blocks, at its place: "block by block 2, 3, 4, each slice 5 then 6, then 8". Its slices,
@@ -230,9 +282,7 @@ fn block_slices(block: &[u8], place: usize, n: usize) -> Result<Vec<u64>, Refusa
     if block_check_differs(block) {
         return refused_at(2, place);
     }
-    // 3: "site is not the block's place, n is not the number of blocks, or bytes 6 to 7 not zero"
-    let (site, sites, zero) = (number(&block[0..2]), number(&block[2..4]), number(&block[6..8]));
-    if site != place as u64 || sites != n as u64 || zero != 0 {
+    if header_differs(block, place, n) {
         return refused_at(3, place);
     }
     let count = number(&block[4..6]) as usize;
@@ -248,14 +298,10 @@ fn block_slices(block: &[u8], place: usize, n: usize) -> Result<Vec<u64>, Refusa
     Ok(slices)
 }
 
-/// "Order, reading: 1, 9, then block by block 2, 3, 4, each slice 5 then 6, then 8; after all blocks 7." 1 is "image
-/// length zero, not a multiple of 512, or over 32,768", 9 "room lent too short", 7 "the table holds no quorum". "room
-/// beyond them is kept"
+/// "Order, reading: 1, 9, then block by block 2, 3, 4, each slice 5 then 6, then 8; after all blocks 7." 9 is "room lent
+/// too short", 7 "the table holds no quorum". "room beyond them is kept"
 fn read(image: &[u8], room: &mut [u64]) -> Result<usize, Refusal> {
-    let n = image.len() / BLOCK;
-    if image.is_empty() || !image.len().is_multiple_of(BLOCK) || image.len() > 32768 {
-        return refused(1);
-    }
+    let n = image_sites(image)?;
     if room.len() < ROW * n {
         return refused(9);
     }
@@ -267,10 +313,15 @@ fn read(image: &[u8], room: &mut [u64]) -> Result<usize, Refusal> {
     if largest_inside(&table, table.sites).0 == 0 {
         return refused(7);
     }
+    put_in_memory(&table, room);
+    Ok(n)
+}
+
+/// The rows of a table in the first cells of a room.
+fn put_in_memory(table: &Table, room: &mut [u64]) {
     for (row, slices) in room.chunks_mut(ROW).zip(&table.slices) {
         row.copy_from_slice(&row_in_memory(slices));
     }
-    Ok(n)
 }
 
 /// The reading of an image into lent room; answers n.
@@ -298,23 +349,18 @@ pub fn image_write(memory: &[u64], room: &mut [u8]) -> Answer {
 
 // ---- Set questions
 
-/// The site has some slice inside the set.
-fn has_slice_inside(table: &Table, site: usize, set: u64) -> bool {
-    table.slices[site].iter().any(|slice| inside(*slice, set))
-}
-
 /// "A quorum is a non-empty set in which every member has some slice inside the set."
-pub fn is_quorum(table: &Table, set: u64) -> bool {
-    set != 0 && inside(set, table.sites) && table.members(set).all(|site| has_slice_inside(table, site, set))
+pub fn is_quorum(table: &impl Groups, set: u64) -> bool {
+    set != 0 && inside(set, table.sites()) && table.members(set).all(|site| table.has_slice_inside(site, set))
 }
 
 /// "The largest quorum inside W: start with W; each round drops, all together, the members with no slice inside the set
 /// as it stood before the round; stop when a round drops nobody. The answer is the set left (0 if none) and the number
 /// of rounds that dropped somebody".
-pub fn largest_inside(table: &Table, w: u64) -> (u64, u64) {
+pub fn largest_inside(table: &impl Groups, w: u64) -> (u64, u64) {
     let (mut set, mut rounds) = (w, 0);
     loop {
-        let stay = table.members(set).filter(|site| has_slice_inside(table, *site, set)).map(only).sum();
+        let stay = table.members(set).filter(|site| table.has_slice_inside(*site, set)).map(only).sum();
         if stay == set {
             return (set, rounds);
         }
@@ -325,9 +371,8 @@ pub fn largest_inside(table: &Table, w: u64) -> (u64, u64) {
 
 /// "A set blocks site v if it meets every slice of v. The empty set blocks nobody." And W-201: "the owner's bit is taken
 /// out of the set before it is compared."
-pub fn blocks_site(table: &Table, set: u64, site: usize) -> bool {
-    let others = set & !only(site);
-    table.slices[site].iter().all(|slice| slice & others != 0)
+pub fn blocks_site(table: &impl Groups, set: u64, site: usize) -> bool {
+    table.meets_every_slice(set & !only(site), site)
 }
 
 /// "the table meets if every two quorums have a common site. If not, the answer is the quorum P with the smallest mask
@@ -369,8 +414,8 @@ pub fn intact_sites(table: &Table, faulty: u64) -> u64 {
 }
 
 /// 10: "a set names a site at or above n"
-fn check_set(table: &Table, set: u64) -> Result<(), Refusal> {
-    if inside(set, table.sites) {
+fn check_set(table: &impl Groups, set: u64) -> Result<(), Refusal> {
+    if inside(set, table.sites()) {
         Ok(())
     } else {
         refused(10)
@@ -378,7 +423,7 @@ fn check_set(table: &Table, set: u64) -> Result<(), Refusal> {
 }
 
 /// 11: "site at or above n"
-fn check_site(table: &Table, site: u64) -> Result<usize, Refusal> {
+fn check_site(table: &impl Groups, site: u64) -> Result<usize, Refusal> {
     if site < table.n() as u64 {
         Ok(site as usize)
     } else {
@@ -387,7 +432,7 @@ fn check_site(table: &Table, site: u64) -> Result<usize, Refusal> {
 }
 
 /// 16: "n over 12 where a verdict needs at most 12"
-fn check_verdict(table: &Table) -> Result<(), Refusal> {
+fn check_verdict(table: &impl Groups) -> Result<(), Refusal> {
     if table.n() <= MOST_SITES_OF_A_VERDICT {
         Ok(())
     } else {
@@ -397,34 +442,34 @@ fn check_verdict(table: &Table) -> Result<(), Refusal> {
 
 /// "Set questions: table, 10, 11, 16." Is the set a quorum? Answers 0 or 1.
 pub fn quorum(memory: &[u64], set: u64) -> Answer {
-    let ask = || {
-        let table = table_in_memory(memory)?;
-        check_set(&table, set)?;
-        Ok([u64::from(is_quorum(&table, set)), 0, 0])
-    };
-    ask().into()
+    table_in_memory(memory).and_then(|table| ask_quorum(&table, set)).into()
+}
+
+fn ask_quorum(table: &impl Groups, set: u64) -> Result<[u64; 3], Refusal> {
+    check_set(table, set)?;
+    Ok([u64::from(is_quorum(table, set)), 0, 0])
 }
 
 /// "Set questions: table, 10, 11, 16." The largest quorum inside the set; answers it and the rounds.
 pub fn largest(memory: &[u64], set: u64) -> Answer {
-    let ask = || {
-        let table = table_in_memory(memory)?;
-        check_set(&table, set)?;
-        let (left, rounds) = largest_inside(&table, set);
-        Ok([left, rounds, 0])
-    };
-    ask().into()
+    table_in_memory(memory).and_then(|table| ask_largest(&table, set)).into()
+}
+
+fn ask_largest(table: &impl Groups, set: u64) -> Result<[u64; 3], Refusal> {
+    check_set(table, set)?;
+    let (left, rounds) = largest_inside(table, set);
+    Ok([left, rounds, 0])
 }
 
 /// "Set questions: table, 10, 11, 16." Does the set block the site? Answers 0 or 1.
 pub fn blocks(memory: &[u64], set: u64, site: u64) -> Answer {
-    let ask = || {
-        let table = table_in_memory(memory)?;
-        check_set(&table, set)?;
-        let site = check_site(&table, site)?;
-        Ok([u64::from(blocks_site(&table, set, site)), 0, 0])
-    };
-    ask().into()
+    table_in_memory(memory).and_then(|table| ask_blocks(&table, set, site)).into()
+}
+
+fn ask_blocks(table: &impl Groups, set: u64, site: u64) -> Result<[u64; 3], Refusal> {
+    check_set(table, set)?;
+    let site = check_site(table, site)?;
+    Ok([u64::from(blocks_site(table, set, site)), 0, 0])
 }
 
 /// "Set questions: table, 10, 11, 16." Shared sites: answers 1 if the table meets, else 0, P and Q.
@@ -432,9 +477,13 @@ pub fn shared(memory: &[u64]) -> Answer {
     let ask = || {
         let table = table_in_memory(memory)?;
         check_verdict(&table)?;
-        Ok(apart(&table).map_or([1, 0, 0], |(p, q)| [0, p, q]))
+        Ok(told_apart(&table))
     };
     ask().into()
+}
+
+fn told_apart(table: &Table) -> [u64; 3] {
+    apart(table).map_or([1, 0, 0], |(p, q)| [0, p, q])
 }
 
 /// "Set questions: table, 10, 11, 16." Answers the set of the intact sites.
@@ -511,7 +560,7 @@ pub fn confirmed_at(n: usize, side: usize) -> usize {
 
 /// "It accepts if it belongs to the largest quorum inside the sites it heard a vote or an accept from, its own accept
 /// not counted; or if the accepts heard from others block it."
-pub fn accepts(table: &Table, state: &[u64], site: usize, side: usize) -> bool {
+pub fn accepts(table: &impl Groups, state: &[u64], site: usize, side: usize) -> bool {
     let votes = state[votes_at(site, side)];
     let others = state[accepts_at(site, side)] & !only(site);
     contains(largest_inside(table, votes | others).0, site) || blocks_site(table, others, site)
@@ -519,7 +568,7 @@ pub fn accepts(table: &Table, state: &[u64], site: usize, side: usize) -> bool {
 
 /// "It then confirms if it belongs to the largest quorum inside the sites it heard an accept from, its own now
 /// counted."
-pub fn confirms(table: &Table, state: &[u64], site: usize, side: usize) -> bool {
+pub fn confirms(table: &impl Groups, state: &[u64], site: usize, side: usize) -> bool {
     contains(largest_inside(table, state[accepts_at(site, side)]).0, site)
 }
 
@@ -527,9 +576,9 @@ pub fn confirms(table: &Table, state: &[u64], site: usize, side: usize) -> bool 
 /// sides; own vote bit and voted mask differing; own accept bit and accepted mask differing; accepted or confirmed
 /// other than the rules above give from what was heard; a vote or accept heard from a correct site that has not sent
 /// it."
-pub fn is_sound(table: &Table, faulty: u64, state: &[u64]) -> bool {
+pub fn is_sound(table: &impl Groups, faulty: u64, state: &[u64]) -> bool {
     let n = table.n();
-    if state.len() != state_length(n) || state.iter().any(|mask| !inside(*mask, table.sites)) {
+    if state.len() != state_length(n) || state.iter().any(|mask| !inside(*mask, table.sites())) {
         return false;
     }
     if state[voted_at(n, DRILL)] & state[voted_at(n, LIVE)] != 0 {
@@ -562,7 +611,7 @@ pub fn is_sound(table: &Table, faulty: u64, state: &[u64]) -> bool {
 ///
 /// 11 is "site at or above n ..., kind over 2, side over 1"; 13 "a proposal whose from and to differ"; 12 "the receiver
 /// is faulty"; 14 "the site has voted for the other side"; 15 "a correct sender has not sent this".
-pub fn refusal(table: &Table, faulty: u64, state: &[u64], call: [u8; 4]) -> u64 {
+pub fn refusal(table: &impl Groups, faulty: u64, state: &[u64], call: [u8; 4]) -> u64 {
     let n = table.n();
     let [kind, from, to, side] = call;
     let (from, to, side) = (usize::from(from), usize::from(to), usize::from(side));
@@ -590,7 +639,7 @@ pub fn refusal(table: &Table, faulty: u64, state: &[u64], call: [u8; 4]) -> u64 
 /// One call on a sound state, its number answered. "A proposal makes the site vote for that side". "Its own vote and
 /// accept are heard by itself at once." "After a taken call, the receiver alone is worked out again, for the call's
 /// side." "A taken call answers 0."
-pub fn take(table: &Table, faulty: u64, state: &mut [u64], call: [u8; 4]) -> u64 {
+pub fn take(table: &impl Groups, faulty: u64, state: &mut [u64], call: [u8; 4]) -> u64 {
     let refusal = refusal(table, faulty, state, call);
     if refusal != 0 {
         return refusal;
@@ -617,27 +666,30 @@ pub fn take(table: &Table, faulty: u64, state: &mut [u64], call: [u8; 4]) -> u64
 }
 
 /// "table, 10 (faulty set), 18": what a step asks before it looks at its call.
-fn check_state(memory: &[u64], faulty: u64, state: &[u64]) -> Result<Table, Refusal> {
-    let table = table_in_memory(memory)?;
-    check_set(&table, faulty)?;
-    if !is_sound(&table, faulty, state) {
+fn check_state(table: &impl Groups, faulty: u64, state: &[u64]) -> Result<[u64; 3], Refusal> {
+    check_set(table, faulty)?;
+    if !is_sound(table, faulty, state) {
         return refused(18);
     }
-    Ok(table)
+    Ok([0; 3])
 }
 
 /// The soundness of a state by itself.
 pub fn sound(memory: &[u64], faulty: u64, state: &[u64]) -> Answer {
-    check_state(memory, faulty, state).map(|_| [0; 3]).into()
+    table_in_memory(memory).and_then(|table| check_state(&table, faulty, state)).into()
 }
 
 /// "Step, its call handed over as four byte values: table, 10 (faulty set), 18, 11, 13, 12, 14, 15."
 pub fn step(memory: &[u64], faulty: u64, state: &mut [u64], call: [u8; 4]) -> Answer {
-    let result = check_state(memory, faulty, state).and_then(|table| match take(&table, faulty, state, call) {
+    table_in_memory(memory).and_then(|table| ask_step(&table, faulty, state, call)).into()
+}
+
+fn ask_step(table: &impl Groups, faulty: u64, state: &mut [u64], call: [u8; 4]) -> Result<[u64; 3], Refusal> {
+    check_state(table, faulty, state)?;
+    match take(table, faulty, state, call) {
         0 => Ok([0; 3]),
         number => refused(number),
-    });
-    result.into()
+    }
 }
 
 // ---- The run
@@ -645,7 +697,7 @@ pub fn step(memory: &[u64], faulty: u64, state: &mut [u64], call: [u8; 4]) -> An
 /// "from a fresh state, in passes from first to last until a pass changes nothing (that pass counts). A call refused in
 /// a pass is tried again in the next. The answer is the state, the number of passes, and one byte a call with its
 /// answer in the last pass."
-pub fn passes(table: &Table, faulty: u64, calls: &[[u8; 4]]) -> (Vec<u64>, u64, Vec<u8>) {
+pub fn passes(table: &impl Groups, faulty: u64, calls: &[[u8; 4]]) -> (Vec<u64>, u64, Vec<u8>) {
     let mut state = vec![0; state_length(table.n())];
     let mut count = 0;
     loop {
@@ -658,17 +710,10 @@ pub fn passes(table: &Table, faulty: u64, calls: &[[u8; 4]]) -> (Vec<u64>, u64, 
     }
 }
 
-/// The table and the faulty set of a run: "Run: table, 10, 17, 9."
-fn check_run(memory: &[u64], faulty: u64) -> Result<Table, Refusal> {
-    let table = table_in_memory(memory)?;
-    check_set(&table, faulty)?;
-    Ok(table)
-}
-
 /// The run itself, over a list that is not too long: 9, then the passes. "on success only the named cells change, room
 /// beyond them is kept"
 fn run_into(
-    table: &Table,
+    table: &impl Groups,
     faulty: u64,
     calls: &[[u8; 4]],
     state: &mut [u64],
@@ -689,29 +734,44 @@ fn calls_of(bytes: &[u8]) -> Vec<[u8; 4]> {
     bytes.chunks(4).map(|call| [call[0], call[1], call[2], call[3]]).collect()
 }
 
-/// The run over bytes, "four a call". 17: "list not a multiple of 4 bytes, or over 16,384 bytes". Answers the passes.
+/// "Run: table, 10, 17, 9." The run over bytes, "four a call". 17: "list not a multiple of 4 bytes, or over 16,384 bytes".
+/// Answers the passes.
 pub fn run(memory: &[u64], faulty: u64, calls: &[u8], state: &mut [u64], answers: &mut [u8]) -> Answer {
-    let mut ask = || {
-        let table = check_run(memory, faulty)?;
-        if !calls.len().is_multiple_of(4) || calls.len() > 4 * MOST_CALLS {
-            return refused(17);
-        }
-        run_into(&table, faulty, &calls_of(calls), state, answers)
-    };
-    ask().into()
+    table_in_memory(memory).and_then(|table| ask_run(&table, faulty, calls, state, answers)).into()
+}
+
+fn ask_run(
+    table: &impl Groups,
+    faulty: u64,
+    calls: &[u8],
+    state: &mut [u64],
+    answers: &mut [u8],
+) -> Result<[u64; 3], Refusal> {
+    check_set(table, faulty)?;
+    if !calls.len().is_multiple_of(4) || calls.len() > 4 * MOST_CALLS {
+        return refused(17);
+    }
+    run_into(table, faulty, &calls_of(calls), state, answers)
 }
 
 /// "the same run also takes its calls as a list of records of four byte values, with equal answers." 17: over "4,096
 /// records".
 pub fn run_records(memory: &[u64], faulty: u64, calls: &[[u8; 4]], state: &mut [u64], answers: &mut [u8]) -> Answer {
-    let mut ask = || {
-        let table = check_run(memory, faulty)?;
-        if calls.len() > MOST_CALLS {
-            return refused(17);
-        }
-        run_into(&table, faulty, calls, state, answers)
-    };
-    ask().into()
+    table_in_memory(memory).and_then(|table| ask_run_records(&table, faulty, calls, state, answers)).into()
+}
+
+fn ask_run_records(
+    table: &impl Groups,
+    faulty: u64,
+    calls: &[[u8; 4]],
+    state: &mut [u64],
+    answers: &mut [u8],
+) -> Result<[u64; 3], Refusal> {
+    check_set(table, faulty)?;
+    if calls.len() > MOST_CALLS {
+        return refused(17);
+    }
+    run_into(table, faulty, calls, state, answers)
 }
 
 // ---- The accept calls that are missing
