@@ -8,7 +8,9 @@ ghost use Rattle.said_sets.specs.Said.{ofHolds, ofGreatest, ofSharing, ofStandi
 ghost use Rattle.sets.specs.Groups.{thresholds};
 ghost use Rattle.threshold_image.specs.Image.{thresholdsCheck};
 ghost use Rattle.voting.specs.Step.{soundCheck, stepCheck, stepInto, toStepped};
+ghost use Rattle.packing.specs.Pack.{bytesOf};
 ghost use Rattle.votes.specs.Call.{call};
+use packing::Call;
 
 // The check of a table of thresholds.
 #[no_mangle]
@@ -116,4 +118,30 @@ pub extern "C" fn siren_threshold_run(
         ⌜ now (answers .exit) ≡ runAnswers (thresholds (now (image .entry))) faulty (now (calls .entry)) (now (state .entry)) (now (answers .entry)) ⌝ }
 {
     said_votes::ran(threshold_votes::run(image, faulty, calls, state, answers), out)
+}
+
+// The same run of a list of call records.
+#[no_mangle]
+pub extern "C" fn siren_threshold_run_records(
+    image: &[u8],
+    faulty: u64,
+    calls: &[Call],
+    state: &mut [u64],
+    answers: &mut [u8],
+    out: &mut [u64; 4],
+) -> u64
+    ensures answer { λ r.
+        ⌜ r ≡ runSays (thresholds (now (image .entry))) faulty (bytesOf (now (calls .entry))) (now (state .entry)) (now (answers .entry)) .number ⌝ }
+    ensures told { λ r.
+        ⌜ now (out .exit) ≡ runSays (thresholds (now (image .entry))) faulty (bytesOf (now (calls .entry))) (now (state .entry)) (now (answers .entry)) .out ⌝ }
+    ensures states { λ r.
+        ⌜ now (state .exit) ≡ runState (thresholds (now (image .entry))) faulty (bytesOf (now (calls .entry))) (now (state .entry)) (now (answers .entry)) ⌝ }
+    ensures bytes { λ r.
+        ⌜ now (answers .exit) ≡ runAnswers (thresholds (now (image .entry))) faulty (bytesOf (now (calls .entry))) (now (state .entry))
+        (now (answers .entry)) ⌝ }
+{
+    said_votes::ran(
+        threshold_records::run_records(image, faulty, calls, state, answers),
+        out,
+    )
 }
