@@ -22,7 +22,7 @@ use Rattle.refusals.specs.Refusal.{number}
 use Rattle.refusals.specs.declared.Check.{Check}
 use Rattle.refusals.specs.declared.Check.the-variants.{Sound, Refused}
 use Rattle.refusals.specs.declared.Refusal.{Refusal}
-use Rattle.refusals.specs.declared.Refusal.the-variants.{Length, NoQuorum, Room, Set, Sums, Header, Count, Slice, Order, Filler}
+use Rattle.refusals.specs.declared.Refusal.the-variants.{Length, NoQuorum, Room, Set, Sums, Header, Count, Slice, Order, Filler, Threshold, Nesting}
 use Rattle.refusals.specs.declared.Refusal as Refusals
 use Rattle.rules.specs.State.{width}
 use Rattle.run.specs.Run.{runCheck, roomless, listMisshapen}
@@ -30,8 +30,12 @@ use Rattle.site_block.specs.Block.{countField, sliceField, misheaded, blockUnfi
 use Rattle.rows.specs.Row.{strange, unordered, sliceCheck, rowCheck}
 use Rattle.rows.specs.Site.{count, slice, rowUnfilled, siteCheck}
 use Rattle.sets.proofs.Groups.{few-in, set-checked}
-use Rattle.sets.specs.Groups.{Groups, lists, sitesOf, groupsCheck, outsider, setCheck}
+use Rattle.sets.specs.Groups.{Groups, lists, thresholds, sitesOf, groupsCheck, outsider, setCheck}
 use Rattle.table.specs.Table.{siteOf, sites, tableMisshapen, check, sitesCheck}
+use Rattle.threshold_block.specs.Block.{setsIn, setsUnfilled, thresholdBlockCheck}
+use Rattle.threshold_image.specs.Image.{imageSites, thresholdBlocksCheck, thresholdsCheck}
+use Rattle.threshold_sets.specs.Check.{alien, unreachable, misplaced, oneSetCheck, owing, setsCheck}
+use Rattle.threshold_sets.specs.Met.{ThresholdSets}
 use Rattle.published.specs.Files.{SevenNever, NineNever}
 
 -- a check whose refusals have other numbers than k
@@ -94,13 +98,48 @@ module _ (k : ℕ) where
     blocks-avoid n image =
         first-avoids (λ i. blockCheck n i i (part 512 i image)) n (λ i. block-avoids n i (part 512 i image))
 
+    set-of-avoids : (n place : ℕ) (S : ThresholdSets) (i : ℕ) → Avoids k (oneSetCheck n place S i)
+    unfolding oneSetCheck
+    set-of-avoids n place S i =
+        orElse-avoids (refuse (alien n S i) (Slice place)) (orElse (refuse (unreachable S i) (Threshold place)) (refuse (misplaced S i) (Nesting place)))
+        (refuse-avoids (alien n S i) (Slice place) (other 5 (λ z. omega (arith, z)) (λ z. omega (arith, z))))
+        (orElse-avoids (refuse (unreachable S i) (Threshold place)) (refuse (misplaced S i) (Nesting place))
+        (refuse-avoids (unreachable S i) (Threshold place) (other 21 (λ z. omega (arith, z)) (λ z. omega (arith, z))))
+        (refuse-avoids (misplaced S i) (Nesting place) (other 22 (λ z. omega (arith, z)) (λ z. omega (arith, z)))))
+
+    sets-avoid : (n place : ℕ) (S : ThresholdSets) (bad : Bool) → Avoids k (setsCheck n place S bad)
+    unfolding setsCheck
+    sets-avoid n place S bad =
+        let counted = eqb (S .count) 0 || ltb 49 (S .count) in
+        let end = orElse (refuse (owing S) (Nesting place)) (refuse bad (Filler place)) in
+        orElse-avoids (refuse counted (Count place)) (orElse (first (oneSetCheck n place S) (S .count)) end)
+        (refuse-avoids counted (Count place) (other 4 (λ z. omega (arith, z)) (λ z. omega (arith, z))))
+        (orElse-avoids (first (oneSetCheck n place S) (S .count)) end (first-avoids (oneSetCheck n place S) (S .count) (set-of-avoids n place S))
+        (orElse-avoids (refuse (owing S) (Nesting place)) (refuse bad (Filler place))
+        (refuse-avoids (owing S) (Nesting place) (other 22 (λ z. omega (arith, z)) (λ z. omega (arith, z))))
+        (refuse-avoids bad (Filler place) (other 8 (λ z. omega (arith, z)) (λ z. omega (arith, z))))))
+
+    threshold-block-avoids : (n i : ℕ) (b : List ℕ) → Avoids k (thresholdBlockCheck n i i b)
+    unfolding thresholdBlockCheck
+    threshold-block-avoids n i b =
+        let sets = setsCheck n i (setsIn b) (setsUnfilled b) in
+        orElse-avoids (refuse (not (sealed b)) (Sums i)) (orElse (refuse (misheaded n i b) (Header i)) sets)
+        (refuse-avoids (not (sealed b)) (Sums i) (other 2 (λ z. omega (arith, z)) (λ z. omega (arith, z))))
+        (orElse-avoids (refuse (misheaded n i b) (Header i)) sets (refuse-avoids (misheaded n i b) (Header i) (other 3 (λ z. omega (arith, z)) (λ z. omega (arith, z))))
+        (sets-avoid n i (setsIn b) (setsUnfilled b)))
+
     table-avoids : (t : Groups) → Avoids k (groupsCheck t)
-    unfolding check sitesCheck siteCheck
+    unfolding check sitesCheck siteCheck thresholdsCheck thresholdBlocksCheck
     table-avoids (lists t) =
         let n = sites (length t) in
         orElse-avoids (refuse (tableMisshapen (length t)) Length) (sitesCheck n t) (refuse-avoids (tableMisshapen (length t)) Length (other 1 (λ z. omega (arith, z)) (λ z. omega (arith, z))))
         (first-avoids (λ v. siteCheck n v v (siteOf t v)) n
         (λ v. let m = siteOf t v in row-avoids (sliceCheck n v v (slice m)) v (count m) (rowUnfilled m) (slice-avoids n v v (slice m))))
+    table-avoids (thresholds image) =
+        let n = imageSites (length image) in
+        orElse-avoids (refuse (imageMisshapen (length image)) Length) (thresholdBlocksCheck n image)
+        (refuse-avoids (imageMisshapen (length image)) Length (other 1 (λ z. omega (arith, z)) (λ z. omega (arith, z))))
+        (first-avoids (λ i. thresholdBlockCheck n i i (part 512 i image)) n (λ i. threshold-block-avoids n i (part 512 i image)))
 
     set-avoids : (t : Groups) (F : ℕ) → Avoids k (setCheck t F)
     unfolding setCheck outsider
