@@ -8,7 +8,7 @@
  *
  * Answer.    Each function answers the number of the refusal, 0 if there is none. docs/LEAFLET.md has each number in plain words.
  * out        points to four numbers, which every call writes whole, whatever they held: out[0] is the place of the refusal (the block or site for the
- *            numbers 2 to 6, 8 and 20, else 0), then come the values named at each call. Values that a call does not have are 0, and on a refusal all
+ *            numbers 2 to 6, 8 and 20 to 22, else 0), then come the values named at each call. Values that a call does not have are 0, and on a refusal all
  *            are. A fault in a block, of a table as of a journal, carries the block's number: its place in the file, counted from 0.
  * Lengths    are counts of elements and not of bytes: of 64-bit numbers where the pointer is to uint64_t, of bytes where it is to uint8_t, of records
  *            where it is to siren_call. With length 0 the pointer may be null. `out` may not be null.
@@ -170,6 +170,49 @@ uint64_t siren_run(const uint64_t *table, size_t length, uint64_t faulty, const 
  */
 uint64_t siren_run_records(const uint64_t *table, size_t length, uint64_t faulty, const siren_call *calls, size_t count, uint64_t *state,
                            size_t state_length, uint8_t *answers, size_t answers_length, uint64_t out[4]);
+
+/* ---- Tables of thresholds
+ *
+ * An owner may say "three of these five" in place of a list of slices. A table of n sites (1 to 64) is then its image on file, n blocks of 512 bytes: bytes 0
+ * and 1 are the site, 2 and 3 n, 4 and 5 the number of its sets, 1 to 49, 6 and 7 zero; then come the sets, ten bytes each, in preorder, the root first:
+ * threshold, number of inner sets, mask of plain sites; zeros up to byte 503, and the check of a table's block. A set is met by the sites present if its
+ * plain sites that are present and its inner sets that are met together reach the threshold. A site has a slice inside a set of sites if the set contains
+ * the site and meets its root: all such sets are its slices. Every call below checks the image first and refuses it with
+ *
+ *    1   the length is 0, not a multiple of 512, or over 32,768
+ *   then block by block, with the block as the place:
+ *    2   the block's check differs
+ *    3   the site is not the block's place, n is not the number of blocks, or bytes 6 and 7 are not zero
+ *    4   the number of sets is 0 or over 49
+ *    5   a set names a site at or above n                                            (each set 5, then 21, then 22)
+ *   21   a set's threshold is zero, or above its plain sites and inner sets together
+ *   22   a set stands behind the root and all that is in it, or deeper than four levels
+ *   22   inner sets are missing at the end
+ *    8   the filler is not zero
+ *
+ * Below these are called "the refusals of an image". Nothing in the bytes says which form a file has: an image of one form that is handed to a call of the
+ * other is refused, or taken for another table. Images need no alignment. `image` points to `length` bytes; all else, values, memory and the refusals behind
+ * those of the table, is as in the call of the same name for a table in memory.
+ */
+
+/* The check of an image. Values: none. Refusals: those of an image. */
+uint64_t siren_threshold_check(const uint8_t *image, size_t length, uint64_t out[4]);
+
+/* As siren_quorum, siren_largest, siren_blocks, siren_shared and siren_intact. */
+uint64_t siren_threshold_quorum(const uint8_t *image, size_t length, uint64_t set, uint64_t out[4]);
+uint64_t siren_threshold_largest(const uint8_t *image, size_t length, uint64_t set, uint64_t out[4]);
+uint64_t siren_threshold_blocks(const uint8_t *image, size_t length, uint64_t set, uint64_t site, uint64_t out[4]);
+uint64_t siren_threshold_shared(const uint8_t *image, size_t length, uint64_t out[4]);
+uint64_t siren_threshold_intact(const uint8_t *image, size_t length, uint64_t faulty, uint64_t out[4]);
+
+/* As siren_sound, siren_step, siren_run and siren_run_records. */
+uint64_t siren_threshold_sound(const uint8_t *image, size_t length, uint64_t faulty, const uint64_t *state, size_t state_length, uint64_t out[4]);
+uint64_t siren_threshold_step(const uint8_t *image, size_t length, uint64_t faulty, uint64_t *state, size_t state_length, uint8_t kind, uint8_t from,
+                              uint8_t to, uint8_t side, uint64_t out[4]);
+uint64_t siren_threshold_run(const uint8_t *image, size_t length, uint64_t faulty, const uint8_t *calls, size_t calls_length, uint64_t *state,
+                             size_t state_length, uint8_t *answers, size_t answers_length, uint64_t out[4]);
+uint64_t siren_threshold_run_records(const uint8_t *image, size_t length, uint64_t faulty, const siren_call *calls, size_t count, uint64_t *state,
+                                     size_t state_length, uint8_t *answers, size_t answers_length, uint64_t out[4]);
 
 /* ---- The journal
  *
