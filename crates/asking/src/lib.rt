@@ -94,8 +94,8 @@ pub fn is_hopeless(receiver: usize, w: u64, known: &[u64; 4]) -> bool
     !masks::has(bounded(w, known[0], known[1]), receiver as u64)
 }
 
-// The set w, inside which the receiver belongs to no quorum, is put to the sets asked in vain. After 64 of them that were not bounded, the largest quorum inside
-// all of them together is searched for: it bounds them, and what is asked of sites that heard no more.
+// A set that was asked in vain is put to the others. After 64 that were not bounded, the largest quorum inside all of them together is searched for: it bounds
+// them, and what is asked of sites that heard no more.
 pub fn note(table: &[u64], n: usize, w: u64, known: &mut [u64; 4])
     requires { ⌜ Rows (now table) n ⌝ }
     requires { ⌜ Known (rowQuestions (now table) n) (now known) ⌝ }

@@ -1,17 +1,21 @@
--- A site that has heard nothing of either side, and is in none of the six masks: no clause of 18 is against it.
+-- A site that has heard nothing of either side, and is in none of the six masks: no clause of 18 is against it; and a site by its sides.
 use Prim.Native.Nat.{ℕ, _<_}
 use mathlib.Core.Bool.{Bool, true, false, _&&_, not}
 use mathlib.Core.List.{List}
+use mathlib.Core.Logic.{⊎-elim}
 use mathlib.Core.Path.{_≡_, refl, sym, ap, _∙_, subst}
+use native.Mathlib.Omega.{arith}
 use lib.Bits.{bitOr}
 use lib.Dec.{eqb}
 use borrow.Author.Tests.{eqb-true, eq-eqb, ne-eqb}
 use Rattle.ground.proofs.Logic.{and-l, and-r, is-false, clash, not-t}
-use Rattle.ground.proofs.Some.{some-of}
+use Rattle.ground.proofs.Numbers.{same?}
+use Rattle.ground.proofs.Some.{none-each}
 use Rattle.ground.specs.Search.{some}
 use Rattle.masks.proofs.Laws.Subsets.{⊆-trans, ⊆-antisym, ⊆-zero, mem, or-⊆-l, or-⊆-r}
 use Rattle.masks.specs.Mask.{has, _⊆_}
 use Rattle.rules.proofs.Silent.{silent}
+use Rattle.rules.proofs.Ways.{site-drill, site-live}
 use Rattle.rules.specs.Sound.{notZero, badSide, badSite}
 use Rattle.rules.specs.State.{votes, accepts, voted, accepted, confirmed, get}
 use Rattle.rules.specs.Theorems.{Rests}
@@ -106,13 +110,18 @@ module _ {S : ℕ → Fbqs} {Q : Questions} {n : ℕ} (R : Rests S Q n) (F : ℕ
     unfolding badSite
     silent-site = sym (rw (drill, live) refl)
 
--- a bad site has a bad side
+-- the sides one after the other: none before is bad
 module _ (Q : Questions) (n F : ℕ) (s : List ℕ) (v : ℕ) where
-  pub two-sides : some 2 (badSide Q n F s v) ≡ badSite Q n F s v
-  unfolding badSite some
-  two-sides = refl
+  abbrev bad : ℕ → Bool
+  bad = badSide Q n F s v
+
+  pub sides-good : some 2 bad ≡ false → false ≡ badSite Q n F s v
+  sides-good e = site-live Q n F s v (sym (none-each 2 bad 0 e (omega arith))) refl (sym (none-each 2 bad 1 e (omega arith)))
 
   -- d is what the test of a side said
-  module _ {side : ℕ} {d : Bool} (ed : d ≡ badSide Q n F s v side) where
-    pub sides-bad : side < 2 → d ≡ true → true ≡ badSite Q n F s v
-    sides-bad h t = sym (sym two-sides ∙ some-of 2 (badSide Q n F s v) h (sym ed ∙ t))
+  pub sides-bad : {side : ℕ} {d : Bool} → d ≡ badSide Q n F s v side → some side bad ≡ false → side < 2 → d ≡ true → true ≡ badSite Q n F s v
+  sides-bad {side} {d} ed e h t =
+      ⊎-elim (λ z. site-drill Q n F s v (ed ∙ ap bad z) t)
+      (λ z.
+      let one : side ≡ 1 = omega (arith, h, z) in
+      site-live Q n F s v (sym (none-each side bad 0 e (omega (arith, z)))) refl (sym t ∙ ed ∙ ap bad one)) (same? side 0)

@@ -10,7 +10,7 @@ use Rattle.ground.proofs.Some.{some-none, some-more}
 use Rattle.ground.specs.Search.{some}
 use Rattle.rules.proofs.WorkWays.{rows-rests}
 use Rattle.rules.specs.Sound.{badSide}
-use Rattle.bad_sites.proofs.SilentLaws.{silent-site, two-sides, sides-bad}
+use Rattle.bad_sites.proofs.SilentLaws.{silent-site, sides-good, sides-bad}
 use Rattle.bad_sites.proofs.is_bad_site.Statement.{statement}
 use Rattle.bad_sites.proofs.is_bad_site.Tie as tie
 use Rattle.sets.specs.Inner.Rows.{rowQuestions}
@@ -44,7 +44,7 @@ returns-2 : tie.Need-returns-2 Inv-loop μ-loop
 returns-2 c =
     let a = c .before .before .before .before .before .before .before .before .before .args in
     let r = c .before .is-bad-side .ensures in
-    (sides-bad (rowQuestions (now (a .table)) (a .n)) (a .n) (a .faulty) (now (a .state)) (a .v) (r .0) (c .before .before .before .loop-test .taken) (c .if2 .taken), r .1)
+    (sides-bad (rowQuestions (now (a .table)) (a .n)) (a .n) (a .faulty) (now (a .state)) (a .v) (r .0) (c .before .before .before .before .loop .inv .1) (c .before .before .before .loop-test .taken) (c .if2 .taken), r .1)
 
 loop-again : tie.Need-loop-again Inv-loop μ-loop
 loop-again c =
@@ -59,7 +59,7 @@ returns-3 c =
     let a = l .before .before .before .before .before .args in
     let Q = rowQuestions (now (a .table)) (a .n) in
     let e : l .loop .side ≡ 2 = omega (arith, l .loop .inv .0) in
-    (sym (sym (two-sides Q (a .n) (a .faulty) (now (a .state)) (a .v)) ∙ rw e at (l .loop .inv .1)), l .loop .inv .2)
+    (sides-good Q (a .n) (a .faulty) (now (a .state)) (a .v) (rw e at (l .loop .inv .1)), l .loop .inv .2)
 
 pub is-bad-site-spec : {M : Type 1} → statement M
 is-bad-site-spec =
