@@ -34,7 +34,7 @@ pub enum Phase {
     Wrong(Why),
 }
 
-// What a word does to the sets of the line: nothing; the root begins, an inner set begins; the innermost gets its threshold, a site.
+// What a word does to the sets of the line: nothing; the root begins, an inner set begins; the innermost gets its threshold, the sites of a mask.
 pub enum Deed {
     Nothing,
     Root,

@@ -3,7 +3,7 @@ use Prim.Native.Nat.{ℕ, _+_, _-_, _≤_, _<_}
 use mathlib.Core.Bool.{true, false}
 use mathlib.Core.Path.{_≡_, refl}
 use borrow.Author.Tests.{lt-ltb, le-ltb}
-use Rattle.masks.specs.Mask.{has}
+use Rattle.masks.specs.Mask.{has, single}
 use Rattle.refusals.specs.declared.Refusal.the-variants.{Slice, Nesting}
 use Rattle.refusals.specs.declared.Refusal.the-variants.{Count as Sets, Threshold as Unreachable}
 use Rattle.threshold_grammar.specs.Grammar.{doing, at, missed, onward}
@@ -23,7 +23,7 @@ module _ (s : Spot) (h : Held) (x : ℕ) where
   unfolding member
   member-twice l e = rw (lt-ltb x (s .n) l, e) refl
 
-  pub member-more : x < s .n → has (h .plain) x ≡ false → member s h x ≡ doing s (Site x) Members
+  pub member-more : x < s .n → has (h .plain) x ≡ false → member s h x ≡ doing s (Site (single x)) Members
   unfolding member
   member-more l e = rw (lt-ltb x (s .n) l, e) refl
 

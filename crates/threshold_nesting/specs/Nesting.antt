@@ -2,7 +2,7 @@
 use Prim.Native.Nat.{ℕ, _+_, _-_}
 use mathlib.Core.Bool.{Bool, _||_, not, cond}
 use lib.Dec.{eqb, ltb}
-use Rattle.masks.specs.Mask.{has, size}
+use Rattle.masks.specs.Mask.{has, single, size}
 use Rattle.refusals.specs.declared.Refusal.{Refusal}
 use Rattle.refusals.specs.declared.Refusal.the-variants.{Slice, Nesting}
 use Rattle.refusals.specs.declared.Refusal.the-variants.{Count as Sets, Threshold as Unreachable}
@@ -30,7 +30,7 @@ unfoldable pub member : Spot → Held → ℕ → Spot
 member s h x =
     cond (not (ltb x (s .n))) (broken s Slice)
     (cond (has (h .plain) x) (at s (Wrong Other))
-    (doing s (Site x) Members))
+    (doing s (Site (single x)) Members))
 
 -- an inner set begins: "a 50th set 4 (when its bracket opens)", "a bracket that opens a fifth level 22"; it stands behind all sets so far
 unfoldable pub opened : Spot → Held → Spot

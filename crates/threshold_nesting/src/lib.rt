@@ -40,7 +40,7 @@ fn member(s: Spot, h: Held, x: u64) -> Spot
     if masks::has(h.plain, x) {
         return threshold_grammar::at(s, Phase::Wrong(Why::Other));
     }
-    threshold_grammar::doing(s, Deed::Site(x), Phase::Members)
+    threshold_grammar::doing(s, Deed::Site(masks::single(x)), Phase::Members)
 }
 
 // An inner set begins.

@@ -4,12 +4,16 @@ use Prim.Native.Nat.{ℕ}
 use Rattle.threshold_grammar.specs.Grammar.{at}
 use Rattle.threshold_grammar.specs.declared.Phase.the-variants.{Wrong}
 use Rattle.threshold_grammar.specs.declared.Why.the-variants.{Rule}
+use Rattle.threshold_grammar.specs.Grammar.{doing}
+use Rattle.threshold_grammar.specs.declared.Deed.the-variants.{Site}
+use Rattle.threshold_grammar.specs.declared.Phase.the-variants.{Members}
 use Rattle.refusals.specs.declared.Refusal.the-variants.{Slice}
 use Rattle.threshold_nesting.proofs.Ways.{member-above, member-twice, member-more}
 use borrow.Author.Needs.{needs}
 use Rattle.threshold_nesting.proofs.member.Statement.{statement}
 use Rattle.threshold_nesting.proofs.member.Tie as tie
 use Rattle.masks.proofs.has.Reads as has-reads
+use Rattle.masks.proofs.single.Reads as single-reads
 use Rattle.threshold_grammar.proofs.at.Reads as at-reads
 use Rattle.threshold_grammar.proofs.doing.Reads as doing-reads
 use Rattle.threshold_grammar.proofs.own.Reads as own-reads
@@ -21,7 +25,7 @@ returns-2 : tie.Need-returns-2
 returns-2 c = c .at2 .ensures ∙ sym (member-twice _ _ _ (c .before .before .before .if1 .left) (sym (c .before .before .has .ensures) ∙ c .before .if2 .taken))
 
 returns-3 : tie.Need-returns-3
-returns-3 c = c .doing .ensures ∙ sym (member-more _ _ _ (c .before .before .before .if1 .left) (sym (c .before .before .has .ensures) ∙ c .before .if2 .left))
+returns-3 c = c .doing .ensures ∙ ap (λ (q : ℕ). doing (c .before .before .before .before .before .before .args .s) (Site q) Members) (c .before .single .ensures) ∙ sym (member-more _ _ _ (c .before .before .before .before .if1 .left) (sym (c .before .before .before .has .ensures) ∙ c .before .before .if2 .left))
 
 pub member-spec : {M : Type 1} → statement M
 member-spec =
@@ -33,5 +37,6 @@ member-spec =
     (λ c κs. search needs)
     (λ c κs. search needs)
     returns-2
+    (λ c κs. search needs)
     (λ c κs. search needs)
     returns-3)
