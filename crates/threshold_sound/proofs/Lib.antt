@@ -1,1 +1,3 @@
 pub mod Nest
+pub mod Row
+pub mod Lines

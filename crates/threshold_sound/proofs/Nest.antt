@@ -63,7 +63,7 @@ under-more N (p ∷ P) f = (omega (arith, f .0), under-more N P (f .1))
 fresh : (N : ℕ) (P es : List ℕ) (k : ℕ → ℕ) → under N P → plus P es k N ≡ k N
 fresh N [] es k f = refl
 fresh N (p ∷ P) [] k f = refl
-fresh N (p ∷ P) (e ∷ es) k f = rw (ne-eqb N p (λ z. omega (arith, z, f .0))) (fresh N P es k (f .1))
+fresh N (p ∷ P) (e ∷ es) k f = rw (ne-eqb N p (λ z. omega (arith, z, f .0))) (let y = fresh N P es k (f .1) in omega (arith, y))
 
 -- the first N sets: whatever the open ones get more is owed at their levels, and no set before stands past four levels
 abbrev pub Open : List ℕ → (ℕ → ℕ) → ℕ → Type 0
@@ -96,8 +96,9 @@ root-deep k (suc i) g es h = absurd (omega (arith, g))
 module _ (p N : ℕ) (P : List ℕ) (k l : ℕ → ℕ) (u : under N (p ∷ P)) (f : (j : ℕ) → j < N → l j ≡ cond (eqb j p) 1 0 + k j) (z : l N ≡ 0) where
   moved : (e d : ℕ) (r : List ℕ) (j : ℕ) → j < N → plus (N ∷ p ∷ P) (e ∷ d ∷ r) l j ≡ plus (p ∷ P) (suc d ∷ r) k j
   moved e d r j h =
-      rw (ne-eqb j N (λ y. omega (arith, y, h)))
-      (ap (λ (x : ℕ). cond (eqb j p) d 0 + x) (plus-one P r p k l j (f j h)) ∙ together (eqb j p) d (plus P r k j))
+      let a : cond (eqb j p) d 0 + plus P r l j ≡ cond (eqb j p) (suc d) 0 + plus P r k j =
+      ap (λ (x : ℕ). cond (eqb j p) d 0 + x) (plus-one P r p k l j (f j h)) ∙ together (eqb j p) d (plus P r k j) in
+      rw (ne-eqb j N (λ y. omega (arith, y, h))) (omega (arith, a))
 
   newest : (e d : ℕ) (r : List ℕ) → plus (N ∷ p ∷ P) (e ∷ d ∷ r) l N ≡ e
   newest e d r = rw (eq-eqb N N refl) (let y = fresh N (p ∷ P) (d ∷ r) l u in omega (arith, y, z))
