@@ -1,3 +1,4 @@
 pub mod Nest
 pub mod Row
 pub mod Lines
+pub mod Words

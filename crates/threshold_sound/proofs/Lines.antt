@@ -87,8 +87,8 @@ Begun s t = (1 ≤ s .v) × Done (s .n) (own (s .v)) t × Left (s .v) t × (E : 
 abbrev pub Good : Phase → Spot → List ℕ → Type 0
 Good Head s t = Left 0 t
 Good Count s t = Left 0 t
-Good Tail s t = Done (s .n) (s .v) t × Left (s .v) t
-Good Owner s t = Done (s .n) (s .v) t × Left (s .v) t
+Good Tail s t = (1 ≤ s .n) × Done (s .n) (s .v) t × Left (s .v) t
+Good Owner s t = (1 ≤ s .n) × Done (s .n) (s .v) t × Left (s .v) t
 Good Mark s t = (1 ≤ s .v) × Done (s .n) (own (s .v)) t × Left (own (s .v)) t × Says one s
 Good Threshold s t = Begun s t
 Good Of s t = Begun s t
@@ -202,14 +202,11 @@ module _ (s : Spot) (t : List ℕ) (sane : Sane s) (long : length t ≡ 9472) wh
   own-below : own (s .v) < 64
   own-below = omega (arith, sane .0, sane .1)
 
-  missed-good : Better (missed s) t
+  pub missed-good : Better (missed s) t
   unfolding missed
   missed-good = omega arith
 
-  wrong-good : (r : Spot) → (w : Phase) → r ≡ at s w → 0 ≤ s .n
-  wrong-good r w e = omega arith
-
-  rooted : Good Mark s t → Begun (doing s Root Threshold) (enacted Root s t)
+  pub rooted : Good Mark s t → Begun (doing s Root Threshold) (enacted Root s t)
   rooted f =
       let w = own (s .v) in
       let T = set t (countAt w) 1 in
@@ -233,10 +230,10 @@ module _ (s : Spot) (t : List ℕ) (sane : Sane s) (long : length t ≡ 9472) wh
   says-doing (four a b c) f r e = (e .0 ∙ f .0, e .1 ∙ f .1, e .2 ∙ f .2, e .3 ∙ f .3)
 
   -- the same sets, elsewhere in the line
-  moved : (p : Phase) → Begun s t → Begun (at s p) t
+  pub moved : (p : Phase) → Begun s t → Begun (at s p) t
   moved p f = (f .0, f .1, f .2, f .3, says-doing (f .3) (f .4) (at s p) (refl, refl, refl, refl), f .5)
 
-  least-good : (x : ℕ) → Begun s t → Begun (doing s (Least x) Of) (enacted (Least x) s t)
+  pub least-good : (x : ℕ) → Begun s t → Begun (doing s (Least x) Of) (enacted (Least x) s t)
   least-good x f =
       let w = own (s .v) in
       let a = 1 + 3 * s .set in
@@ -258,7 +255,7 @@ module _ (s : Spot) (t : List ℕ) (sane : Sane s) (long : length t ≡ 9472) wh
             (f .5),
       )
 
-  site-good : (x : ℕ) → x < s .n → Begun s t → Begun (doing s (Site (single x)) Members) (enacted (Site (single x)) s t)
+  pub site-good : (x : ℕ) → x < s .n → Begun s t → Begun (doing s (Site (single x)) Members) (enacted (Site (single x)) s t)
   site-good x below f =
       let w = own (s .v) in
       let a = 3 + 3 * s .set in
@@ -286,7 +283,7 @@ module _ (s : Spot) (t : List ℕ) (sane : Sane s) (long : length t ≡ 9472) wh
             (f .5),
       )
 
-  inner-good : held s t .sets ≤ 48 → s .depth ≤ 3 → Begun s t → Begun (inward s (held s t)) (enacted Inner (inward s (held s t)) t)
+  pub inner-good : held s t .sets ≤ 48 → s .depth ≤ 3 → Begun s t → Begun (inward s (held s t)) (enacted Inner (inward s (held s t)) t)
   inner-good room deep f =
       let w = own (s .v) in
       let a = 2 + 3 * s .set in
@@ -330,7 +327,7 @@ module _ (s : Spot) (t : List ℕ) (sane : Sane s) (long : length t ≡ 9472) wh
       let a = eqb-false (S .threshold (s .set)) 0 (z .0) in
       subst (λ (i : ℕ). Reached S i) (says-set E s f) (omega (arith, a), ltb-false (size (S .plain (s .set)) + S .inner (s .set)) (S .threshold (s .set)) (z .1))
 
-  back-good : 1 < s .depth → unreached (held s t) ≡ false → Begun s t → Begun (backward s) t
+  pub back-good : 1 < s .depth → unreached (held s t) ≡ false → Begun s t → Begun (backward s) t
   back-good deep e f =
       let g = shrink (f .3) s (f .4) deep in (
         f .0,
@@ -342,7 +339,7 @@ module _ (s : Spot) (t : List ℕ) (sane : Sane s) (long : length t ≡ 9472) wh
             (row-closed (s .n) (inmost (f .3)) (outer (f .3)) (setsOf t (own (s .v))) (reached (f .3) (f .4) e) (f .5)),
       )
 
-  end-good : s .depth ≤ 1 → unreached (held s t) ≡ false → Begun s t → Done (s .n) (s .v) t × Left (s .v) t
+  pub end-good : s .depth ≤ 1 → unreached (held s t) ≡ false → Begun s t → Done (s .n) (s .v) t × Left (s .v) t
   end-good flat e f =
       let w = own (s .v) in
       let r = subst (λ (Q : List ℕ). Row (s .n) Q (setsOf t w)) (sole (f .3) s (f .4) flat)
