@@ -1,11 +1,14 @@
 // A site's sets as a row of 63 numbers: whether the root is met, and the row that a block gives.
+ghost use mathlib.Core.Bool.{cond};
+ghost use mathlib.Core.List.{_++_};
 ghost use mathlib.Core.Path.{_≡_};
 ghost use Prim.Native.Nat.{_<_, _≤_};
 ghost use lib.Bits.{bitAnd};
-ghost use lib.ListN.{length, getD};
+ghost use lib.Dec.{leb};
+ghost use lib.ListN.{length, getD, drop};
 ghost use Rattle.masks.specs.Mask.{size};
 ghost use Rattle.threshold_sets.specs.Met.{members, setAt, met};
-ghost use Rattle.threshold_row.specs.Inner.Row.{pairIn, setsOf, rowOf};
+ghost use Rattle.threshold_row.specs.Inner.Row.{pairIn, setsOf, fourAt, masksOf, rowOf};
 ghost use Rattle.threshold_row.specs.Inner.Seen.{Says};
 
 // How many sets are met, and the place behind them.
@@ -30,7 +33,17 @@ fn pair(m: &[u64], i: usize) -> u64
     (m[50 + i / 4] >> (16 * (i % 4)) as u64) % 65536
 }
 
-// Set i, with so many levels left: it is met through its members.
+// A set with this threshold of which so many are met or present, and the place behind it.
+fn reached(threshold: u64, many: u64, next: usize) -> Seen
+    ensures { λ r. ⌜ (r .met ≡ cond (leb threshold many) 1 0) × (r .next ≡ next) × (r .met ≤ 1) ⌝ }
+{
+    if threshold <= many {
+        return Seen { met: 1, next };
+    }
+    Seen { met: 0, next }
+}
+
+// Set i, with so many levels left: it is met through its members. One without inner sets asks nobody.
 fn set_at(m: &[u64], many: usize, u: u64, levels: u64, i: usize) -> Seen
     requires { ⌜ length (now m) ≡ 63 ⌝ }
     requires { ⌜ many ≡ setsOf (now m) .count ⌝ }
@@ -45,13 +58,12 @@ fn set_at(m: &[u64], many: usize, u: u64, levels: u64, i: usize) -> Seen
         };
     }
     let two = pair(m, i);
-    let below = members_at(m, many, u, levels - 1, i + 1, two / 256);
     let here = present(m[1 + i], u);
-    let next = below.next;
-    if two % 256 <= here + below.met {
-        return Seen { met: 1, next };
+    if two < 256 {
+        return reached(two % 256, here, i + 1);
     }
-    Seen { met: 0, next }
+    let below = members_at(m, many, u, levels - 1, i + 1, two / 256);
+    reached(two % 256, here + below.met, below.next)
 }
 
 // The k sets from place i on: members are met through their sets.
@@ -88,11 +100,24 @@ pub fn is_met(m: &[u64], u: u64) -> bool
     root.met == 1
 }
 
-// The row of the sets that a block holds.
-pub fn load_row(b: &[u8], m: &mut [u64])
+// Threshold and number of inner sets of the sets 4 k to 4 k + 3 of a block, in one number.
+fn four(b: &[u8], k: usize) -> u64
+    requires { ⌜ length (now b) ≡ 512 ⌝ }
+    requires { ⌜ k < 12 ⌝ }
+    ensures { λ r. ⌜ r ≡ fourAt (now (b .entry)) k ⌝ }
+{
+    let at = 8 + 40 * k;
+    le::get16(b, at) as u64
+        + (65536 * (le::get16(b, at + 10) as u64)
+            + (4294967296 * (le::get16(b, at + 20) as u64)
+                + 281474976710656 * (le::get16(b, at + 30) as u64)))
+}
+
+// The count and the 49 masks of a block's row.
+fn load_masks(b: &[u8], m: &mut [u64])
     requires { ⌜ length (now b) ≡ 512 ⌝ }
     requires { ⌜ length (now m) ≡ 63 ⌝ }
-    ensures { λ r. ⌜ now (m .exit) ≡ rowOf (now (b .entry)) ⌝ }
+    ensures { λ r. ⌜ now (m .exit) ≡ masksOf (now (b .entry)) 49 ++ drop 50 (now (m .entry)) ⌝ }
 {
     m[0] = 64 + le::get16(b, 4) as u64;
     let mut i: usize = 0;
@@ -100,13 +125,18 @@ pub fn load_row(b: &[u8], m: &mut [u64])
         m[1 + i] = le::get64(b, 10 + 10 * i);
         i += 1;
     }
+}
+
+// The row of the sets that a block holds.
+pub fn load_row(b: &[u8], m: &mut [u64])
+    requires { ⌜ length (now b) ≡ 512 ⌝ }
+    requires { ⌜ length (now m) ≡ 63 ⌝ }
+    ensures { λ r. ⌜ now (m .exit) ≡ rowOf (now (b .entry)) ⌝ }
+{
+    load_masks(b, m);
     let mut k: usize = 0;
     while k < 12 {
-        let at = 8 + 40 * k;
-        m[50 + k] = le::get16(b, at) as u64
-            + (65536 * (le::get16(b, at + 10) as u64)
-                + (4294967296 * (le::get16(b, at + 20) as u64)
-                    + 281474976710656 * (le::get16(b, at + 30) as u64)));
+        m[50 + k] = four(b, k);
         k += 1;
     }
     m[62] = le::get16(b, 488) as u64;

@@ -4,3 +4,4 @@ pub mod Alike
 pub mod Present
 pub mod Ways
 pub mod Exact
+pub mod Examples

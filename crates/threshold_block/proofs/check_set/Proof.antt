@@ -25,16 +25,15 @@ returns-2 c =
 
 returns-3 : tie.Need-returns-3
 returns-3 c =
-    let p = c in
-    let y = p .before .before .before .before in
+    let y = c .before .before .before .before in
     let t = y .before .before .before in
     let a = t .before .before .before .before .before .args in
     let S = setsIn (now (a .b)) in
-    let e : p .before .before .before .size .result ≡ size (S .plain (a .i)) = p .before .before .before .size .ensures ∙ ap size (t .before .before .before .get64 .ensures) in
-    let x = p .before .wide2 .ensures .0 in
+    let e : c .before .before .before .size .result ≡ size (S .plain (a .i)) = c .before .before .before .size .ensures ∙ ap size (t .before .before .before .get64 .ensures) in
+    let x = c .before .wide2 .ensures .0 in
     let z = y .before .wide .ensures .0 in
     sym (threshold-above (a .n) (a .place) S (a .i)
-    (ap₂ within (sym (t .before .before .before .get64 .ensures)) (sym (t .before .before .all-below .ensures)) ∙ sym (t .before .within .ensures) ∙ not-false _ (t .if1 .left)) (omega (arith, e, x, z, p .if3 .taken)))
+    (ap₂ within (sym (t .before .before .before .get64 .ensures)) (sym (t .before .before .all-below .ensures)) ∙ sym (t .before .within .ensures) ∙ not-false _ (t .if1 .left)) (omega (arith, e, x, z, c .if3 .taken)))
 
 returns-4 : tie.Need-returns-4
 returns-4 c =
@@ -47,8 +46,9 @@ returns-4 c =
     let x = p .before .wide2 .ensures .0 in
     let z = y .before .wide .ensures .0 in
     let d = t .before .before .before .before .before .pre .1 .1 .1 in
-    sym (after-root (a .n) (a .place) S (a .i)
-    (ap₂ within (sym (t .before .before .before .get64 .ensures)) (sym (t .before .before .all-below .ensures)) ∙ sym (t .before .within .ensures) ∙ not-false _ (t .if1 .left)) (λ g. y .if2 .left (z ∙ g)) (omega (arith, e, x, z, p .if3 .left)) (sym d ∙ c .if4 .taken))
+    let inside =
+    ap₂ within (sym (t .before .before .before .get64 .ensures)) (sym (t .before .before .all-below .ensures)) ∙ sym (t .before .within .ensures) ∙ not-false _ (t .if1 .left) in
+    sym (after-root (a .n) (a .place) S (a .i) inside (λ g. y .if2 .left (z ∙ g)) (omega (arith, e, x, z, p .if3 .left)) (sym d ∙ c .if4 .taken))
 
 returns-5 : tie.Need-returns-5
 returns-5 c =
@@ -61,8 +61,9 @@ returns-5 c =
     let x = p .before .wide2 .ensures .0 in
     let z = y .before .wide .ensures .0 in
     let d = t .before .before .before .before .before .pre .1 .1 .1 in
-    sym (too-deep (a .n) (a .place) S (a .i)
-    (ap₂ within (sym (t .before .before .before .get64 .ensures)) (sym (t .before .before .all-below .ensures)) ∙ sym (t .before .within .ensures) ∙ not-false _ (t .if1 .left)) (λ g. y .if2 .left (z ∙ g)) (omega (arith, e, x, z, p .if3 .left)) (omega (arith, d, c .if5 .taken)))
+    let inside =
+    ap₂ within (sym (t .before .before .before .get64 .ensures)) (sym (t .before .before .all-below .ensures)) ∙ sym (t .before .within .ensures) ∙ not-false _ (t .if1 .left) in
+    sym (too-deep (a .n) (a .place) S (a .i) inside (λ g. y .if2 .left (z ∙ g)) (omega (arith, e, x, z, p .if3 .left)) (omega (arith, d, c .if5 .taken)))
 
 returns-6 : tie.Need-returns-6
 returns-6 c =
@@ -75,8 +76,9 @@ returns-6 c =
     let x = p .before .wide2 .ensures .0 in
     let z = y .before .wide .ensures .0 in
     let d = t .before .before .before .before .before .pre .1 .1 .1 in
-    sym (well-placed (a .n) (a .place) S (a .i)
-    (ap₂ within (sym (t .before .before .before .get64 .ensures)) (sym (t .before .before .all-below .ensures)) ∙ sym (t .before .within .ensures) ∙ not-false _ (t .if1 .left)) (λ g. y .if2 .left (z ∙ g)) (omega (arith, e, x, z, p .if3 .left)) (λ g. c .before .if4 .left (d ∙ g)) (omega (arith, d, c .if5 .left)))
+    let inside =
+    ap₂ within (sym (t .before .before .before .get64 .ensures)) (sym (t .before .before .all-below .ensures)) ∙ sym (t .before .within .ensures) ∙ not-false _ (t .if1 .left) in
+    sym (well-placed (a .n) (a .place) S (a .i) inside (λ g. y .if2 .left (z ∙ g)) (omega (arith, e, x, z, p .if3 .left)) (λ g. c .before .if4 .left (d ∙ g)) (omega (arith, d, c .if5 .left)))
 
 pub check-set-spec : {M : Type 1} → statement M
 check-set-spec =

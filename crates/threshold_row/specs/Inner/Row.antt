@@ -28,6 +28,10 @@ pairAt b i = field 2 b (8 + 10 * i)
 abbrev pub fourAt : List ℕ → ℕ → ℕ
 fourAt b k = pairAt b (4 * k) + (65536 * pairAt b (4 * k + 1) + (4294967296 * pairAt b (4 * k + 2) + 281474976710656 * pairAt b (4 * k + 3)))
 
--- the row of the sets that the block b holds
+-- the row of the sets that the block b holds; its first 1 + k numbers are the count and k masks
+unfoldable pub masksOf : List ℕ → ℕ → List ℕ
+masksOf b k = (64 + countField b) ∷ cat (λ i. field 8 b (10 + 10 * i) ∷ []) k
+
 unfoldable pub rowOf : List ℕ → List ℕ
-rowOf b = (64 + countField b ∷ cat (λ i. field 8 b (10 + 10 * i) ∷ []) 49) ++ (cat (λ k. fourAt b k ∷ []) 12 ++ (pairAt b 48 ∷ []))
+unfolding masksOf
+rowOf b = masksOf b 49 ++ (cat (λ k. fourAt b k ∷ []) 12 ++ (pairAt b 48 ∷ []))

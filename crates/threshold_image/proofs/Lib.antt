@@ -1,0 +1,4 @@
+pub mod Length
+pub mod Rows
+pub mod Exact
+pub mod Coincide

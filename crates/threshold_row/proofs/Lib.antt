@@ -1,0 +1,4 @@
+pub mod SetLaws
+pub mod Load
+pub mod Loaded
+pub mod Coincide
