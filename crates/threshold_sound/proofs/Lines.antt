@@ -68,7 +68,7 @@ says-set (four a b c) s f = f .1
 
 -- lines that are complete, and lines that are not begun
 abbrev pub Full : ℕ → ThresholdSets → Type 0
-Full n S = SoundSets n S × ((i : ℕ) → S .count ≤ i → i < 49 → Unused S i)
+Full n S = SoundSets n S × ((i : ℕ) → S .count ≤ i → i < 49 → Unused S i) × ((i : ℕ) → i < 49 → S .inner i < S .count)
 
 abbrev pub Blank : ThresholdSets → Type 0
 Blank S = (S .count ≡ 0) × ((i : ℕ) → i < 49 → Unused S i)
@@ -129,6 +129,7 @@ full-alike n S T a f = (
   sound-alike a (f .0 .few-sets) (f .0),
   (λ i g l. let x = f .1 i (omega (arith, g, a .count-alike)) l in
       (sym (a .threshold-alike i l) ∙ x .0, sym (a .inner-alike i l) ∙ x .1, sym (a .plain-alike i l) ∙ x .2)),
+  (λ i l. omega (arith, f .2 i l, a .inner-alike i l, a .count-alike)),
 )
 
 blank-alike : (S T : ThresholdSets) → Agree 49 S T → Blank S → Blank T
@@ -344,7 +345,7 @@ module _ (s : Spot) (t : List ℕ) (sane : Sane s) (long : length t ≡ 9472) wh
       let w = own (s .v) in
       let r = subst (λ (Q : List ℕ). Row (s .n) Q (setsOf t w)) (sole (f .3) s (f .4) flat)
       (row-closed (s .n) (inmost (f .3)) (outer (f .3)) (setsOf t w) (reached (f .3) (f .4) e) (f .5)) in
-      let full : Full (s .n) (setsOf t w) = (row-sound (s .n) (setsOf t w) r, r .unused) in
+      let full : Full (s .n) (setsOf t w) = (row-sound (s .n) (setsOf t w) r, r .unused, r .kids) in
       ((λ u h. same-or (λ (x : ℕ). Full (s .n) (setsOf t x)) u w full (λ g. f .1 u (nearer u h g))), f .2)
     where
       nearer : (u : ℕ) → u < s .v → (u ≡ own (s .v) → ⊥) → u < own (s .v)

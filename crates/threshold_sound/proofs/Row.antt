@@ -35,6 +35,7 @@ pub record Row (n : ℕ) (P : List ℕ) (S : ThresholdSets) : Type 0 where
   pub inside : under (S .count) P
   pub owing : Open P (S .inner) (S .count)
   pub deep : Deep P (S .inner) (S .count)
+  pub kids : (i : ℕ) → i < 49 → S .inner i < S .count
   pub sites : (i : ℕ) → i < 49 → S .plain i ⊆ allBelow n
   pub reached : (i : ℕ) → i < S .count → away i P → Reached S i
   pub unused : (i : ℕ) → S .count ≤ i → i < 49 → Unused S i
@@ -47,6 +48,7 @@ row-root n T e f = record {
   inside = (omega (arith, e), omega arith);
   owing = subst (λ (c : ℕ). Open (0 ∷ []) (T .inner) c) (sym e) (root-open (T .inner) (f 0 (omega arith) .1));
   deep = subst (λ (c : ℕ). Deep (0 ∷ []) (T .inner) c) (sym e) (root-deep (T .inner));
+  kids = λ i l. omega (arith, e, f i l .1);
   sites = λ i l. subst (λ (q : ℕ). q ⊆ allBelow n) (sym (f i l .2)) (⊆-zero (allBelow n));
   reached = λ i l a. absurd (a .0 (omega (arith, l, e)));
   unused = λ i g l. f i l;
@@ -74,6 +76,7 @@ module _ (n p : ℕ) (P : List ℕ) (S T : ThresholdSets) (few : length P ≤ 2)
         (inner-open p (S .count) P (S .inner) (T .inner) (r .inside) (λ j h. b j (omega (arith, h, room))) newest (r .owing));
     deep = subst (λ (c : ℕ). Deep (S .count ∷ p ∷ P) (T .inner) c) (sym grown)
         (inner-deep p (S .count) P (S .inner) (T .inner) (r .inside) (λ j h. b j (omega (arith, h, room))) newest few (r .owing) (r .deep));
+    kids = λ i l. let y = at-most (eqb i p) in omega (arith, e, b i l, r .kids i l, y);
     sites = λ i l. subst (λ (q : ℕ). q ⊆ allBelow n) (sym (d i l)) (r .sites i l);
     reached = λ i l w.
         let h : i < S .count = other i (S .count) (omega (arith, l, e)) (w .0) in
@@ -87,6 +90,10 @@ module _ (n p : ℕ) (P : List ℕ) (S T : ThresholdSets) (few : length P ≤ 2)
         (a i l ∙ x .0, elsewhere i l (λ y. omega (arith, y, g, e, r .inside .0)) ∙ x .1, d i l ∙ x .2);
   }
     where
+      at-most : (x : Bool) → cond x 1 0 ≤ 1
+      at-most true = omega arith
+      at-most false = omega arith
+
       other : (i m : ℕ) → i < m + 1 → (i ≡ m → ⊥) → i < m
       other i m h f = ⊎-elim (λ y. absurd (f (eqb-true i m y))) (λ y. let z = eqb-false i m y in omega (arith, z, h)) (cases (eqb i m))
 
@@ -100,6 +107,7 @@ row-changed n p P S T e a b d s r = record {
   inside = subst (λ (c : ℕ). under c (p ∷ P)) (sym e) (r .inside);
   owing = subst (λ (c : ℕ). Open (p ∷ P) (T .inner) c) (sym e) (open-alike (p ∷ P) (T .inner) (S .inner) (S .count) (λ j h. b j (omega (arith, h, r .few-sets))) (r .owing));
   deep = subst (λ (c : ℕ). Deep (p ∷ P) (T .inner) c) (sym e) (deep-alike (p ∷ P) (T .inner) (S .inner) (S .count) (λ j h. b j (omega (arith, h, r .few-sets))) (r .deep));
+  kids = λ i l. omega (arith, e, b i l, r .kids i l);
   sites = s;
   reached = λ i l w.
       let m : i < 49 = omega (arith, l, e, r .few-sets) in
@@ -120,6 +128,7 @@ row-closed n p P S f r = record {
   inside = r .inside .1;
   owing = close-open p (S .count) P (S .inner) (r .owing);
   deep = close-deep p (S .count) P (S .inner) (r .deep);
+  kids = r .kids;
   sites = r .sites;
   reached = λ i l w. ⊎-elim (λ y. subst (λ (x : ℕ). Reached S x) (sym (eqb-true i p y)) f) (λ y. r .reached i l (eqb-false i p y, w)) (cases (eqb i p));
   unused = r .unused;
