@@ -40,7 +40,10 @@ fn answer_of(s: Spot) -> Made
     if is_whole(p, s.v < s.n) {
         return Made::Sites(s.n);
     }
-    Made::Fault(s.line, threshold_grammar::expected(p, s.v < s.n, 1 < s.depth))
+    Made::Fault(
+        s.line,
+        threshold_grammar::expected(p, s.v < s.n, 1 < s.depth),
+    )
 }
 
 // How many blocks the image has.

@@ -35,7 +35,10 @@ fn member(s: Spot, h: Held, x: u64) -> Spot
     ensures { λ r. ⌜ r ≡ member s h x ⌝ }
 {
     if s.n <= x {
-        return threshold_grammar::at(s, Phase::Wrong(Why::Rule(Refusal::Slice(threshold_grammar::own(s.v)))));
+        return threshold_grammar::at(
+            s,
+            Phase::Wrong(Why::Rule(Refusal::Slice(threshold_grammar::own(s.v)))),
+        );
     }
     if masks::has(h.plain, x) {
         return threshold_grammar::at(s, Phase::Wrong(Why::Other));
@@ -48,10 +51,16 @@ fn opened(s: Spot, h: Held) -> Spot
     ensures { λ r. ⌜ r ≡ opened s h ⌝ }
 {
     if 48 < h.sets {
-        return threshold_grammar::at(s, Phase::Wrong(Why::Rule(Refusal::Count(threshold_grammar::own(s.v)))));
+        return threshold_grammar::at(
+            s,
+            Phase::Wrong(Why::Rule(Refusal::Count(threshold_grammar::own(s.v)))),
+        );
     }
     if 3 < s.depth {
-        return threshold_grammar::at(s, Phase::Wrong(Why::Rule(Refusal::Nesting(threshold_grammar::own(s.v)))));
+        return threshold_grammar::at(
+            s,
+            Phase::Wrong(Why::Rule(Refusal::Nesting(threshold_grammar::own(s.v)))),
+        );
     }
     Spot {
         line: s.line,
@@ -75,7 +84,10 @@ fn closed(s: Spot, h: Held) -> Spot
         return threshold_grammar::missed(s);
     }
     if unreached(h) {
-        return threshold_grammar::at(s, Phase::Wrong(Why::Rule(Refusal::Threshold(threshold_grammar::own(s.v)))));
+        return threshold_grammar::at(
+            s,
+            Phase::Wrong(Why::Rule(Refusal::Threshold(threshold_grammar::own(s.v)))),
+        );
     }
     Spot {
         line: s.line,
@@ -100,7 +112,10 @@ fn completed(s: Spot, h: Held) -> Spot
         return threshold_grammar::missed(s);
     }
     if unreached(h) {
-        return threshold_grammar::at(s, Phase::Wrong(Why::Rule(Refusal::Threshold(threshold_grammar::own(s.v)))));
+        return threshold_grammar::at(
+            s,
+            Phase::Wrong(Why::Rule(Refusal::Threshold(threshold_grammar::own(s.v)))),
+        );
     }
     threshold_grammar::onward(s, Phase::Owner)
 }

@@ -122,5 +122,10 @@ pub fn walk(text: &[u8], t: &mut [u64]) -> Spot
         w = threshold_words::turn(c, w, b);
         i += 1;
     }
-    hear(threshold_words::closing(w), threshold_words::stopped(w), s, t)
+    hear(
+        threshold_words::closing(w),
+        threshold_words::stopped(w),
+        s,
+        t,
+    )
 }

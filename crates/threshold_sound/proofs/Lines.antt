@@ -280,7 +280,7 @@ module _ (s : Spot) (t : List ℕ) (sane : Sane s) (long : length t ≡ 9472) wh
             (λ i h. getD-set-other t (148 * w + a) (innerAt w i) y 0 (λ e. twentythree w i (s .set) e))
             (λ i h g. other i (λ e. g (e ∙ p)))
             (λ i h. same-or (λ (j : ℕ). getD T (plainAt w j) 0 ⊆ allBelow (s .n)) i (s .set) new
-                (λ g. subst (λ (q : ℕ). q ⊆ allBelow (s .n)) (sym (other i g)) (f .5 .sites i h)))
+            (λ g. subst (λ (q : ℕ). q ⊆ allBelow (s .n)) (sym (other i g)) (f .5 .sites i h)))
             (f .5),
       )
 

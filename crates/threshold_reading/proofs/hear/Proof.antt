@@ -19,9 +19,13 @@ step-requires-2 c κs = let p = c .before .before .before .before .before .befor
     let a = c .before .before .before .before .before .before .before .before .args in
     let t = c .before .before .before .before .step .ensures in
     let k = c .before .before .before .before .before .before .ended .ensures in
-    let l = line₁ (a .c) (a .w) (a .s) _ (now (a .t)) _ _ k (t .0) (t .1) (p .1 .0) in
-    (length₁ (a .c) (a .w) (a .s) _ (now (a .t)) _ _ k (t .0) (t .1) (p .1 .0) ∙ p .0, (sane₁ (a .c) (a .w) (a .s) _ (now (a .t)) _ _ k (t .0) (t .1) (p .1 .0),
-    (omega (arith, l), few₁ (a .c) (a .w) (a .s) _ (now (a .t)) _ _ k (t .0) (t .1) (p .1 .0) (2 ^ 63) (p .1 .1 .1))))
+    let l = line₁ (a .c) (a .w) (a .s) _ (now (a .t)) _ _ k (t .0) (t .1) (p .1 .0) in (
+      length₁ (a .c) (a .w) (a .s) _ (now (a .t)) _ _ k (t .0) (t .1) (p .1 .0) ∙ p .0,
+      (
+        sane₁ (a .c) (a .w) (a .s) _ (now (a .t)) _ _ k (t .0) (t .1) (p .1 .0),
+        (omega (arith, l), few₁ (a .c) (a .w) (a .s) _ (now (a .t)) _ _ k (t .0) (t .1) (p .1 .0) (2 ^ 63) (p .1 .1 .1)),
+      ),
+    )
 
 returns : tie.Need-returns
 returns c = let p = c .before .before .before .before .before .before .before .before .before .before .before .pre in

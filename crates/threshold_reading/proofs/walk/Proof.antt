@@ -22,8 +22,6 @@ use Rattle.threshold_words.proofs.sign_of.Reads as sign-of-reads
 use Rattle.threshold_words.proofs.stopped.Reads as stopped-reads
 use Rattle.threshold_words.proofs.turn.Reads as turn-reads
 
-
-
 -- what is left to read gives what the whole text gives
 abbrev Inv-loop : tie.InvT-loop
 Inv-loop text t₀ w₀ s₀ i₀ t w s i =
