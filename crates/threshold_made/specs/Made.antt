@@ -9,7 +9,7 @@ use Rattle.threshold_grammar.specs.Grammar.{expected}
 use Rattle.threshold_grammar.specs.declared.Phase.{Phase}
 use Rattle.threshold_grammar.specs.declared.Phase.the-variants.{Head, Count, Tail, Owner, Mark, Threshold, Of, Members, Wrong}
 use Rattle.threshold_grammar.specs.declared.Spot.{Spot}
-use Rattle.threshold_reading.specs.Lines.{setsOf}
+use Rattle.threshold_reading.specs.Lines.{lineSets}
 use Rattle.threshold_reading.specs.Reading.{Here, textRead}
 use Rattle.threshold_write.specs.Store.{storeSets}
 use Rattle.threshold_made.specs.declared.Made.{Made}
@@ -39,14 +39,14 @@ unfoldable pub madeOf : List ℕ → Here
 unfolding textRead
 madeOf text = textRead text (replicate 9472 0)
 
-abbrev pub blocksIn : Made → ℕ
-blocksIn (Sites n) = n
-blocksIn (Fault line why) = 0
-blocksIn Room = 0
+abbrev pub thresholdBlocksIn : Made → ℕ
+thresholdBlocksIn (Sites n) = n
+thresholdBlocksIn (Fault line why) = 0
+thresholdBlocksIn Room = 0
 
 -- 9: "room lent too short"
 abbrev pub orShort : ℕ → Made → Made
-orShort room m = cond (ltb room (512 * blocksIn m)) Room m
+orShort room m = cond (ltb room (512 * thresholdBlocksIn m)) Room m
 
 -- the answer for a text and a room of so many bytes
 unfoldable pub made : List ℕ → ℕ → Made
@@ -56,16 +56,16 @@ made text room = orShort room (answerOf (madeOf text .spot))
 -- the first k blocks of a table of n sites, whose sets the lines hold
 unfoldable pub imageTo : ℕ → List ℕ → ℕ → List ℕ
 unfolding storeSets cat
-imageTo n lines k = cat (λ v. storeSets n v (setsOf lines v)) k
+imageTo n lines k = cat (λ v. storeSets n v (lineSets lines v)) k
 
 -- the room after it: the image in its first bytes and the rest kept; where there is none all is kept
 unfoldable pub leaves : List ℕ → List ℕ → List ℕ
 unfolding made madeOf imageTo
 leaves text room =
-    let k = blocksIn (made text (length room)) in
+    let k = thresholdBlocksIn (made text (length room)) in
     imageTo k (madeOf text .lines) k ++ drop (512 * k) room
 
 -- the image that a text is
-unfoldable pub imageIn : List ℕ → List ℕ
+unfoldable pub thresholdImageIn : List ℕ → List ℕ
 unfolding answerOf madeOf imageTo
-imageIn text = let k = blocksIn (answerOf (madeOf text .spot)) in imageTo k (madeOf text .lines) k
+thresholdImageIn text = let k = thresholdBlocksIn (answerOf (madeOf text .spot)) in imageTo k (madeOf text .lines) k

@@ -3,7 +3,7 @@ ghost use mathlib.Core.List.{_++_};
 ghost use mathlib.Core.Path.{_≡_};
 ghost use Prim.Native.Nat.{_*_, _≤_};
 ghost use lib.ListN.{length, drop};
-ghost use Rattle.threshold_made.specs.Made.{isWhole, answerOf, blocksIn, imageTo, made, leaves};
+ghost use Rattle.threshold_made.specs.Made.{isWhole, answerOf, thresholdBlocksIn, imageTo, made, leaves};
 use threshold_grammar::Phase;
 use threshold_grammar::Spot;
 use threshold_grammar::Why;
@@ -48,7 +48,7 @@ fn answer_of(s: Spot) -> Made
 
 // How many blocks the image has.
 fn blocks_in(m: Made) -> u64
-    ensures { λ r. ⌜ r ≡ blocksIn m ⌝ }
+    ensures { λ r. ⌜ r ≡ thresholdBlocksIn m ⌝ }
 {
     match m {
         Made::Sites(n) => n,

@@ -16,7 +16,7 @@ use Rattle.threshold_grammar.specs.declared.Deed.the-variants.{Nothing, Root, I
 use Rattle.threshold_grammar.specs.declared.Phase.{Phase}
 use Rattle.threshold_grammar.specs.declared.Phase.the-variants.{Head, Count, Tail, Owner, Mark, Threshold, Of, Members, Wrong}
 use Rattle.threshold_grammar.specs.declared.Spot.{Spot}
-use Rattle.threshold_nesting.specs.Nesting.{unreached, member, opened, closed, completed, numbered, opening, closing, lineEnd, spoken}
+use Rattle.threshold_nesting.specs.Nesting.{unreached, member, openedSet, closedSet, completed, numbered, openingSet, closingSet, lineEnd, spoken}
 use Rattle.threshold_nesting.specs.declared.Held.{Held}
 
 -- how many inner sets a word begins
@@ -107,15 +107,15 @@ member-after s h x f =
     either (not (ltb x (s .n))) s _ _ (λ e. at-after s _ f)
     (λ e. either (has (h .plain) x) s _ _ (λ d. at-after s _ f) (λ d. doing-after s _ _ (omega arith) f))
 
-opened-after : (s : Spot) (h : Held) → Sane s → After 0 1 s (opened s h)
-unfolding opened
+opened-after : (s : Spot) (h : Held) → Sane s → After 0 1 s (openedSet s h)
+unfolding openedSet
 opened-after s h f =
     either (ltb 48 (h .sets)) s _ _ (λ e. at-after s _ f)
     (λ e. either (ltb 3 (s .depth)) s _ _ (λ d. at-after s _ f)
     (λ d. let g = ltb-false 48 (h .sets) e in record { sane = (f .0, f .1, omega arith, f .2, f .3); line = omega arith; begun = omega arith }))
 
-closed-after : (s : Spot) (h : Held) → Sane s → After 0 0 s (closed s h)
-unfolding closed
+closed-after : (s : Spot) (h : Held) → Sane s → After 0 0 s (closedSet s h)
+unfolding closedSet
 closed-after s h f =
     either (not (ltb 1 (s .depth))) s _ _ (λ e. missed-after s f)
     (λ e. either (unreached h) s _ _ (λ d. at-after s _ f) (λ d. record { sane = (f .0, f .1, f .3, f .4, omega arith); line = omega arith; begun = omega arith }))
@@ -169,7 +169,7 @@ in-coloned Of s f = missed-after s f
 in-coloned Members s f = missed-after s f
 in-coloned (Wrong w) s f = missed-after s f
 
-in-opening : (p : Phase) (s : Spot) (h : Held) → Sane s → After 0 1 s (opening p s h)
+in-opening : (p : Phase) (s : Spot) (h : Held) → Sane s → After 0 1 s (openingSet p s h)
 in-opening Head s h f = missed-after s f
 in-opening Count s h f = missed-after s f
 in-opening Tail s h f = missed-after s f
@@ -180,7 +180,7 @@ in-opening Of s h f = missed-after s f
 in-opening Members s h f = opened-after s h f
 in-opening (Wrong w) s h f = missed-after s f
 
-in-closing : (p : Phase) (s : Spot) (h : Held) → Sane s → After 0 0 s (closing p s h)
+in-closing : (p : Phase) (s : Spot) (h : Held) → Sane s → After 0 0 s (closingSet p s h)
 in-closing Head s h f = missed-after s f
 in-closing Count s h f = missed-after s f
 in-closing Tail s h f = missed-after s f

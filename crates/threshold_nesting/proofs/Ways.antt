@@ -11,7 +11,7 @@ use Rattle.threshold_grammar.specs.declared.Deed.the-variants.{Nothing, Inner, 
 use Rattle.threshold_grammar.specs.declared.Phase.the-variants.{Owner, Threshold, Members, Wrong}
 use Rattle.threshold_grammar.specs.declared.Why.the-variants.{Other}
 use Rattle.threshold_grammar.specs.declared.Spot.{Spot}
-use Rattle.threshold_nesting.specs.Nesting.{broken, unreached, member, opened, closed, completed}
+use Rattle.threshold_nesting.specs.Nesting.{broken, unreached, member, openedSet, closedSet, completed}
 use Rattle.threshold_nesting.specs.declared.Held.{Held}
 
 module _ (s : Spot) (h : Held) (x : ℕ) where
@@ -55,28 +55,28 @@ backward s = record {
 }
 
 module _ (s : Spot) (h : Held) where
-  pub opened-50 : 48 < h .sets → opened s h ≡ broken s Sets
-  unfolding opened
+  pub opened-50 : 48 < h .sets → openedSet s h ≡ broken s Sets
+  unfolding openedSet
   opened-50 l = rw (lt-ltb 48 (h .sets) l) refl
 
-  pub opened-fifth : h .sets ≤ 48 → 3 < s .depth → opened s h ≡ broken s Nesting
-  unfolding opened
+  pub opened-fifth : h .sets ≤ 48 → 3 < s .depth → openedSet s h ≡ broken s Nesting
+  unfolding openedSet
   opened-fifth l d = rw (le-ltb 48 (h .sets) l, lt-ltb 3 (s .depth) d) refl
 
-  pub opened-so : h .sets ≤ 48 → s .depth ≤ 3 → opened s h ≡ inward s h
-  unfolding opened
+  pub opened-so : h .sets ≤ 48 → s .depth ≤ 3 → openedSet s h ≡ inward s h
+  unfolding openedSet
   opened-so l d = rw (le-ltb 48 (h .sets) l, le-ltb 3 (s .depth) d) refl
 
-  pub closed-root : s .depth ≤ 1 → closed s h ≡ missed s
-  unfolding closed
+  pub closed-root : s .depth ≤ 1 → closedSet s h ≡ missed s
+  unfolding closedSet
   closed-root l = rw (le-ltb 1 (s .depth) l) refl
 
-  pub closed-unreached : 1 < s .depth → unreached h ≡ true → closed s h ≡ broken s Unreachable
-  unfolding closed
+  pub closed-unreached : 1 < s .depth → unreached h ≡ true → closedSet s h ≡ broken s Unreachable
+  unfolding closedSet
   closed-unreached l e = rw (lt-ltb 1 (s .depth) l, e) refl
 
-  pub closed-so : 1 < s .depth → unreached h ≡ false → closed s h ≡ backward s
-  unfolding closed
+  pub closed-so : 1 < s .depth → unreached h ≡ false → closedSet s h ≡ backward s
+  unfolding closedSet
   closed-so l e = rw (lt-ltb 1 (s .depth) l, e) refl
 
   pub completed-open : 1 < s .depth → completed s h ≡ missed s

@@ -33,8 +33,8 @@ member s h x =
     (doing s (Site (single x)) Members))
 
 -- an inner set begins: "a 50th set 4 (when its bracket opens)", "a bracket that opens a fifth level 22"; it stands behind all sets so far
-unfoldable pub opened : Spot → Held → Spot
-opened s h =
+unfoldable pub openedSet : Spot → Held → Spot
+openedSet s h =
     cond (ltb 48 (h .sets)) (broken s Sets)
     (cond (ltb 3 (s .depth)) (broken s Nesting)
     (record {
@@ -50,9 +50,9 @@ opened s h =
     }))
 
 -- the innermost set is complete at its `)`: "21 (said when the set is complete)"; the set around it is in hand again. The root has no bracket.
-unfoldable pub closed : Spot → Held → Spot
+unfoldable pub closedSet : Spot → Held → Spot
 unfolding missed unreached
-closed s h =
+closedSet s h =
     cond (not (ltb 1 (s .depth))) (missed s)
     (cond (unreached h) (broken s Unreachable)
     (record {
@@ -84,27 +84,27 @@ numbered Of s h x = missed s
 numbered Members s h x = member s h x
 numbered (Wrong w) s h x = missed s
 
-abbrev pub opening : Phase → Spot → Held → Spot
-opening Head s h = missed s
-opening Count s h = missed s
-opening Tail s h = missed s
-opening Owner s h = missed s
-opening Mark s h = missed s
-opening Threshold s h = missed s
-opening Of s h = missed s
-opening Members s h = opened s h
-opening (Wrong w) s h = missed s
+abbrev pub openingSet : Phase → Spot → Held → Spot
+openingSet Head s h = missed s
+openingSet Count s h = missed s
+openingSet Tail s h = missed s
+openingSet Owner s h = missed s
+openingSet Mark s h = missed s
+openingSet Threshold s h = missed s
+openingSet Of s h = missed s
+openingSet Members s h = openedSet s h
+openingSet (Wrong w) s h = missed s
 
-abbrev pub closing : Phase → Spot → Held → Spot
-closing Head s h = missed s
-closing Count s h = missed s
-closing Tail s h = missed s
-closing Owner s h = missed s
-closing Mark s h = missed s
-closing Threshold s h = missed s
-closing Of s h = missed s
-closing Members s h = closed s h
-closing (Wrong w) s h = missed s
+abbrev pub closingSet : Phase → Spot → Held → Spot
+closingSet Head s h = missed s
+closingSet Count s h = missed s
+closingSet Tail s h = missed s
+closingSet Owner s h = missed s
+closingSet Mark s h = missed s
+closingSet Threshold s h = missed s
+closingSet Of s h = missed s
+closingSet Members s h = closedSet s h
+closingSet (Wrong w) s h = missed s
 
 abbrev pub lineEnd : Phase → Spot → Held → Spot
 lineEnd Head s h = onward s Head
@@ -124,7 +124,7 @@ spoken Sites h s = sited (s .phase) s
 spoken TheOf h s = linked (s .phase) s
 spoken (Number x) h s = numbered (s .phase) s h x
 spoken Colon h s = coloned (s .phase) s
-spoken Open h s = opening (s .phase) s h
-spoken Close h s = closing (s .phase) s h
+spoken Open h s = openingSet (s .phase) s h
+spoken Close h s = closingSet (s .phase) s h
 spoken End h s = lineEnd (s .phase) s h
 spoken Strange h s = missed s

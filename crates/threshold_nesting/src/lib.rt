@@ -2,7 +2,7 @@
 ghost use mathlib.Core.Path.{_≡_};
 ghost use Prim.Native.Nat.{_+_, _^_, _≤_, _<_};
 ghost use Rattle.threshold_grammar.specs.Grammar.{Sane};
-ghost use Rattle.threshold_nesting.specs.Nesting.{unreached, member, opened, closed, completed, numbered, opening, closing, lineEnd, spoken};
+ghost use Rattle.threshold_nesting.specs.Nesting.{unreached, member, openedSet, closedSet, completed, numbered, openingSet, closingSet, lineEnd, spoken};
 use refusals::Refusal;
 use threshold_grammar::Deed;
 use threshold_grammar::Phase;
@@ -48,7 +48,7 @@ fn member(s: Spot, h: Held, x: u64) -> Spot
 
 // An inner set begins.
 fn opened(s: Spot, h: Held) -> Spot
-    ensures { λ r. ⌜ r ≡ opened s h ⌝ }
+    ensures { λ r. ⌜ r ≡ openedSet s h ⌝ }
 {
     if 48 < h.sets {
         return threshold_grammar::at(
@@ -78,7 +78,7 @@ fn opened(s: Spot, h: Held) -> Spot
 // The innermost set is complete at its bracket.
 fn closed(s: Spot, h: Held) -> Spot
     requires { ⌜ h .inner < 2 ^ 63 ⌝ }
-    ensures { λ r. ⌜ r ≡ closed s h ⌝ }
+    ensures { λ r. ⌜ r ≡ closedSet s h ⌝ }
 {
     if s.depth <= 1 {
         return threshold_grammar::missed(s);
@@ -141,7 +141,7 @@ fn numbered(s: Spot, h: Held, x: u64) -> Spot
 
 // An opening bracket.
 fn opening(s: Spot, h: Held) -> Spot
-    ensures { λ r. ⌜ r ≡ opening (s .phase) s h ⌝ }
+    ensures { λ r. ⌜ r ≡ openingSet (s .phase) s h ⌝ }
 {
     let p = s.phase;
     match p {
@@ -160,7 +160,7 @@ fn opening(s: Spot, h: Held) -> Spot
 // A closing bracket.
 fn closing(s: Spot, h: Held) -> Spot
     requires { ⌜ h .inner < 2 ^ 63 ⌝ }
-    ensures { λ r. ⌜ r ≡ closing (s .phase) s h ⌝ }
+    ensures { λ r. ⌜ r ≡ closingSet (s .phase) s h ⌝ }
 {
     let p = s.phase;
     match p {

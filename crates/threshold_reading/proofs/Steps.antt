@@ -29,7 +29,7 @@ use Rattle.threshold_nesting.specs.Nesting.{spoken}
 use Rattle.threshold_nesting.specs.declared.Held.{Held}
 use Rattle.threshold_reading.specs.Inner.{Few}
 use Rattle.threshold_reading.specs.Lines.{countAt, thresholdAt, innerAt, plainAt, held, enacted}
-use Rattle.threshold_reading.specs.Reading.{Here, here, after, leaves, heardAs, hearing, readOn, start, finished, textRead}
+use Rattle.threshold_reading.specs.Reading.{Here, here, afterByte, leavesLine, heardAs, hearing, readOn, start, finished, textRead}
 
 pub sane-eq : {r s : Spot} → r ≡ s → Sane s → Sane r
 sane-eq e f = subst (λ (x : Spot). Sane x) (sym e) f
@@ -87,31 +87,31 @@ length-enacted Inner s t = length-set (set t _ _) _ _ ∙ length-set t _ _
 length-enacted (Least x) s t = length-set t _ _
 length-enacted (Site q) s t = length-set t _ _
 
-pub length-leaves : (k : Token) (s : Spot) (t : List ℕ) → length (leaves k s t) ≡ length t
-unfolding leaves
-length-leaves k s t = length-enacted (after k s t .deed) (after k s t) t
+pub length-leaves : (k : Token) (s : Spot) (t : List ℕ) → length (leavesLine k s t) ≡ length t
+unfolding leavesLine
+length-leaves k s t = length-enacted (afterByte k s t .deed) (afterByte k s t) t
 
 -- one word
-pub after-sane : (k : Token) (s : Spot) (t : List ℕ) → Sane s → Sane (after k s t)
-unfolding after
+pub after-sane : (k : Token) (s : Spot) (t : List ℕ) → Sane s → Sane (afterByte k s t)
+unfolding afterByte
 after-sane k s t f = told-after k (held s t) s f .sane
 
-pub after-line : (k : Token) (s : Spot) (t : List ℕ) → Sane s → after k s t .line ≤ s .line + ends k
-unfolding after
+pub after-line : (k : Token) (s : Spot) (t : List ℕ) → Sane s → afterByte k s t .line ≤ s .line + ends k
+unfolding afterByte
 after-line k s t f = told-after k (held s t) s f .line
 
-pub few-leaves : (k : Token) (s : Spot) (t : List ℕ) (b : ℕ) → Sane s → Few b t → Few (b + opens k) (leaves k s t)
-unfolding leaves after
+pub few-leaves : (k : Token) (s : Spot) (t : List ℕ) (b : ℕ) → Sane s → Few b t → Few (b + opens k) (leavesLine k s t)
+unfolding leavesLine afterByte
 few-leaves k s t b f w u i l =
     let a = told-after k (held s t) s f in
-    let h = few-after (after k s t .deed) (after k s t) t b (a .sane) w u i l in
+    let h = few-after (afterByte k s t .deed) (afterByte k s t) t b (a .sane) w u i l in
     omega (arith, h, a .begun)
 
 pub stepped : (k : Token) (s r : Spot) (h : Held) (t x : List ℕ) → h ≡ held s t → r ≡ spoken k h s → x ≡ enacted (r .deed) r t
-    → (r ≡ after k s t) × (x ≡ leaves k s t)
-unfolding after leaves
+    → (r ≡ afterByte k s t) × (x ≡ leavesLine k s t)
+unfolding afterByte leavesLine
 stepped k s r h t x e f g =
-    let z : r ≡ after k s t = f ∙ ap (λ (y : Held). spoken k y s) e in
+    let z : r ≡ afterByte k s t = f ∙ ap (λ (y : Held). spoken k y s) e in
     (z, g ∙ ap (λ (y : Spot). enacted (y .deed) y t) z)
 
 -- a word passes no line end and opens no bracket
@@ -152,7 +152,7 @@ sign-ends Blank = (omega arith, omega arith)
 sign-ends Part = (omega arith, omega arith)
 
 -- what the first word of a byte leaves
-module _ (c : Sign) (w : Begun) (s s₁ : Spot) (t t₁ : List ℕ) (k : Token) (ek : k ≡ ended c w) (e₁ : s₁ ≡ after k s t) (e₂ : t₁ ≡ leaves k s t) (f : Sane s) where
+module _ (c : Sign) (w : Begun) (s s₁ : Spot) (t t₁ : List ℕ) (k : Token) (ek : k ≡ ended c w) (e₁ : s₁ ≡ afterByte k s t) (e₂ : t₁ ≡ leavesLine k s t) (f : Sane s) where
   pub sane₁ : Sane s₁
   sane₁ = sane-eq e₁ (after-sane k s t f)
 
@@ -165,35 +165,35 @@ module _ (c : Sign) (w : Begun) (s s₁ : Spot) (t t₁ : List ℕ) (k : Token) 
   pub length₁ : length t₁ ≡ length t
   length₁ = ap length e₂ ∙ length-leaves k s t
 
-  pub byte : (r : Spot) (u : List ℕ) (l : Token) → l ≡ said c → r ≡ after l s₁ t₁ → u ≡ leaves l s₁ t₁ → (r ≡ heardAs c w s t .0) × (u ≡ heardAs c w s t .1)
+  pub byte : (r : Spot) (u : List ℕ) (l : Token) → l ≡ said c → r ≡ afterByte l s₁ t₁ → u ≡ leavesLine l s₁ t₁ → (r ≡ heardAs c w s t .0) × (u ≡ heardAs c w s t .1)
   unfolding heardAs
   byte r u l el p q =
-      let a : s₁ ≡ after (ended c w) s t = e₁ ∙ ap (λ (y : Token). after y s t) ek in
-      let b : t₁ ≡ leaves (ended c w) s t = e₂ ∙ ap (λ (y : Token). leaves y s t) ek in (
-        p ∙ ap (λ (y : Token). after y s₁ t₁) el ∙ ap (λ (y : Spot). after (said c) y t₁) a ∙ ap (after (said c) (after (ended c w) s t)) b,
-        q ∙ ap (λ (y : Token). leaves y s₁ t₁) el ∙ ap (λ (y : Spot). leaves (said c) y t₁) a ∙ ap (leaves (said c) (after (ended c w) s t)) b,
+      let a : s₁ ≡ afterByte (ended c w) s t = e₁ ∙ ap (λ (y : Token). afterByte y s t) ek in
+      let b : t₁ ≡ leavesLine (ended c w) s t = e₂ ∙ ap (λ (y : Token). leavesLine y s t) ek in (
+        p ∙ ap (λ (y : Token). afterByte y s₁ t₁) el ∙ ap (λ (y : Spot). afterByte (said c) y t₁) a ∙ ap (afterByte (said c) (afterByte (ended c w) s t)) b,
+        q ∙ ap (λ (y : Token). leavesLine y s₁ t₁) el ∙ ap (λ (y : Spot). leavesLine (said c) y t₁) a ∙ ap (leavesLine (said c) (afterByte (ended c w) s t)) b,
       )
 
 -- a byte leaves the spot sane, one line further at most, and begins one inner set at most
 pub heard-after : (c : Sign) (w : Begun) (s : Spot) (t : List ℕ) → Sane s → Sane (heardAs c w s t .0) × (heardAs c w s t .0 .line ≤ s .line + 1)
 unfolding heardAs
 heard-after c w s t f =
-    let u = after (ended c w) s t in
-    let l = leaves (ended c w) s t in
+    let u = afterByte (ended c w) s t in
+    let l = leavesLine (ended c w) s t in
     let a = after-sane (ended c w) s t f in
     (after-sane (said c) u l a, omega (arith, after-line (ended c w) s t f, after-line (said c) u l a, word-ends c w .0, sign-ends c .0))
 
 pub heard-few : (c : Sign) (w : Begun) (s : Spot) (t : List ℕ) (b : ℕ) → Sane s → Few b t → Few (b + 1) (heardAs c w s t .1)
 unfolding heardAs
 heard-few c w s t b f g u i l =
-    let x = after (ended c w) s t in
-    let y = leaves (ended c w) s t in
+    let x = afterByte (ended c w) s t in
+    let y = leavesLine (ended c w) s t in
     let h = few-leaves (said c) x y (b + opens (ended c w)) (after-sane (ended c w) s t f) (few-leaves (ended c w) s t b f g) u i l in
     omega (arith, h, word-ends c w .1, sign-ends c .1)
 
 pub heard-length : (c : Sign) (w : Begun) (s : Spot) (t : List ℕ) → length (heardAs c w s t .1) ≡ length t
 unfolding heardAs
-heard-length c w s t = length-leaves (said c) (after (ended c w) s t) (leaves (ended c w) s t) ∙ length-leaves (ended c w) s t
+heard-length c w s t = length-leaves (said c) (afterByte (ended c w) s t) (leavesLine (ended c w) s t) ∙ length-leaves (ended c w) s t
 
 -- byte after byte: what is left to read gives what the whole text gives
 pub read-step : (h : Here) (text : List ℕ) (i : ℕ) → i < length text → readOn h (drop i text) ≡ readOn (hearing h (getD text i 0)) (drop (i + 1) text)

@@ -25,8 +25,8 @@ abbrev pub plainAt : ℕ → ℕ → ℕ
 plainAt u i = 148 * u + (3 + 3 * i)
 
 -- the sets of site u
-abbrev pub setsOf : List ℕ → ℕ → ThresholdSets
-setsOf t u = record {
+abbrev pub lineSets : List ℕ → ℕ → ThresholdSets
+lineSets t u = record {
   count = getD t (countAt u) 0;
   threshold = λ i. getD t (thresholdAt u i) 0;
   inner = λ i. getD t (innerAt u i) 0;
@@ -35,7 +35,7 @@ setsOf t u = record {
 
 -- of the line that is read: how many sets it has so far, and its innermost open set
 abbrev pub held : Spot → List ℕ → Held
-held s t = let S = setsOf t (own (s .v)) in record {
+held s t = let S = lineSets t (own (s .v)) in record {
   sets = S .count;
   threshold = S .threshold (s .set);
   inner = S .inner (s .set);

@@ -22,20 +22,20 @@ abbrev pub here : Begun → Spot → List ℕ → Here
 here w s t = record { word = w; spot = s; lines = t }
 
 -- a word is heard: the spot after it, and the sets
-unfoldable pub after : Token → Spot → List ℕ → Spot
-after k s t = spoken k (held s t) s
+unfoldable pub afterByte : Token → Spot → List ℕ → Spot
+afterByte k s t = spoken k (held s t) s
 
-unfoldable pub leaves : Token → Spot → List ℕ → List ℕ
-unfolding after
-leaves k s t = let r = after k s t in enacted (r .deed) r t
+unfoldable pub leavesLine : Token → Spot → List ℕ → List ℕ
+unfolding afterByte
+leavesLine k s t = let r = afterByte k s t in enacted (r .deed) r t
 
 -- the word that ends at a byte is heard, then the byte itself
 unfoldable pub heardAs : Sign → Begun → Spot → List ℕ → Spot × List ℕ
-unfolding after leaves
+unfolding afterByte leavesLine
 heardAs c w s t =
-    let u = after (ended c w) s t in
-    let l = leaves (ended c w) s t in
-    (after (said c) u l, leaves (said c) u l)
+    let u = afterByte (ended c w) s t in
+    let l = leavesLine (ended c w) s t in
+    (afterByte (said c) u l, leavesLine (said c) u l)
 
 -- after a byte
 unfoldable pub hearing : Here → ℕ → Here

@@ -6,7 +6,7 @@ ghost use lib.ListN.{length, getD, set, replicate};
 ghost use Rattle.threshold_grammar.specs.Grammar.{Sane};
 ghost use Rattle.threshold_reading.specs.Inner.{Few};
 ghost use Rattle.threshold_reading.specs.Lines.{held, enacted};
-ghost use Rattle.threshold_reading.specs.Reading.{here, after, leaves, heardAs, finished, textRead};
+ghost use Rattle.threshold_reading.specs.Reading.{here, afterByte, leavesLine, heardAs, finished, textRead};
 use threshold_grammar::Deed;
 use threshold_grammar::Phase;
 use threshold_grammar::Spot;
@@ -87,7 +87,7 @@ fn step(s: Spot, k: Token, t: &mut [u64]) -> Spot
     requires { ⌜ Sane s ⌝ }
     requires { ⌜ s .line + 1 < 2 ^ 64 ⌝ }
     requires { ⌜ Few (2 ^ 63) (now t) ⌝ }
-    ensures { λ r. ⌜ (r ≡ after k s (now (t .entry))) × (now (t .exit) ≡ leaves k s (now (t .entry))) ⌝ }
+    ensures { λ r. ⌜ (r ≡ afterByte k s (now (t .entry))) × (now (t .exit) ≡ leavesLine k s (now (t .entry))) ⌝ }
 {
     let h = hold(s, t);
     let r = threshold_nesting::spoken(s, h, k);

@@ -6,7 +6,8 @@ use Rattle.lines.specs.Lines.{newline, line}
 use Rattle.refusal_lines.specs.Refused.{refused}
 use Rattle.threshold_grammar.specs.declared.Why.{Why}
 use Rattle.threshold_grammar.specs.declared.Why.the-variants.{LineEnd, Nothing, Member, Bracket, Other, Rule}
-use Rattle.threshold_grammar.specs.declared.Why.the-variants.{Sites as NoSites, Count as NoCount, Owner as NoOwner, Colon as NoColon, Threshold as NoThreshold, Of as NoOf}
+use Rattle.threshold_grammar.specs.declared.Why.the-variants.{Sites as NoSites, Count as NoCount, Owner as NoOwner}
+use Rattle.threshold_grammar.specs.declared.Why.the-variants.{Colon as NoColon, Threshold as NoThreshold, Of as NoOf}
 use Rattle.threshold_made.specs.Made.{made}
 use Rattle.threshold_made.specs.declared.Made.{Made}
 use Rattle.threshold_made.specs.declared.Made.the-variants.{Sites, Fault, Room}

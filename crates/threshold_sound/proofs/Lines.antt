@@ -27,10 +27,10 @@ use Rattle.threshold_grammar.specs.declared.Phase.{Phase}
 use Rattle.threshold_grammar.specs.declared.Phase.the-variants.{Head, Count, Tail, Owner, Mark, Threshold, Of, Members, Wrong}
 use Rattle.threshold_grammar.specs.declared.Spot.{Spot}
 use Rattle.threshold_nesting.proofs.Ways.{inward, backward}
-use Rattle.threshold_nesting.specs.Nesting.{broken, unreached, member, opened, closed, completed, numbered, opening, closing, lineEnd, spoken}
+use Rattle.threshold_nesting.specs.Nesting.{broken, unreached, member, openedSet, closedSet, completed, numbered, openingSet, closingSet, lineEnd, spoken}
 use Rattle.threshold_nesting.specs.declared.Held.{Held}
-use Rattle.threshold_reading.specs.Lines.{countAt, thresholdAt, innerAt, plainAt, setsOf, held, enacted}
-use Rattle.threshold_reading.specs.Reading.{after, leaves}
+use Rattle.threshold_reading.specs.Lines.{countAt, thresholdAt, innerAt, plainAt, lineSets, held, enacted}
+use Rattle.threshold_reading.specs.Reading.{afterByte, leavesLine}
 use Rattle.threshold_sound.proofs.Row.{Reached, Unused, Row, row-root, row-inner, row-changed, row-closed, row-sound}
 
 -- the open sets of a line, the root at place 0
@@ -74,14 +74,14 @@ abbrev pub Blank : ThresholdSets → Type 0
 Blank S = (S .count ≡ 0) × ((i : ℕ) → i < 49 → Unused S i)
 
 abbrev pub Done : ℕ → ℕ → List ℕ → Type 0
-Done n k t = (u : ℕ) → u < k → Full n (setsOf t u)
+Done n k t = (u : ℕ) → u < k → Full n (lineSets t u)
 
 abbrev pub Left : ℕ → List ℕ → Type 0
-Left k t = (u : ℕ) → k ≤ u → u < 64 → Blank (setsOf t u)
+Left k t = (u : ℕ) → k ≤ u → u < 64 → Blank (lineSets t u)
 
 -- the line that is read has sets, of which some are open
 abbrev pub Begun : Spot → List ℕ → Type 0
-Begun s t = (1 ≤ s .v) × Done (s .n) (own (s .v)) t × Left (s .v) t × (E : Nest) × Says E s × Row (s .n) (inmost E ∷ outer E) (setsOf t (own (s .v)))
+Begun s t = (1 ≤ s .v) × Done (s .n) (own (s .v)) t × Left (s .v) t × (E : Nest) × Says E s × Row (s .n) (inmost E ∷ outer E) (lineSets t (own (s .v)))
 
 -- what holds where something is expected
 abbrev pub Good : Phase → Spot → List ℕ → Type 0
@@ -116,7 +116,7 @@ module _ (t : List ℕ) (w a x : ℕ) (l : a < 148) where
   stay-count : (u : ℕ) → (u ≡ w → ⊥) → getD (set t (148 * w + a) x) (148 * u) 0 ≡ getD t (148 * u) 0
   stay-count u f = getD-set-other t (148 * w + a) (148 * u) x 0 (λ e. apart u w 0 a (omega arith) l f (omega (arith, e)))
 
-  same-sets : (u : ℕ) → (u ≡ w → ⊥) → Agree 49 (setsOf t u) (setsOf (set t (148 * w + a) x) u)
+  same-sets : (u : ℕ) → (u ≡ w → ⊥) → Agree 49 (lineSets t u) (lineSets (set t (148 * w + a) x) u)
   same-sets u f = record {
     count-alike = sym (stay-count u f);
     threshold-alike = λ i h. sym (stay u (1 + 3 * i) f (omega (arith, h)));
@@ -139,12 +139,12 @@ blank-alike S T a f = (
 )
 
 -- lines before and behind the one that is read
-module _ (n w : ℕ) (t T : List ℕ) (f : (u : ℕ) → (u ≡ w → ⊥) → Agree 49 (setsOf t u) (setsOf T u)) where
+module _ (n w : ℕ) (t T : List ℕ) (f : (u : ℕ) → (u ≡ w → ⊥) → Agree 49 (lineSets t u) (lineSets T u)) where
   done-on : Done n w t → Done n w T
-  done-on d u h = full-alike n (setsOf t u) (setsOf T u) (f u (λ e. omega (arith, e, h))) (d u h)
+  done-on d u h = full-alike n (lineSets t u) (lineSets T u) (f u (λ e. omega (arith, e, h))) (d u h)
 
   left-on : (k : ℕ) → w < k → Left k t → Left k T
-  left-on k h d u g m = blank-alike (setsOf t u) (setsOf T u) (f u (λ e. omega (arith, e, g, h))) (d u g m)
+  left-on k h d u g m = blank-alike (lineSets t u) (lineSets T u) (f u (λ e. omega (arith, e, g, h))) (d u g m)
 
 -- cells of different kinds stand apart
 third : (i j a b : ℕ) → a < 3 → b < 3 → (a ≡ b → ⊥) → a + 3 * i ≡ b + 3 * j → ⊥
@@ -162,10 +162,10 @@ thirteen w i j e = third i (1 + j) 1 0 (omega arith) (omega arith) (λ y. omega 
 twentythree : (w i j : ℕ) → 148 * w + (2 + 3 * i) ≡ 148 * w + (3 + 3 * j) → ⊥
 twentythree w i j e = third i (1 + j) 2 0 (omega arith) (omega arith) (λ y. omega (arith, y)) (omega (arith, e))
 
-counted : (t : List ℕ) (w x u : ℕ) → (u ≡ w → ⊥) → Agree 49 (setsOf t u) (setsOf (set t (148 * w) x) u)
+counted : (t : List ℕ) (w x u : ℕ) → (u ≡ w → ⊥) → Agree 49 (lineSets t u) (lineSets (set t (148 * w) x) u)
 counted t w x u f =
     let e : 148 * w + 0 ≡ 148 * w = omega arith in
-    subst (λ (k : ℕ). Agree 49 (setsOf t u) (setsOf (set t k x) u)) e (same-sets t w 0 x (omega arith) u f)
+    subst (λ (k : ℕ). Agree 49 (lineSets t u) (lineSets (set t k x) u)) e (same-sets t w 0 x (omega arith) u f)
 
 agree-on : {S T R : ThresholdSets} → Agree 49 S T → Agree 49 T R → Agree 49 S R
 agree-on a b = record {
@@ -220,7 +220,7 @@ module _ (s : Spot) (t : List ℕ) (sane : Sane s) (long : length t ≡ 9472) wh
         left-on (s .n) w t T (λ u g. counted t w 1 u g) (s .v) k (λ u g m. f .2 u (omega (arith, g)) m),
         one,
         f .3,
-        row-root (s .n) (setsOf T w) c
+        row-root (s .n) (lineSets T w) c
             (λ i l. (far (1 + 3 * i) (omega arith) ∙ z i l .0, far (2 + 3 * i) (omega arith) ∙ z i l .1, far (3 + 3 * i) (omega arith) ∙ z i l .2)),
       )
 
@@ -247,7 +247,7 @@ module _ (s : Spot) (t : List ℕ) (sane : Sane s) (long : length t ≡ 9472) wh
         left-on (s .n) w t T (same-sets t w a x l) (s .v) k (f .2),
         f .3,
         says-doing (f .3) (f .4) (doing s (Least x) Of) (refl, refl, refl, refl),
-        row-changed (s .n) (inmost (f .3)) (outer (f .3)) (setsOf t w) (setsOf T w)
+        row-changed (s .n) (inmost (f .3)) (outer (f .3)) (lineSets t w) (lineSets T w)
             (getD-set-other t (148 * w + a) (148 * w) x 0 (λ e. omega (arith, e)))
             (λ i h g. getD-set-other t (148 * w + a) (thresholdAt w i) x 0 (λ e. g (omega (arith, e, p))))
             (λ i h. getD-set-other t (148 * w + a) (innerAt w i) x 0 (λ e. twelve w (s .set) i (sym e)))
@@ -274,7 +274,7 @@ module _ (s : Spot) (t : List ℕ) (sane : Sane s) (long : length t ≡ 9472) wh
         left-on (s .n) w t T (same-sets t w a y l) (s .v) k (f .2),
         f .3,
         says-doing (f .3) (f .4) (doing s (Site (single x)) Members) (refl, refl, refl, refl),
-        row-changed (s .n) (inmost (f .3)) (outer (f .3)) (setsOf t w) (setsOf T w)
+        row-changed (s .n) (inmost (f .3)) (outer (f .3)) (lineSets t w) (lineSets T w)
             (getD-set-other t (148 * w + a) (148 * w) y 0 (λ e. omega (arith, e)))
             (λ i h g. getD-set-other t (148 * w + a) (thresholdAt w i) y 0 (λ e. thirteen w i (s .set) e))
             (λ i h. getD-set-other t (148 * w + a) (innerAt w i) y 0 (λ e. twentythree w i (s .set) e))
@@ -296,7 +296,7 @@ module _ (s : Spot) (t : List ℕ) (sane : Sane s) (long : length t ≡ 9472) wh
       let p : s .set ≡ inmost (f .3) = says-set (f .3) s (f .4) in
       let k : w < s .v = omega (arith, f .0) in
       let g = grow (f .3) s (held s t) (f .4) deep in
-      let ag : (u : ℕ) → (u ≡ w → ⊥) → Agree 49 (setsOf t u) (setsOf T u) = λ u h. agree-on (counted t w c u h) (same-sets m w a y l u h) in
+      let ag : (u : ℕ) → (u ≡ w → ⊥) → Agree 49 (lineSets t u) (lineSets T u) = λ u h. agree-on (counted t w c u h) (same-sets m w a y l u h) in
       let far : (b : ℕ) → 1 ≤ b → getD m (148 * w + b) 0 ≡ getD t (148 * w + b) 0 = λ b h. getD-set-other t (countAt w) (148 * w + b) c 0 (λ e. omega (arith, e, h)) in
       let lm : length m ≡ 9472 = length-set t (countAt w) c ∙ long in
       let first : getD T (countAt w) 0 ≡ getD t (countAt w) 0 + 1 =
@@ -311,8 +311,8 @@ module _ (s : Spot) (t : List ℕ) (sane : Sane s) (long : length t ≡ 9472) wh
         left-on (s .n) w t T ag (s .v) k (f .2),
         g .0,
         g .1,
-        subst (λ (Q : List ℕ). Row (s .n) Q (setsOf T w)) (sym (g .2))
-            (row-inner (s .n) (inmost (f .3)) (outer (f .3)) (setsOf t w) (setsOf T w) (g .3) room first
+        subst (λ (Q : List ℕ). Row (s .n) Q (lineSets T w)) (sym (g .2))
+            (row-inner (s .n) (inmost (f .3)) (outer (f .3)) (lineSets t w) (lineSets T w) (g .3) room first
             (λ i h. getD-set-other m (148 * w + a) (thresholdAt w i) y 0 (λ e. twelve w i (s .set) e) ∙ far (1 + 3 * i) (omega arith))
             inn
             (λ i h. getD-set-other m (148 * w + a) (plainAt w i) y 0 (λ e. twentythree w (s .set) i (sym e)) ∙ far (3 + 3 * i) (omega arith))
@@ -320,10 +320,10 @@ module _ (s : Spot) (t : List ℕ) (sane : Sane s) (long : length t ≡ 9472) wh
       )
 
   -- the innermost set reaches its threshold
-  reached : (E : Nest) → Says E s → unreached (held s t) ≡ false → Reached (setsOf t (own (s .v))) (inmost E)
+  reached : (E : Nest) → Says E s → unreached (held s t) ≡ false → Reached (lineSets t (own (s .v))) (inmost E)
   unfolding unreached
   reached E f e =
-      let S = setsOf t (own (s .v)) in
+      let S = lineSets t (own (s .v)) in
       let z = or-none (eqb (S .threshold (s .set)) 0) (ltb (size (S .plain (s .set)) + S .inner (s .set)) (S .threshold (s .set))) e in
       let a = eqb-false (S .threshold (s .set)) 0 (z .0) in
       subst (λ (i : ℕ). Reached S i) (says-set E s f) (omega (arith, a), ltb-false (size (S .plain (s .set)) + S .inner (s .set)) (S .threshold (s .set)) (z .1))
@@ -336,17 +336,17 @@ module _ (s : Spot) (t : List ℕ) (sane : Sane s) (long : length t ≡ 9472) wh
         f .2,
         g .0,
         g .1,
-        subst (λ (Q : List ℕ). Row (s .n) Q (setsOf t (own (s .v)))) (sym (g .2))
-            (row-closed (s .n) (inmost (f .3)) (outer (f .3)) (setsOf t (own (s .v))) (reached (f .3) (f .4) e) (f .5)),
+        subst (λ (Q : List ℕ). Row (s .n) Q (lineSets t (own (s .v)))) (sym (g .2))
+            (row-closed (s .n) (inmost (f .3)) (outer (f .3)) (lineSets t (own (s .v))) (reached (f .3) (f .4) e) (f .5)),
       )
 
   pub end-good : s .depth ≤ 1 → unreached (held s t) ≡ false → Begun s t → Done (s .n) (s .v) t × Left (s .v) t
   end-good flat e f =
       let w = own (s .v) in
-      let r = subst (λ (Q : List ℕ). Row (s .n) Q (setsOf t w)) (sole (f .3) s (f .4) flat)
-      (row-closed (s .n) (inmost (f .3)) (outer (f .3)) (setsOf t w) (reached (f .3) (f .4) e) (f .5)) in
-      let full : Full (s .n) (setsOf t w) = (row-sound (s .n) (setsOf t w) r, r .unused, r .kids) in
-      ((λ u h. same-or (λ (x : ℕ). Full (s .n) (setsOf t x)) u w full (λ g. f .1 u (nearer u h g))), f .2)
+      let r = subst (λ (Q : List ℕ). Row (s .n) Q (lineSets t w)) (sole (f .3) s (f .4) flat)
+      (row-closed (s .n) (inmost (f .3)) (outer (f .3)) (lineSets t w) (reached (f .3) (f .4) e) (f .5)) in
+      let full : Full (s .n) (lineSets t w) = (row-sound (s .n) (lineSets t w) r, r .unused, r .kids) in
+      ((λ u h. same-or (λ (x : ℕ). Full (s .n) (lineSets t x)) u w full (λ g. f .1 u (nearer u h g))), f .2)
     where
       nearer : (u : ℕ) → u < s .v → (u ≡ own (s .v) → ⊥) → u < own (s .v)
       nearer u h g = ⊎-elim (λ y. absurd (g (eqb-true u (s .v - 1) y))) (λ y. let z = eqb-false u (s .v - 1) y in omega (arith, h, z)) (cases (eqb u (s .v - 1)))

@@ -26,10 +26,10 @@ use Rattle.threshold_grammar.specs.declared.Phase.the-variants.{Head, Count, Ta
 use Rattle.threshold_grammar.specs.declared.Spot.{Spot}
 use Rattle.threshold_image.proofs.Exact.{thresholds-sound}
 use Rattle.threshold_image.specs.Image.{thresholdsCheck, Thresholds}
-use Rattle.threshold_made.specs.Made.{isWhole, answerOf, madeOf, blocksIn, orShort, imageTo, made, leaves, imageIn}
+use Rattle.threshold_made.specs.Made.{isWhole, answerOf, madeOf, thresholdBlocksIn, orShort, imageTo, made, leaves, thresholdImageIn}
 use Rattle.threshold_made.specs.declared.Made.{Made}
 use Rattle.threshold_made.specs.declared.Made.the-variants.{Sites, Fault, Room}
-use Rattle.threshold_reading.specs.Lines.{setsOf}
+use Rattle.threshold_reading.specs.Lines.{lineSets}
 use Rattle.threshold_reading.specs.Reading.{textRead}
 use Rattle.threshold_sets.proofs.Alike.{sound-alike}
 use Rattle.threshold_sets.specs.Check.{SoundSets}
@@ -91,57 +91,57 @@ module _ (s : Spot) (t : List ℕ) (n : ℕ) (k : Keeps s t) (e : answerOf s ≡
       let m = a .2 in (
         omega (arith, g .0, m),
         omega (arith, k .sane .0, m),
-        (λ u h. subst (λ (x : ℕ). Full x (setsOf t u)) m (g .1 u (omega (arith, h, m, a .1)))),
+        (λ u h. subst (λ (x : ℕ). Full x (lineSets t u)) m (g .1 u (omega (arith, h, m, a .1)))),
       )
 
-  block : (v : ℕ) → v < n → part 512 v (imageTo n t n) ≡ storeSets n v (setsOf t v)
+  block : (v : ℕ) → v < n → part 512 v (imageTo n t n) ≡ storeSets n v (lineSets t v)
   unfolding imageTo
-  block v l = part-cat (λ i. storeSets n i (setsOf t i)) 512 n v l (λ i h. length-store n i (setsOf t i))
+  block v l = part-cat (λ i. storeSets n i (lineSets t i)) 512 n v l (λ i h. length-store n i (lineSets t i))
 
   pub made-sound : Thresholds (imageTo n t n) n
   unfolding imageTo
   made-sound = record {
-    long = length-cat (λ i. storeSets n i (setsOf t i)) 512 n (λ i h. length-store n i (setsOf t i));
+    long = length-cat (λ i. storeSets n i (lineSets t i)) 512 n (λ i h. length-store n i (lineSets t i));
     some-site = whole .0;
     few-sites = whole .1;
-    sealed-so = λ v l. ap sealed (block v l) ∙ store-sealed n v (setsOf t v);
-    headed = λ v l. ap (misheaded n v) (block v l) ∙ store-headed n v (setsOf t v) (omega (arith, l, whole .1)) (omega (arith, whole .1));
+    sealed-so = λ v l. ap sealed (block v l) ∙ store-sealed n v (lineSets t v);
+    headed = λ v l. ap (misheaded n v) (block v l) ∙ store-headed n v (lineSets t v) (omega (arith, l, whole .1)) (omega (arith, whole .1));
     sets = λ v l.
         let f = whole .2 v l in
         let c = f .0 .few-sets in
         subst (λ (b : List ℕ). SoundSets n (setsIn b)) (sym (block v l))
-        (sound-alike (store-sets n v (setsOf t v) (omega (arith, c)) (fits n (setsOf t v) (whole .1) f)) c (f .0));
+        (sound-alike (store-sets n v (lineSets t v) (omega (arith, c)) (fits n (lineSets t v) (whole .1) f)) c (f .0));
     filled = λ v l.
         let f = whole .2 v l in
         let c = f .0 .few-sets in
-        ap setsUnfilled (block v l) ∙ store-filled n v (setsOf t v) (omega (arith, c)) c (f .1);
+        ap setsUnfilled (block v l) ∙ store-filled n v (lineSets t v) (omega (arith, c)) c (f .1);
   }
 
 pub made-image : MadeSound
-unfolding madeOf imageIn
+unfolding madeOf thresholdImageIn
 made-image text n e =
     let h = textRead text (replicate 9472 0) in
-    subst (λ (k : ℕ). Thresholds (imageTo k (h .lines) k) n) (sym (ap blocksIn e)) (made-sound (h .spot) (h .lines) n (text-keeps text) e)
+    subst (λ (k : ℕ). Thresholds (imageTo k (h .lines) k) n) (sym (ap thresholdBlocksIn e)) (made-sound (h .spot) (h .lines) n (text-keeps text) e)
 
 pub made-checked : MadeChecked
 made-checked text n e = thresholds-sound (made-image text n e)
 
 -- the room
 fitting : (room : ℕ) (m : Made) (n : ℕ) → orShort room m ≡ Sites n → m ≡ Sites n
-fitting room m n e = pick (ltb room (512 * blocksIn m)) e
+fitting room m n e = pick (ltb room (512 * thresholdBlocksIn m)) e
   where
     pick : (b : Bool) → cond b Room m ≡ Sites n → m ≡ Sites n
     pick true e = let z : _≡_ {A = ℕ} 0 1 = cc in absurd (omega arith)
     pick false e = e
 
 pub left-sound : LeftSound
-unfolding made leaves imageIn
+unfolding made leaves thresholdImageIn
 left-sound text room n e =
     let a = fitting (length room) (answerOf (madeOf text .spot)) n e in
     let i = made-image text n a in
-    let x : imageIn text ≡ imageTo n (madeOf text .lines) n = ap (λ (m : Made). imageTo (blocksIn m) (madeOf text .lines) (blocksIn m)) a in
+    let x : thresholdImageIn text ≡ imageTo n (madeOf text .lines) n = ap (λ (m : Made). imageTo (thresholdBlocksIn m) (madeOf text .lines) (thresholdBlocksIn m)) a in
     let y : leaves text room ≡ imageTo n (madeOf text .lines) n ++ drop (512 * n) room =
-    ap (λ (m : Made). imageTo (blocksIn m) (madeOf text .lines) (blocksIn m) ++ drop (512 * blocksIn m) room) e in
-    let z : take (512 * n) (leaves text room) ≡ imageIn text =
+    ap (λ (m : Made). imageTo (thresholdBlocksIn m) (madeOf text .lines) (thresholdBlocksIn m) ++ drop (512 * thresholdBlocksIn m) room) e in
+    let z : take (512 * n) (leaves text room) ≡ thresholdImageIn text =
     ap (take (512 * n)) y ∙ take-at (imageTo n (madeOf text .lines) n) (drop (512 * n) room) (512 * n) (ap length (sym x) ∙ i .long) ∙ sym x in
     ap thresholdsCheck z ∙ made-checked text n a

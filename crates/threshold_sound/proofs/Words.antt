@@ -20,10 +20,10 @@ use Rattle.threshold_grammar.specs.Grammar.{Sane, doing, at, outside, own, miss
 use Rattle.threshold_grammar.specs.declared.Phase.{Phase}
 use Rattle.threshold_grammar.specs.declared.Phase.the-variants.{Head, Count, Tail, Owner, Mark, Threshold, Of, Members, Wrong}
 use Rattle.threshold_grammar.specs.declared.Spot.{Spot}
-use Rattle.threshold_nesting.specs.Nesting.{unreached, member, opened, closed, completed, numbered, opening, closing as bracketed, lineEnd, spoken}
+use Rattle.threshold_nesting.specs.Nesting.{unreached, member, openedSet, closedSet, completed, numbered, openingSet, closing as bracketed, lineEnd, spoken}
 use Rattle.threshold_reading.proofs.Steps.{after-sane, length-leaves, start-sane, zero-at}
-use Rattle.threshold_reading.specs.Lines.{countAt, thresholdAt, innerAt, plainAt, setsOf, held, enacted}
-use Rattle.threshold_reading.specs.Reading.{Here, here, after, leaves, heardAs, hearing, readOn, start, finished, textRead}
+use Rattle.threshold_reading.specs.Lines.{countAt, thresholdAt, innerAt, plainAt, lineSets, held, enacted}
+use Rattle.threshold_reading.specs.Reading.{Here, here, afterByte, leavesLine, heardAs, hearing, readOn, start, finished, textRead}
 use Rattle.threshold_sound.proofs.Lines.{Blank, Done, Left, Begun, Good, Better, missed-good, rooted, moved, least-good, site-good, inner-good, back-good, end-good}
 
 module _ (s : Spot) (t : List ℕ) (sane : Sane s) (long : length t ≡ 9472) where
@@ -50,14 +50,14 @@ module _ (s : Spot) (t : List ℕ) (sane : Sane s) (long : length t ≡ 9472) wh
       either (not (ltb x (s .n))) _ _ (λ e. omega arith)
       (λ e. either (has (held s t .plain) x) _ _ (λ y. omega arith) (λ y. site-good s t sane long x (ltb-true x (s .n) (not-false (ltb x (s .n)) e)) f))
 
-  opened-good : Begun s t → Better (opened s (held s t)) t
-  unfolding opened
+  opened-good : Begun s t → Better (openedSet s (held s t)) t
+  unfolding openedSet
   opened-good f =
       either (ltb 48 (held s t .sets)) _ _ (λ e. omega arith)
       (λ e. either (ltb 3 (s .depth)) _ _ (λ y. omega arith) (λ y. inner-good s t sane long (ltb-false 48 (held s t .sets) e) (ltb-false 3 (s .depth) y) f))
 
-  closed-good : Begun s t → Better (closed s (held s t)) t
-  unfolding closed
+  closed-good : Begun s t → Better (closedSet s (held s t)) t
+  unfolding closedSet
   closed-good f =
       either (not (ltb 1 (s .depth))) _ _ (λ e. missed-good s t sane long)
       (λ e. either (unreached (held s t)) _ _ (λ y. omega arith) (λ y. back-good s t sane long (ltb-true 1 (s .depth) (not-false (ltb 1 (s .depth)) e)) y f))
@@ -113,7 +113,7 @@ module _ (s : Spot) (t : List ℕ) (sane : Sane s) (long : length t ≡ 9472) wh
   in-coloned Members f = missed-good s t sane long
   in-coloned (Wrong w) f = missed-good s t sane long
 
-  in-opening : (p : Phase) → Good p s t → Better (opening p s (held s t)) t
+  in-opening : (p : Phase) → Good p s t → Better (openingSet p s (held s t)) t
   in-opening Head f = missed-good s t sane long
   in-opening Count f = missed-good s t sane long
   in-opening Tail f = missed-good s t sane long
@@ -168,8 +168,8 @@ module _ (s : Spot) (t : List ℕ) (sane : Sane s) (long : length t ≡ 9472) wh
   told End f = in-end (s .phase) f
   told Strange f = missed-good s t sane long
 
-  pub word-good : (k : Token) → Good (s .phase) s t → Good (after k s t .phase) (after k s t) (leaves k s t)
-  unfolding after leaves
+  pub word-good : (k : Token) → Good (s .phase) s t → Good (afterByte k s t .phase) (afterByte k s t) (leavesLine k s t)
+  unfolding afterByte leavesLine
   word-good k f = told k f
 
 -- what holds of a reading
@@ -178,7 +178,7 @@ pub record Keeps (s : Spot) (t : List ℕ) : Type 0 where
   pub long : length t ≡ 9472
   pub good : Good (s .phase) s t
 
-word-keeps : (k : Token) (s : Spot) (t : List ℕ) → Keeps s t → Keeps (after k s t) (leaves k s t)
+word-keeps : (k : Token) (s : Spot) (t : List ℕ) → Keeps s t → Keeps (afterByte k s t) (leavesLine k s t)
 word-keeps k s t f = record {
   sane = after-sane k s t (f .sane);
   long = length-leaves k s t ∙ f .long;
@@ -187,7 +187,7 @@ word-keeps k s t f = record {
 
 byte-keeps : (c : Sign) (w : Word.Begun) (s : Spot) (t : List ℕ) → Keeps s t → Keeps (heardAs c w s t .0) (heardAs c w s t .1)
 unfolding heardAs
-byte-keeps c w s t f = word-keeps (said c) (after (ended c w) s t) (leaves (ended c w) s t) (word-keeps (ended c w) s t f)
+byte-keeps c w s t f = word-keeps (said c) (afterByte (ended c w) s t) (leavesLine (ended c w) s t) (word-keeps (ended c w) s t f)
 
 read-keeps : (l : List ℕ) (h : Here) → Keeps (h .spot) (h .lines) → Keeps (readOn h l .spot) (readOn h l .lines)
 unfolding readOn hearing

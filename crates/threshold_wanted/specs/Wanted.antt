@@ -3,7 +3,8 @@ use Prim.Native.String.{String}
 use Rattle.leaflet.specs.Leaflet.{meaning}
 use Rattle.threshold_grammar.specs.declared.Why.{Why}
 use Rattle.threshold_grammar.specs.declared.Why.the-variants.{LineEnd, Nothing, Member, Bracket, Other, Rule}
-use Rattle.threshold_grammar.specs.declared.Why.the-variants.{Sites as NoSites, Count as NoCount, Owner as NoOwner, Colon as NoColon, Threshold as NoThreshold, Of as NoOf}
+use Rattle.threshold_grammar.specs.declared.Why.the-variants.{Sites as NoSites, Count as NoCount, Owner as NoOwner}
+use Rattle.threshold_grammar.specs.declared.Why.the-variants.{Colon as NoColon, Threshold as NoThreshold, Of as NoOf}
 
 -- "what was expected there"; of a refusal "the meaning"
 abbrev pub wanted : Why → String

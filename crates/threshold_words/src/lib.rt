@@ -1,6 +1,7 @@
 // From bytes to words: what is in hand after a byte of a text, the word that ends there, and what the byte says itself. The rules are in specs/Words.antt.
 ghost use mathlib.Core.Path.{_≡_};
-ghost use Rattle.threshold_words.specs.Words.{counts, spelt, oh, opens, wordOn, plain, orLine, signOf, turn, spelled, whole, ended, said, closing, stopped};
+ghost use Rattle.threshold_words.specs.Words.{counts, spelt, oh, opens, wordOn, plain, orLine, signOf, turn};
+ghost use Rattle.threshold_words.specs.Words.{spelled, whole, ended, said, closing, stopped};
 
 // What is in hand: the beginning of a line, a gap, a number, so many letters of `sites`, `o`, `of`, a word that is none, the CR of CR LF, a comment.
 pub enum Begun {

@@ -28,9 +28,6 @@ set-puts b at threshold inner plain =
     let f : at + 2 ≡ suc (suc at) = omega arith in
     rw (e, f) refl
 
-pub length-set-bytes : (S : ThresholdSets) (i : ℕ) → length (setBytes S i) ≡ 10
-length-set-bytes S i = refl
-
 pub length-places : (S : ThresholdSets) (k : ℕ) → length (setPlaces S k) ≡ 10 * k
 unfolding setPlaces
 length-places S k = length-cat (setBytes S) 10 k (λ j h. refl)

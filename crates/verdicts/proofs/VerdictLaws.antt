@@ -37,17 +37,6 @@ module _ (s : ℕ → ℕ → Bool) (n : ℕ) where
   unfolding apart
   apart-no-quorum p e = ap (λ (b : Bool). b && not (eqb (beside s n p) 0)) e
 
-  -- as it is asked of p: a round drops somebody, or p is empty, or it is a quorum
-
-  pub apart-moved : (p : ℕ) → (round s n p ≡ p → ⊥) → apart s n p ≡ false
-  apart-moved p ne = apart-no-quorum p (is-false (quorum s n p) (λ k. ne (quorum-still s n k)))
-
-  pub apart-empty : apart s n 0 ≡ false
-  apart-empty = apart-no-quorum 0 (quorum-empty s n)
-
-  pub apart-still : (p : ℕ) → round s n p ≡ p → (p ≡ 0 → ⊥) → apart s n p ≡ not (eqb (beside s n p) 0)
-  apart-still p e ne = apart-quorum p (still-quorum s n e ne)
-
   -- what is apart: two quorums with no common site
 
   pub apart-first : (p : ℕ) → apart s n p ≡ true → quorum s n p ≡ true
@@ -120,58 +109,11 @@ module _ (s : ℕ → ℕ → Bool) (n : ℕ) where
         bad : firstApart s n ≡ 2 ^ n → firstApart s n ≤ p → p < 2 ^ n → ⊥
         bad e l h = omega arith
 
--- with b deleted, a set that has a member of b is no quorum: so the next to look at after p is the next with no member of b
+-- with b deleted, a set that has a member of b is no quorum
 module _ (s : ℕ → ℕ → Bool) (n b : ℕ) (gone : (v u : ℕ) → s v u ≡ true → v ∈ b → ⊥) where
   pub meeting-no-quorum : (p : ℕ) → (bitAnd p b ≡ 0 → ⊥) → quorum s n p ≡ false
   meeting-no-quorum p ne =
       is-false (quorum s n p) (λ k. let m = common-of p b ne in gone (m .0) p (quorum-slice s n k (m .1)) (m .2))
-
-  -- and the largest quorum beside p is looked for in the rest
-  pub beside-rest : Rule s → (p : ℕ) → beside s n p ≡ largest s n (minus (minus (allBelow n) b) p)
-  unfolding beside
-  beside-rest r p =
-      ⊆-antisym
-      (largest-contains s n r (largest-still s n (minus (allBelow n) p)) (minus (minus (allBelow n) b) p)
-      (record {
-        each = λ v h.
-            let k = largest-⊆ s n (minus (allBelow n) p) .each v h in
-            let d = round-slice s n (∈-eq (sym (largest-still s n (minus (allBelow n) p))) h) in
-            ∈-minus (∈-minus (minus-⊆ (allBelow n) p .each v k) (gone v (largest s n (minus (allBelow n) p)) d)) (minus-not-in (allBelow n) k);
-      }))
-      (largest-grows s n r (minus-grows p (minus-⊆ (allBelow n) b)))
-
-  -- two quorums with no common site are together no more than the rest, so that the smaller is no more than half of it
-  pub first-apart-half : Rule s → (p : ℕ) → ((q : ℕ) → q < p → apart s n q ≡ false) → minus (allBelow n) b < p + p → firstApart s n ≡ 2 ^ n
-  first-apart-half r p f l = first-apart-none s n (λ q h. is-false (apart s n q) (λ e. pair q (apart-first s n q e) (apart-second s n q e) (beside-apart s n q)))
-    where
-      in-rest : (q : ℕ) → quorum s n q ≡ true → q ⊆ minus (allBelow n) b
-      in-rest q k = record { each = λ v h. ∈-minus (quorum-below s n k .each v h) (gone v q (quorum-slice s n k h)) }
-
-      above : (q : ℕ) → apart s n q ≡ true → p ≤ q
-      above q e = ⊎-elim (λ h. absurd (clash e (f q (ltb-true q p h)))) (λ h. ltb-false q p h) (cases (ltb q p))
-
-      bad : (q m : ℕ) → bitOr q m ≡ q + m → bitOr q m ≤ minus (allBelow n) b → p ≤ q → p ≤ m → minus (allBelow n) b < p + p → ⊥
-      bad q m e a b c d = omega arith
-
-      pair : (q : ℕ) → quorum s n q ≡ true → quorum s n (beside s n q) ≡ true → bitAnd q (beside s n q) ≡ 0 → ⊥
-      pair q k j z =
-          let m = beside s n q in
-          bad q m (or-disjoint q m z) (⊆-le (or-⊆ (in-rest q k) (in-rest m j))) (above q (apart-of s n r q m k j z)) (above m (apart-of s n r m q j k (and-comm m q ∙ z))) l
-
-  pub none-apart-next : (p : ℕ) → bitAnd p b ≡ 0 → ((q : ℕ) → q < p → apart s n q ≡ false) → apart s n p ≡ false
-      → (q : ℕ) → q < minus (bitOr p b + 1) b → apart s n q ≡ false
-  none-apart-next p e f here q l =
-      ⊎-elim (λ h. f q (ltb-true q p h))
-      (λ h. ⊎-elim (λ z. subst (λ (x : ℕ). apart s n x ≡ false) (sym (eqb-true q p z)) here) (λ z. past (ltb-false q p h) (eqb-false q p z)) (cases (eqb q p))) (cases (ltb q p))
-    where
-      above : p ≤ q → (q ≡ p → ⊥) → p < q
-      above le ne = omega arith
-
-      bad : minus (bitOr p b + 1) b ≤ q → q < minus (bitOr p b + 1) b → ⊥
-      bad h l = omega arith
-
-      past : p ≤ q → (q ≡ p → ⊥) → apart s n q ≡ false
-      past le ne = apart-no-quorum s n q (meeting-no-quorum q (λ z. let h = next-least p b q e z (above le ne) in bad h l))
 
 module _ (r : Slices) (n : ℕ) where
   -- the two halves of dispensable, as they are asked
@@ -186,28 +128,6 @@ module _ (r : Slices) (n : ℕ) where
   pub dispensable-not : (b : ℕ) → leavesQuorum b ≡ false → dispensable r n b ≡ false
   unfolding dispensable
   dispensable-not b e = ap (λ (x : Bool). meets (r .deleted b) n && x) e ∙ and-false (meets (r .deleted b) n)
-
-  -- what leaves a quorum: no round drops any of the sites outside b
-
-  pub still-leaves : (b : ℕ) → b < 2 ^ n → round (r .inside) n (minus (allBelow n) b) ≡ minus (allBelow n) b → leavesQuorum b ≡ true
-  still-leaves b l e =
-      let rest = minus (allBelow n) b in
-      ⊎-elim
-      (λ z.
-      or-i (quorum (r .inside) n rest) (eqb b (allBelow n))
-      (eq-eqb b (allBelow n) (⊆-antisym (⊆-all n l) (record { each = λ v h. ⊎-elim (λ k. k) (λ k. absurd (not-in-zero (∈-eq (eqb-true rest 0 z) (∈-minus h k)))) (in? v b) }))))
-      (λ z. ap (λ (c : Bool). c || eqb b (allBelow n)) (still-quorum (r .inside) n e (eqb-false rest 0 z))) (cases (eqb rest 0))
-
-  pub moved-leaves : (b : ℕ) → (round (r .inside) n (minus (allBelow n) b) ≡ minus (allBelow n) b → ⊥) → leavesQuorum b ≡ false
-  moved-leaves b ne =
-      let rest = minus (allBelow n) b in
-      is-false (leavesQuorum b)
-      (λ e.
-      ⊎-elim (λ k. ne (quorum-still (r .inside) n k))
-      (λ k.
-      ne (⊆-antisym (round-⊆ (r .inside) n rest)
-      (record { each = λ v h. absurd (minus-not-in (allBelow n) h (∈-eq (sym (eqb-true b (allBelow n) k)) (minus-⊆ (allBelow n) b .each v h))) })))
-      (or-e (quorum (r .inside) n rest) (eqb b (allBelow n)) e))
 
   -- the sites outside b if b is dispensable, else none
   abbrev pub sparedBy : ℕ → ℕ

@@ -52,19 +52,3 @@ pub minus-or : (m b : ℕ) → minus m b + b ≡ bitOr m b
 minus-or m b =
     sym (or-disjoint (minus m b) b (minus-apart m b))
     ∙ ⊆-antisym (or-⊆ (⊆-trans (minus-⊆ m b) (or-⊆-l m b)) (or-⊆-r m b)) (or-⊆ (minus-⊆-or m b (minus m b) (⊆-refl (minus m b))) (or-⊆-r (minus m b) b))
-
--- the next set has no member of b, is above p, and no such set stands between; it is not past 2 ^ n
-
-pub next-apart : (p b : ℕ) → bitAnd (minus (bitOr p b + 1) b) b ≡ 0
-next-apart p b = minus-apart (bitOr p b + 1) b
-
-pub next-above : (p b : ℕ) → bitAnd p b ≡ 0 → p < minus (bitOr p b + 1) b
-next-above p b e = omega (arith, minus-or (bitOr p b + 1) b, ⊆-le (or-⊆-l (bitOr p b + 1) b), or-disjoint p b e)
-
-pub next-least : (p b q : ℕ) → bitAnd p b ≡ 0 → bitAnd q b ≡ 0 → p < q → minus (bitOr p b + 1) b ≤ q
-next-least p b q e f l =
-    let up : bitOr p b < bitOr q b = omega (arith, or-disjoint p b e, or-disjoint q b f) in
-    omega (arith, next-with (bitOr p b) b (bitOr q b) (or-⊆-r p b) (or-⊆-r q b) up, minus-or (bitOr p b + 1) b, or-disjoint q b f)
-
-pub next-le : (n p b : ℕ) → p < 2 ^ n → b < 2 ^ n → minus (bitOr p b + 1) b ≤ 2 ^ n
-next-le n p b hp hb = omega (arith, ⊆-le (minus-⊆ (bitOr p b + 1) b), or-lt n p b hp hb)

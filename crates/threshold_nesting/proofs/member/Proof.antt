@@ -25,7 +25,8 @@ returns-2 : tie.Need-returns-2
 returns-2 c = c .at2 .ensures ∙ sym (member-twice _ _ _ (c .before .before .before .if1 .left) (sym (c .before .before .has .ensures) ∙ c .before .if2 .taken))
 
 returns-3 : tie.Need-returns-3
-returns-3 c = c .doing .ensures ∙ ap (λ (q : ℕ). doing (c .before .before .before .before .before .before .args .s) (Site q) Members) (c .before .single .ensures) ∙ sym (member-more _ _ _ (c .before .before .before .before .if1 .left) (sym (c .before .before .before .has .ensures) ∙ c .before .before .if2 .left))
+returns-3 c = c .doing .ensures ∙ ap (λ (q : ℕ). doing (c .before .before .before .before .before .before .args .s) (Site q) Members) (c .before .single .ensures)
+    ∙ sym (member-more _ _ _ (c .before .before .before .before .if1 .left) (sym (c .before .before .before .has .ensures) ∙ c .before .before .if2 .left))
 
 pub member-spec : {M : Type 1} → statement M
 member-spec =

@@ -16,7 +16,8 @@ returns : tie.Need-returns
 returns c = c .at .ensures ∙ ap (λ (v : ℕ). at (c .before .before .before .before .args .s) (Wrong (Rule (Count v)))) (c .before .own .ensures) ∙ sym (opened-50 _ _ (c .before .before .if1 .taken))
 
 returns-2 : tie.Need-returns-2
-returns-2 c = c .at2 .ensures ∙ ap (λ (v : ℕ). at (c .before .before .before .before .before .before .args .s) (Wrong (Rule (Nesting v)))) (c .before .own2 .ensures) ∙ sym (opened-fifth _ _ (c .before .before .before .before .if1 .left) (c .before .before .if2 .taken))
+returns-2 c = c .at2 .ensures ∙ ap (λ (v : ℕ). at (c .before .before .before .before .before .before .args .s) (Wrong (Rule (Nesting v)))) (c .before .own2 .ensures)
+    ∙ sym (opened-fifth _ _ (c .before .before .before .before .if1 .left) (c .before .before .if2 .taken))
 
 returns-3 : tie.Need-returns-3
 returns-3 c = sym (opened-so _ _ (c .before .before .before .if1 .left) (c .before .if2 .left))

@@ -16,7 +16,8 @@ returns c = let a = c .before .before .before .before .before .before .before .b
     c .before .before .put164 .ensures
     ∙ ap (λ (x : List ℕ). sets x 6 (digits 2 0))
     (c .before .before .before .before .before .before .put163 .ensures ∙ ap (λ (x : List ℕ). sets x 4 (digits 2 (a .many)))
-    (c .before .before .before .before .before .before .before .before .before .before .put162 .ensures ∙ ap (λ (x : List ℕ). sets x 2 (digits 2 (a .n))) (c .before .before .before .before .before .before .before .before .before .before .before .before .before .before .put16 .ensures)))
+    (c .before .before .before .before .before .before .before .before .before .before .put162 .ensures
+    ∙ ap (λ (x : List ℕ). sets x 2 (digits 2 (a .n))) (c .before .before .before .before .before .before .before .before .before .before .before .before .before .before .put16 .ensures)))
     ∙ head-puts (now (a .b)) (a .i) (a .n) (a .many) (c .before .before .before .before .before .before .before .before .before .before .before .before .before .before .before .before .before .pre)
 
 pub put-head-spec : {M : Type 1} → statement M
