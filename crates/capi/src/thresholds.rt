@@ -41,7 +41,12 @@ pub extern "C" fn siren_threshold_largest(image: &[u8], set: u64, out: &mut [u64
 
 // Does the set block the site?
 #[no_mangle]
-pub extern "C" fn siren_threshold_blocks(image: &[u8], set: u64, site: u64, out: &mut [u64; 4]) -> u64
+pub extern "C" fn siren_threshold_blocks(
+    image: &[u8],
+    set: u64,
+    site: u64,
+    out: &mut [u64; 4],
+) -> u64
     ensures answer { λ r. ⌜ r ≡ ofHolds (blocks (thresholds (now (image .entry))) set site) .number ⌝ }
     ensures told { λ r. ⌜ now (out .exit) ≡ ofHolds (blocks (thresholds (now (image .entry))) set site) .out ⌝ }
 {
@@ -68,7 +73,12 @@ pub extern "C" fn siren_threshold_intact(image: &[u8], faulty: u64, out: &mut [u
 
 // Is the state sound?
 #[no_mangle]
-pub extern "C" fn siren_threshold_sound(image: &[u8], faulty: u64, state: &[u64], out: &mut [u64; 4]) -> u64
+pub extern "C" fn siren_threshold_sound(
+    image: &[u8],
+    faulty: u64,
+    state: &[u64],
+    out: &mut [u64; 4],
+) -> u64
     ensures answer { λ r. ⌜ r ≡ ofCheck (soundCheck (thresholds (now (image .entry))) faulty (now (state .entry))) .number ⌝ }
     ensures told { λ r. ⌜ now (out .exit) ≡ ofCheck (soundCheck (thresholds (now (image .entry))) faulty (now (state .entry))) .out ⌝ }
 {
@@ -117,7 +127,10 @@ pub extern "C" fn siren_threshold_run(
     ensures bytes { λ r.
         ⌜ now (answers .exit) ≡ runAnswers (thresholds (now (image .entry))) faulty (now (calls .entry)) (now (state .entry)) (now (answers .entry)) ⌝ }
 {
-    said_votes::ran(threshold_votes::run(image, faulty, calls, state, answers), out)
+    said_votes::ran(
+        threshold_votes::run(image, faulty, calls, state, answers),
+        out,
+    )
 }
 
 // The same run of a list of call records.

@@ -43,16 +43,7 @@ pub fn step(
     let n = image.len() / 512;
     let mut rows = [0u64; 4032];
     threshold_image::load(image, n, &mut rows);
-    voting::step_of(
-        &rows[..63 * n],
-        n,
-        faulty,
-        state,
-        kind,
-        from,
-        to,
-        side,
-    )
+    voting::step_of(&rows[..63 * n], n, faulty, state, kind, from, to, side)
 }
 
 // The run of a list of calls, four bytes a call, from a fresh state: image, 10, 17, 9, then the run.

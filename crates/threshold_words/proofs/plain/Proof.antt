@@ -24,30 +24,69 @@ returns-4 c = rw (ne-eqb _ 10 (c .before .before .before .if1 .left), ne-eqb _ 3
 
 returns-5 : tie.Need-returns-5
 unfolding plain
-returns-5 c = rw (ne-eqb _ 10 (c .before .before .before .before .if1 .left), ne-eqb _ 35 (c .before .before .before .if2 .left), ne-eqb _ 58 (c .before .before .if3 .left), ne-eqb _ 40
-    (c .before .if4 .left), eq-eqb _ 41 (c .if5 .taken)) refl
+returns-5 c = rw (
+  ne-eqb _ 10 (c .before .before .before .before .if1 .left),
+  ne-eqb _ 35 (c .before .before .before .if2 .left),
+  ne-eqb _ 58 (c .before .before .if3 .left),
+  ne-eqb _ 40
+      (c .before .if4 .left),
+  eq-eqb _ 41 (c .if5 .taken),
+) refl
 
 returns-6 : tie.Need-returns-6
 unfolding plain
-returns-6 c = rw (ne-eqb _ 10 (c .before .before .before .before .before .if1 .left), ne-eqb _ 35 (c .before .before .before .before .if2 .left), ne-eqb _ 58
-    (c .before .before .before .if3 .left), ne-eqb _ 40 (c .before .before .if4 .left), ne-eqb _ 41 (c .before .if5 .left), eq-eqb _ 13 (c .if6 .taken)) refl
+returns-6 c = rw (
+  ne-eqb _ 10 (c .before .before .before .before .before .if1 .left),
+  ne-eqb _ 35 (c .before .before .before .before .if2 .left),
+  ne-eqb _ 58
+      (c .before .before .before .if3 .left),
+  ne-eqb _ 40 (c .before .before .if4 .left),
+  ne-eqb _ 41 (c .before .if5 .left),
+  eq-eqb _ 13 (c .if6 .taken),
+) refl
 
 returns-7 : tie.Need-returns-7
 unfolding plain
-returns-7 c = rw (ne-eqb _ 10 (c .before .before .before .before .before .before .if1 .left), ne-eqb _ 35 (c .before .before .before .before .before .if2 .left), ne-eqb _ 58
-    (c .before .before .before .before .if3 .left), ne-eqb _ 40 (c .before .before .before .if4 .left), ne-eqb _ 41 (c .before .before .if5 .left), ne-eqb _ 13 (c .before .if6 .left), eq-eqb _ 32 (c .if7 .taken)) refl
+returns-7 c = rw (
+  ne-eqb _ 10 (c .before .before .before .before .before .before .if1 .left),
+  ne-eqb _ 35 (c .before .before .before .before .before .if2 .left),
+  ne-eqb _ 58
+      (c .before .before .before .before .if3 .left),
+  ne-eqb _ 40 (c .before .before .before .if4 .left),
+  ne-eqb _ 41 (c .before .before .if5 .left),
+  ne-eqb _ 13 (c .before .if6 .left),
+  eq-eqb _ 32 (c .if7 .taken),
+) refl
 
 returns-8 : tie.Need-returns-8
 unfolding plain
-returns-8 c = rw (ne-eqb _ 10 (c .before .before .before .before .before .before .before .if1 .left), ne-eqb _ 35 (c .before .before .before .before .before .before .if2 .left), ne-eqb _ 58
-    (c .before .before .before .before .before .if3 .left), ne-eqb _ 40 (c .before .before .before .before .if4 .left), ne-eqb _ 41 (c .before .before .before .if5 .left), ne-eqb _ 13
-    (c .before .before .if6 .left), ne-eqb _ 32 (c .before .if7 .left), eq-eqb _ 9 (c .if8 .taken)) refl
+returns-8 c = rw (
+  ne-eqb _ 10 (c .before .before .before .before .before .before .before .if1 .left),
+  ne-eqb _ 35 (c .before .before .before .before .before .before .if2 .left),
+  ne-eqb _ 58
+      (c .before .before .before .before .before .if3 .left),
+  ne-eqb _ 40 (c .before .before .before .before .if4 .left),
+  ne-eqb _ 41 (c .before .before .before .if5 .left),
+  ne-eqb _ 13
+      (c .before .before .if6 .left),
+  ne-eqb _ 32 (c .before .if7 .left),
+  eq-eqb _ 9 (c .if8 .taken),
+) refl
 
 returns-9 : tie.Need-returns-9
 unfolding plain
-returns-9 c = rw (ne-eqb _ 10 (c .before .before .before .before .before .before .before .if1 .left), ne-eqb _ 35 (c .before .before .before .before .before .before .if2 .left), ne-eqb _ 58
-    (c .before .before .before .before .before .if3 .left), ne-eqb _ 40 (c .before .before .before .before .if4 .left), ne-eqb _ 41 (c .before .before .before .if5 .left), ne-eqb _ 13
-    (c .before .before .if6 .left), ne-eqb _ 32 (c .before .if7 .left), ne-eqb _ 9 (c .if8 .left)) refl
+returns-9 c = rw (
+  ne-eqb _ 10 (c .before .before .before .before .before .before .before .if1 .left),
+  ne-eqb _ 35 (c .before .before .before .before .before .before .if2 .left),
+  ne-eqb _ 58
+      (c .before .before .before .before .before .if3 .left),
+  ne-eqb _ 40 (c .before .before .before .before .if4 .left),
+  ne-eqb _ 41 (c .before .before .before .if5 .left),
+  ne-eqb _ 13
+      (c .before .before .if6 .left),
+  ne-eqb _ 32 (c .before .if7 .left),
+  ne-eqb _ 9 (c .if8 .left),
+) refl
 
 pub plain-spec : {M : Type 1} → statement M
 plain-spec =
