@@ -1,4 +1,4 @@
-/* Every call of include/siren.h from C, with answers worked out by hand: on table A of the rules (slices 3; 3; 7; 11; 24), on journals of none to 4,096
+/* Every call of include/siren.h from C, with answers worked out by hand: on table A of the rules (slices 3; 3; 7; 11; 24), as a list and in thresholds, on journals of none to 4,096
  * calls, and on tables, rooms, lists, states and journals that are refused. Each call finds `out` full of old numbers between two guards, and must write
  * its four cells and no other. Then the stack that the calls use, measured on a painted stack; a word given leaves that out. */
 #define _GNU_SOURCE
@@ -19,6 +19,8 @@
 #define STACK_ALLOWED 1024
 #define STACK_OF_LISTS 9216
 #define STACK_OF_RECORDS 26624
+#define STACK_OF_ROWS 43008
+#define STACK_OF_BOTH 60416
 /* The limits are those of include/siren.h. A copy of the lent table, 2,520 bytes for table A, is refused. */
 #define COUNT(a) (sizeof(a) / sizeof *(a))
 
@@ -427,6 +429,120 @@ static void journals(void)
     refuses("the number of the block before", 1536, 20, 1);
 }
 
+/* ---- tables of thresholds */
+
+static uint8_t groups[512 * SITES], image_a[512 * SITES];
+
+/* A set of a block: threshold, number of inner sets, mask of plain sites. */
+typedef struct {
+    uint8_t threshold, inner;
+    uint64_t plain;
+} set;
+
+static void make_sets(uint8_t *image, size_t sites, size_t site, const set *sets, size_t many)
+{
+    uint8_t *const block = image + 512 * site;
+    memset(block, 0, 512);
+    block[0] = (uint8_t)site;
+    block[2] = (uint8_t)sites;
+    block[4] = (uint8_t)many;
+    for (size_t i = 0; i < many; i++) {
+        block[8 + 10 * i] = sets[i].threshold;
+        block[9 + 10 * i] = sets[i].inner;
+        for (size_t j = 0; j < 8; j++)
+            block[10 + 10 * i + j] = (uint8_t)(sets[i].plain >> (8 * j));
+    }
+    seal(block);
+}
+
+/* Block 1 of the groups with other sets is refused so. */
+static void refuses_sets(const char *what, const set *sets, size_t many, uint64_t number)
+{
+    make_sets(groups, SITES, 1, sets, many);
+    says(what, siren_threshold_check(groups, sizeof groups, fresh()), number, number == 0 ? 0 : 1, 0, 0, 0);
+}
+
+static void threshold_images(void)
+{
+    const set rows_a[SITES] = {{2, 0, 3}, {2, 0, 3}, {3, 0, 7}, {3, 0, 11}, {2, 0, 24}};
+    const set nested[3] = {{2, 2, 1}, {1, 0, 6}, {2, 0, 24}};
+    const set none[1] = {{0, 0, 31}}, above[1] = {{6, 0, 31}}, strange[2] = {{1, 1, 1}, {1, 0, 32}}, second[2] = {{1, 0, 1}, {1, 0, 2}}, owed[1] = {{1, 1, 1}};
+    const set four[4] = {{1, 1, 0}, {1, 1, 0}, {1, 1, 0}, {1, 0, 2}}, five[5] = {{1, 1, 0}, {1, 1, 0}, {1, 1, 0}, {1, 1, 0}, {1, 0, 2}};
+    for (size_t v = 0; v < SITES; v++) {
+        make_sets(image_a, SITES, v, rows_a + v, 1);
+        make_sets(groups, SITES, v, nested, 3);
+    }
+    says("table A in thresholds", siren_threshold_check(image_a, sizeof image_a, fresh()), 0, 0, 0, 0, 0);
+    says("groups", siren_threshold_check(groups, sizeof groups, fresh()), 0, 0, 0, 0, 0);
+    says("no image", siren_threshold_check(NULL, 0, fresh()), 1, 0, 0, 0, 0);
+    says("half a block", siren_threshold_check(groups, 256, fresh()), 1, 0, 0, 0, 0);
+    refuses_sets("no set", nested, 0, 4);
+    refuses_sets("a threshold of zero", none, 1, 21);
+    refuses_sets("a threshold that nobody reaches", above, 1, 21);
+    refuses_sets("site 5 in an inner set", strange, 2, 5);
+    refuses_sets("a second root", second, 2, 22);
+    refuses_sets("an inner set that is missing", owed, 1, 22);
+    refuses_sets("four levels", four, 4, 0);
+    refuses_sets("five levels", five, 5, 22);
+    make_sets(groups, SITES, 1, nested, 3);
+    groups[512 + 8 + 30] = 1;
+    seal(groups + 512);
+    says("a byte behind the last set", siren_threshold_check(groups, sizeof groups, fresh()), 8, 1, 0, 0, 0);
+    groups[512 + 8 + 30] = 0;
+    says("a check that differs", siren_threshold_check(groups, sizeof groups, fresh()), 2, 1, 0, 0, 0);
+    make_sets(groups, SITES, 1, nested, 3);
+}
+
+/* Of the groups 2 of (0, 1 of (1, 2), 2 of (3, 4)): {0, 1, 3, 4} is a quorum; {1, 2, 3, 4} meets the root of every site, and site 0 is not in it. */
+static void threshold_calls(void)
+{
+    says("a quorum of the groups", siren_threshold_quorum(groups, sizeof groups, 27, fresh()), 0, 0, 1, 0, 0);
+    says("no quorum of the groups", siren_threshold_quorum(groups, sizeof groups, 9, fresh()), 0, 0, 0, 0, 0);
+    says("the others of site 0", siren_threshold_quorum(groups, sizeof groups, 30, fresh()), 0, 0, 1, 0, 0);
+    says("who blocks site 0", siren_threshold_blocks(groups, sizeof groups, 30, 0, fresh()), 0, 0, 1, 0, 0);
+    says("who does not", siren_threshold_blocks(groups, sizeof groups, 6, 0, fresh()), 0, 0, 0, 0, 0);
+    says("table A, a quorum", siren_threshold_quorum(image_a, sizeof image_a, 3, fresh()), 0, 0, 1, 0, 0);
+    says("table A, the largest", siren_threshold_largest(image_a, sizeof image_a, 24, fresh()), 0, 0, 0, 2, 0);
+    says("table A, site 5", siren_threshold_largest(image_a, sizeof image_a, 32, fresh()), 10, 0, 0, 0, 0);
+    says("table A, 0 blocks 1", siren_threshold_blocks(image_a, sizeof image_a, 1, 1, fresh()), 0, 0, 1, 0, 0);
+    says("table A, site 5 asked for", siren_threshold_blocks(image_a, sizeof image_a, 1, 5, fresh()), 11, 0, 0, 0, 0);
+    says("table A meets", siren_threshold_shared(image_a, sizeof image_a, fresh()), 0, 0, 1, 0, 0);
+    says("table A, 3 faulty", siren_threshold_intact(image_a, sizeof image_a, 8, fresh()), 0, 0, 7, 0, 0);
+}
+
+static void threshold_runs(void)
+{
+    static const uint64_t zeros[STATE];
+    static uint64_t state[STATE];
+    static uint8_t bytes[28];
+    memset(state, 0, sizeof state);
+    for (size_t i = 0; i < 7; i++) {
+        bytes[4 * i] = list[i].kind;
+        bytes[4 * i + 1] = list[i].from;
+        bytes[4 * i + 2] = list[i].to;
+        bytes[4 * i + 3] = list[i].side;
+    }
+    says("thresholds, fresh state", siren_threshold_sound(image_a, sizeof image_a, 8, state, STATE, fresh()), 0, 0, 0, 0, 0);
+    says("thresholds, short state", siren_threshold_sound(image_a, sizeof image_a, 8, state, STATE - 1, fresh()), 18, 0, 0, 0, 0);
+    says("thresholds, step refused", siren_threshold_step(image_a, sizeof image_a, 8, state, STATE, 1, 0, 1, 0, fresh()), 15, 0, 0, 0, 0);
+    same_numbers("thresholds, step refused", state, zeros, STATE);
+    says("thresholds, step", siren_threshold_step(image_a, sizeof image_a, 8, state, STATE, 0, 0, 0, 0, fresh()), 0, 0, 0, 0, 0);
+    if (state[0] != 1 || state[4 * SITES] != 1)
+        fail("thresholds, step", "another state");
+    old_rooms();
+    says("thresholds, state room too short", siren_threshold_run(image_a, sizeof image_a, 8, bytes, 28, state_room, STATE - 1, answer_room, 9, fresh()), 9, 0, 0, 0, 0);
+    rooms_kept("thresholds, run refused");
+    says("thresholds, run", siren_threshold_run(image_a, sizeof image_a, 8, bytes, 28, state_room, STATE + 2, answer_room, 9, fresh()), 0, 0, 2, 0, 0);
+    rooms_filled("thresholds, run");
+}
+
+static void threshold_records(void)
+{
+    old_rooms();
+    says("thresholds, records", siren_threshold_run_records(image_a, sizeof image_a, 8, list, 7, state_room, STATE + 2, answer_room, 9, fresh()), 0, 0, 2, 0, 0);
+    rooms_filled("thresholds, records");
+}
+
 /* ---- the stack: each part above runs on a stack painted beforehand, and what it touched is no longer painted. The figures hold the parts' own frames. */
 
 static uint8_t painted[STACK];
@@ -470,6 +586,10 @@ int main(int count, char **words)
     runs();
     runs_of_records();
     journals();
+    threshold_images();
+    threshold_calls();
+    threshold_runs();
+    threshold_records();
     if (count == 1) {
         on_painted("tables", tables, STACK_ALLOWED);
         on_painted("images", images, STACK_ALLOWED);
@@ -479,6 +599,10 @@ int main(int count, char **words)
         on_painted("runs", runs, STACK_OF_LISTS);
         on_painted("runs of records", runs_of_records, STACK_OF_RECORDS);
         on_painted("journals", journals, STACK_ALLOWED);
+        on_painted("images of thresholds", threshold_images, STACK_ALLOWED);
+        on_painted("set questions and verdicts of thresholds", threshold_calls, STACK_OF_ROWS);
+        on_painted("voting and runs over thresholds", threshold_runs, STACK_OF_ROWS);
+        on_painted("runs of records over thresholds", threshold_records, STACK_OF_BOTH);
     }
     printf("capi: %u calls, every function of include/siren.h, as worked out by hand\n", tried);
     return 0;
