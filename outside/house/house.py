@@ -17,19 +17,6 @@ ALLOWED = {
     "intact": ({"verdicts", "questions"}, "the public answer is named like the definition that it gives out"),
 }
 
-# Rooms of two texts that are read alike, the text of a table of thresholds and the text of a table of lists: a name of one may be a name of the other, for the
-# same part of the reading.
-MIRRORED = {
-    "threshold_words": "table_words",
-    "threshold_grammar": "table_grammar",
-    "threshold_nesting": "table_grammar",
-    "threshold_reading": "table_reading",
-    "threshold_made": "table_made",
-    "threshold_wanted": "table_wanted",
-    "threshold_said": "table_said",
-    "threshold_sound": "table_sound",
-}
-
 DECLARED = re.compile(r"( *)(?:abbrev |unfoldable )?pub (record )?([^\s:(]+)")
 WORD = re.compile(r"[^\s(){};,.⌜⌝\"]+")
 
@@ -171,7 +158,6 @@ def names(files):
                 places[name].append((parts[1], f"{path.relative_to(TOP)}:{i + 1}"))
     for name, where in sorted(places.items()):
         among = {crate for crate, _ in where}
-        among = {MIRRORED[crate] if MIRRORED.get(crate) in among else crate for crate in among}
         if len(among) > 1 and not (name in ALLOWED and among <= ALLOWED[name][0]):
             found[rule].append(f"{name}: " + ", ".join(place for _, place in where))
     for name, (among, _) in ALLOWED.items():

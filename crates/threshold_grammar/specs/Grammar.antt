@@ -19,8 +19,8 @@ use Rattle.threshold_grammar.specs.declared.Deed.the-variants.{Nothing, 
 use Rattle.threshold_grammar.specs.declared.Spot.{Spot}
 
 -- at most 64 sites, no more lines than sites, and the open sets are three of 49 and the root
-abbrev pub Sane : Spot → Type 0
-Sane s = (s .n ≤ 64) × (s .v ≤ s .n) × (s .set < 49) × (s .around < 49) × (s .beyond < 49)
+abbrev pub ThresholdSane : Spot → Type 0
+ThresholdSane s = (s .n ≤ 64) × (s .v ≤ s .n) × (s .set < 49) × (s .around < 49) × (s .beyond < 49)
 
 -- the same place, with something done to the sets of the line and something else expected
 abbrev pub doing : Spot → Deed → Phase → Spot
@@ -37,83 +37,83 @@ doing s d p = record {
 }
 
 -- the same place, with something else expected
-abbrev pub at : Spot → Phase → Spot
-at s p = doing s Nothing p
+abbrev pub spotAt : Spot → Phase → Spot
+spotAt s p = doing s Nothing p
 
 -- where no set is open but the root of a line that begins or is to begin
 abbrev pub outside : ℕ → ℕ → ℕ → Phase → Spot
 outside line n v p = record { line = line; n = n; v = v; depth = 1; set = 0; around = 0; beyond = 0; deed = Nothing; phase = p }
 
 -- v counts the lines begun, so that the line of site v - 1 is the one that is read
-abbrev pub own : ℕ → ℕ
-own v = v - 1
+abbrev pub thresholdOwn : ℕ → ℕ
+thresholdOwn v = v - 1
 
 -- what was expected: behind the last site's line nothing more; a closing bracket only where one is open
-abbrev pub nextLine : Bool → Why
-nextLine more = cond more NoOwner NoMore
+abbrev pub thresholdNextLine : Bool → Why
+thresholdNextLine more = cond more NoOwner NoMore
 
 abbrev pub nextMember : Bool → Why
 nextMember inner = cond inner Bracket Member
 
-abbrev pub expected : Phase → Bool → Bool → Why
-expected Head more inner = NoSites
-expected Count more inner = NoCount
-expected Tail more inner = LineEnd
-expected Owner more inner = nextLine more
-expected Mark more inner = NoColon
-expected Threshold more inner = NoThreshold
-expected Of more inner = NoOf
-expected Members more inner = nextMember inner
-expected (Wrong why) more inner = why
+abbrev pub thresholdExpected : Phase → Bool → Bool → Why
+thresholdExpected Head more inner = NoSites
+thresholdExpected Count more inner = NoCount
+thresholdExpected Tail more inner = LineEnd
+thresholdExpected Owner more inner = thresholdNextLine more
+thresholdExpected Mark more inner = NoColon
+thresholdExpected Threshold more inner = NoThreshold
+thresholdExpected Of more inner = NoOf
+thresholdExpected Members more inner = nextMember inner
+thresholdExpected (Wrong why) more inner = why
 
 -- what is heard is not what was expected; after the first fault nothing is heard
-unfoldable pub missed : Spot → Spot
-missed s = at s (Wrong (expected (s .phase) (ltb (s .v) (s .n)) (ltb 1 (s .depth))))
+unfoldable pub thresholdMissed : Spot → Spot
+thresholdMissed s = spotAt s (Wrong (thresholdExpected (s .phase) (ltb (s .v) (s .n)) (ltb 1 (s .depth))))
 
 -- the next line
-abbrev pub onward : Spot → Phase → Spot
-onward s p = outside (s .line + 1) (s .n) (s .v) p
+abbrev pub thresholdOnward : Spot → Phase → Spot
+thresholdOnward s p = outside (s .line + 1) (s .n) (s .v) p
 
 -- n is 1 to 64
-unfoldable pub many : Spot → ℕ → Spot
-unfolding missed
-many s x = cond (ltb x 1 || ltb 64 x) (missed s) (outside (s .line) x 0 Tail)
+unfoldable pub thresholdMany : Spot → ℕ → Spot
+unfolding thresholdMissed
+thresholdMany s x = cond (ltb x 1 || ltb 64 x) (thresholdMissed s) (outside (s .line) x 0 Tail)
 
 -- then for each site, in order, its number
-unfoldable pub owner : Spot → ℕ → Spot
-unfolding missed
-owner s x = cond (not (ltb x (s .n)) || not (eqb x (s .v))) (missed s) (outside (s .line) (s .n) (s .v + 1) Mark)
+unfoldable pub thresholdOwner : Spot → ℕ → Spot
+unfolding thresholdMissed
+thresholdOwner s x = cond (not (ltb x (s .n)) || not (eqb x (s .v))) (thresholdMissed s) (outside (s .line) (s .n) (s .v + 1) Mark)
 
 -- what `sites` does where something is expected, then `of`, a colon: the root of the line is begun
-abbrev pub sited : Phase → Spot → Spot
-sited Head s = at s Count
-sited Count s = missed s
-sited Tail s = missed s
-sited Owner s = missed s
-sited Mark s = missed s
-sited Threshold s = missed s
-sited Of s = missed s
-sited Members s = missed s
-sited (Wrong w) s = missed s
+abbrev pub thresholdSited : Phase → Spot → Spot
+thresholdSited Head s = spotAt s Count
+thresholdSited Count s = thresholdMissed s
+thresholdSited Tail s = thresholdMissed s
+thresholdSited Owner s = thresholdMissed s
+thresholdSited Mark s = thresholdMissed s
+thresholdSited Threshold s = thresholdMissed s
+thresholdSited Of s = thresholdMissed s
+thresholdSited Members s = thresholdMissed s
+thresholdSited (Wrong w) s = thresholdMissed s
 
 abbrev pub linked : Phase → Spot → Spot
-linked Head s = missed s
-linked Count s = missed s
-linked Tail s = missed s
-linked Owner s = missed s
-linked Mark s = missed s
-linked Threshold s = missed s
-linked Of s = at s Members
-linked Members s = missed s
-linked (Wrong w) s = missed s
+linked Head s = thresholdMissed s
+linked Count s = thresholdMissed s
+linked Tail s = thresholdMissed s
+linked Owner s = thresholdMissed s
+linked Mark s = thresholdMissed s
+linked Threshold s = thresholdMissed s
+linked Of s = spotAt s Members
+linked Members s = thresholdMissed s
+linked (Wrong w) s = thresholdMissed s
 
-abbrev pub coloned : Phase → Spot → Spot
-coloned Head s = missed s
-coloned Count s = missed s
-coloned Tail s = missed s
-coloned Owner s = missed s
-coloned Mark s = doing s Root Threshold
-coloned Threshold s = missed s
-coloned Of s = missed s
-coloned Members s = missed s
-coloned (Wrong w) s = missed s
+abbrev pub thresholdColoned : Phase → Spot → Spot
+thresholdColoned Head s = thresholdMissed s
+thresholdColoned Count s = thresholdMissed s
+thresholdColoned Tail s = thresholdMissed s
+thresholdColoned Owner s = thresholdMissed s
+thresholdColoned Mark s = doing s Root Threshold
+thresholdColoned Threshold s = thresholdMissed s
+thresholdColoned Of s = thresholdMissed s
+thresholdColoned Members s = thresholdMissed s
+thresholdColoned (Wrong w) s = thresholdMissed s

@@ -1,8 +1,9 @@
 // The grammar of a table of thresholds as text: what is expected, and what a word does there that needs no set. The rules are in specs/Grammar.antt.
 ghost use mathlib.Core.Path.{_≡_};
 ghost use Prim.Native.Nat.{_+_, _^_, _≤_, _<_};
-ghost use Rattle.threshold_grammar.specs.Grammar.{Sane, doing, at, outside, own, nextLine, nextMember, expected, missed, onward, many, owner};
-ghost use Rattle.threshold_grammar.specs.Grammar.{sited, linked, coloned};
+ghost use Rattle.threshold_grammar.specs.Grammar.{ThresholdSane, doing, spotAt, outside, thresholdOwn, thresholdNextLine, nextMember};
+ghost use Rattle.threshold_grammar.specs.Grammar.{thresholdExpected, thresholdMissed, thresholdOnward, thresholdMany, thresholdOwner};
+ghost use Rattle.threshold_grammar.specs.Grammar.{thresholdSited, linked, thresholdColoned};
 use refusals::Refusal;
 
 // Why a text is none: what was expected; or the refusal of a set.
@@ -76,7 +77,7 @@ pub fn doing(s: Spot, d: Deed, p: Phase) -> Spot
 
 // The same place, with something else expected.
 pub fn at(s: Spot, p: Phase) -> Spot
-    ensures { λ r. ⌜ r ≡ at s p ⌝ }
+    ensures { λ r. ⌜ r ≡ spotAt s p ⌝ }
 {
     doing(s, Deed::Nothing, p)
 }
@@ -100,7 +101,7 @@ pub fn outside(line: u64, n: u64, v: u64, p: Phase) -> Spot
 
 // The site whose line is read.
 pub fn own(v: u64) -> u64
-    ensures { λ r. ⌜ r ≡ own v ⌝ }
+    ensures { λ r. ⌜ r ≡ thresholdOwn v ⌝ }
 {
     if v < 1 {
         return 0;
@@ -109,7 +110,7 @@ pub fn own(v: u64) -> u64
 }
 
 fn next_line(more: bool) -> Why
-    ensures { λ r. ⌜ r ≡ nextLine more ⌝ }
+    ensures { λ r. ⌜ r ≡ thresholdNextLine more ⌝ }
 {
     if more {
         return Why::Owner;
@@ -128,7 +129,7 @@ fn next_member(inner: bool) -> Why
 
 // What was expected: behind the last site's line nothing more; a closing bracket only where one is open.
 pub fn expected(p: Phase, more: bool, inner: bool) -> Why
-    ensures { λ r. ⌜ r ≡ expected p more inner ⌝ }
+    ensures { λ r. ⌜ r ≡ thresholdExpected p more inner ⌝ }
 {
     match p {
         Phase::Head => Why::Sites,
@@ -145,7 +146,7 @@ pub fn expected(p: Phase, more: bool, inner: bool) -> Why
 
 // What is heard is not what was expected.
 pub fn missed(s: Spot) -> Spot
-    ensures { λ r. ⌜ r ≡ missed s ⌝ }
+    ensures { λ r. ⌜ r ≡ thresholdMissed s ⌝ }
 {
     let p = s.phase;
     at(s, Phase::Wrong(expected(p, s.v < s.n, 1 < s.depth)))
@@ -154,14 +155,14 @@ pub fn missed(s: Spot) -> Spot
 // The next line.
 pub fn onward(s: Spot, p: Phase) -> Spot
     requires { ⌜ s .line + 1 < 2 ^ 64 ⌝ }
-    ensures { λ r. ⌜ r ≡ onward s p ⌝ }
+    ensures { λ r. ⌜ r ≡ thresholdOnward s p ⌝ }
 {
     outside(s.line + 1, s.n, s.v, p)
 }
 
 // The number of sites.
 pub fn many(s: Spot, x: u64) -> Spot
-    ensures { λ r. ⌜ r ≡ many s x ⌝ }
+    ensures { λ r. ⌜ r ≡ thresholdMany s x ⌝ }
 {
     if x < 1 {
         return missed(s);
@@ -174,8 +175,8 @@ pub fn many(s: Spot, x: u64) -> Spot
 
 // The number that begins a site's line.
 pub fn owner(s: Spot, x: u64) -> Spot
-    requires { ⌜ Sane s ⌝ }
-    ensures { λ r. ⌜ r ≡ owner s x ⌝ }
+    requires { ⌜ ThresholdSane s ⌝ }
+    ensures { λ r. ⌜ r ≡ thresholdOwner s x ⌝ }
 {
     if s.n <= x {
         return missed(s);
@@ -188,7 +189,7 @@ pub fn owner(s: Spot, x: u64) -> Spot
 
 // The word `sites`.
 pub fn sited(s: Spot) -> Spot
-    ensures { λ r. ⌜ r ≡ sited (s .phase) s ⌝ }
+    ensures { λ r. ⌜ r ≡ thresholdSited (s .phase) s ⌝ }
 {
     let p = s.phase;
     match p {
@@ -224,7 +225,7 @@ pub fn linked(s: Spot) -> Spot
 
 // A colon.
 pub fn coloned(s: Spot) -> Spot
-    ensures { λ r. ⌜ r ≡ coloned (s .phase) s ⌝ }
+    ensures { λ r. ⌜ r ≡ thresholdColoned (s .phase) s ⌝ }
 {
     let p = s.phase;
     match p {

@@ -3,7 +3,7 @@ ghost use mathlib.Core.List.{_++_};
 ghost use mathlib.Core.Path.{_≡_};
 ghost use Prim.Native.Nat.{_*_, _≤_};
 ghost use lib.ListN.{length, drop};
-ghost use Rattle.threshold_made.specs.Made.{isWhole, answerOf, thresholdBlocksIn, imageTo, made, leaves};
+ghost use Rattle.threshold_made.specs.Made.{thresholdIsWhole, thresholdAnswerOf, madeBlocks, imageTo, thresholdMade, thresholdLeaves};
 use threshold_grammar::Phase;
 use threshold_grammar::Spot;
 use threshold_grammar::Why;
@@ -17,7 +17,7 @@ pub enum Made {
 
 // All lines of sites were there.
 fn is_whole(p: Phase, more: bool) -> bool
-    ensures { λ r. ⌜ r ≡ isWhole p more ⌝ }
+    ensures { λ r. ⌜ r ≡ thresholdIsWhole p more ⌝ }
 {
     match p {
         Phase::Head => false,
@@ -34,7 +34,7 @@ fn is_whole(p: Phase, more: bool) -> bool
 
 // A table, or the fault and its line.
 fn answer_of(s: Spot) -> Made
-    ensures { λ r. ⌜ r ≡ answerOf s ⌝ }
+    ensures { λ r. ⌜ r ≡ thresholdAnswerOf s ⌝ }
 {
     let p = s.phase;
     if is_whole(p, s.v < s.n) {
@@ -48,7 +48,7 @@ fn answer_of(s: Spot) -> Made
 
 // How many blocks the image has.
 fn blocks_in(m: Made) -> u64
-    ensures { λ r. ⌜ r ≡ thresholdBlocksIn m ⌝ }
+    ensures { λ r. ⌜ r ≡ madeBlocks m ⌝ }
 {
     match m {
         Made::Sites(n) => n,
@@ -74,8 +74,8 @@ fn store_all(t: &[u64], n: u64, room: &mut [u8])
 
 // The answer for a text, and its image in the lent room; a fault leaves the room alone.
 pub fn make(text: &[u8], room: &mut [u8]) -> Made
-    ensures answer { λ r. ⌜ r ≡ made (now (text .entry)) (length (now (room .entry))) ⌝ }
-    ensures memory { λ r. ⌜ now (room .exit) ≡ leaves (now (text .entry)) (now (room .entry)) ⌝ }
+    ensures answer { λ r. ⌜ r ≡ thresholdMade (now (text .entry)) (length (now (room .entry))) ⌝ }
+    ensures memory { λ r. ⌜ now (room .exit) ≡ thresholdLeaves (now (text .entry)) (now (room .entry)) ⌝ }
 {
     let mut t = [0u64; 9472];
     let s = threshold_reading::walk(text, &mut t);

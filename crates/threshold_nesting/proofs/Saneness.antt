@@ -10,13 +10,13 @@ use Rattle.masks.specs.Mask.{has}
 use Rattle.threshold_words.specs.declared.Token.{Token}
 use Rattle.threshold_words.specs.declared.Token.the-variants.{Silence, Sites, Number, Colon, Open, Close, End, Strange}
 use Rattle.threshold_words.specs.declared.Token.the-variants.{Of as TheOf}
-use Rattle.threshold_grammar.specs.Grammar.{Sane, doing, at, missed, onward, many, owner, sited, linked, coloned}
+use Rattle.threshold_grammar.specs.Grammar.{ThresholdSane, doing, spotAt, thresholdMissed, thresholdOnward, thresholdMany, thresholdOwner, thresholdSited, linked, thresholdColoned}
 use Rattle.threshold_grammar.specs.declared.Deed.{Deed}
 use Rattle.threshold_grammar.specs.declared.Deed.the-variants.{Nothing, Root, Inner, Least, Site}
 use Rattle.threshold_grammar.specs.declared.Phase.{Phase}
 use Rattle.threshold_grammar.specs.declared.Phase.the-variants.{Head, Count, Tail, Owner, Mark, Threshold, Of, Members, Wrong}
 use Rattle.threshold_grammar.specs.declared.Spot.{Spot}
-use Rattle.threshold_nesting.specs.Nesting.{unreached, member, openedSet, closedSet, completed, numbered, openingSet, closingSet, lineEnd, spoken}
+use Rattle.threshold_nesting.specs.Nesting.{unreached, thresholdMember, setOpened, setClosed, setCompleted, thresholdNumbered, bracketOpens, bracketCloses, thresholdLineEnd, thresholdSpoken}
 use Rattle.threshold_nesting.specs.declared.Held.{Held}
 
 -- how many inner sets a word begins
@@ -29,7 +29,7 @@ begins (Site q) = 0
 
 -- sane, at most so many lines further than the spot before, and with at most so many inner sets begun
 pub record After (d e : ℕ) (s r : Spot) : Type 0 where
-  pub sane : Sane r
+  pub sane : ThresholdSane r
   pub line : r .line ≤ s .line + d
   pub begun : begins (r .deed) ≤ e
 
@@ -65,35 +65,35 @@ either : (b : Bool) {d e : ℕ} (s x y : Spot) → (b ≡ true → After d e s x
 either true s x y f g = f refl
 either false s x y f g = g refl
 
-doing-after : (s : Spot) (d : Deed) (p : Phase) → begins d ≤ 0 → Sane s → After 0 0 s (doing s d p)
+doing-after : (s : Spot) (d : Deed) (p : Phase) → begins d ≤ 0 → ThresholdSane s → After 0 0 s (doing s d p)
 doing-after s d p b f = record { sane = f; line = omega arith; begun = b }
 
-at-after : {e : ℕ} (s : Spot) (p : Phase) → Sane s → After 0 e s (at s p)
+at-after : {e : ℕ} (s : Spot) (p : Phase) → ThresholdSane s → After 0 e s (spotAt s p)
 at-after s p f = record { sane = f; line = omega arith; begun = omega arith }
 
-at-later : (s : Spot) (p : Phase) → Sane s → After 1 0 s (at s p)
+at-later : (s : Spot) (p : Phase) → ThresholdSane s → After 1 0 s (spotAt s p)
 at-later s p f = record { sane = f; line = omega arith; begun = omega arith }
 
-next-after : (s : Spot) (p : Phase) → Sane s → After 1 0 s (onward s p)
+next-after : (s : Spot) (p : Phase) → ThresholdSane s → After 1 0 s (thresholdOnward s p)
 next-after s p f = record { sane = (f .0, f .1, omega arith, omega arith, omega arith); line = omega arith; begun = omega arith }
 
-missed-after : {e : ℕ} (s : Spot) → Sane s → After 0 e s (missed s)
-unfolding missed
+missed-after : {e : ℕ} (s : Spot) → ThresholdSane s → After 0 e s (thresholdMissed s)
+unfolding thresholdMissed
 missed-after s f = record { sane = f; line = omega arith; begun = omega arith }
 
-missed-later : (s : Spot) → Sane s → After 1 0 s (missed s)
-unfolding missed
+missed-later : (s : Spot) → ThresholdSane s → After 1 0 s (thresholdMissed s)
+unfolding thresholdMissed
 missed-later s f = record { sane = f; line = omega arith; begun = omega arith }
 
-many-after : (s : Spot) (x : ℕ) → Sane s → After 0 0 s (many s x)
-unfolding many
+many-after : (s : Spot) (x : ℕ) → ThresholdSane s → After 0 0 s (thresholdMany s x)
+unfolding thresholdMany
 many-after s x f =
     either (ltb x 1 || ltb 64 x) s _ _ (λ e. missed-after s f)
     (λ e. let h = ltb-false 64 x (or-none (ltb x 1) (ltb 64 x) e .1) in
     record { sane = (omega arith, omega arith, omega arith, omega arith, omega arith); line = omega arith; begun = omega arith })
 
-owner-after : (s : Spot) (x : ℕ) → Sane s → After 0 0 s (owner s x)
-unfolding owner
+owner-after : (s : Spot) (x : ℕ) → ThresholdSane s → After 0 0 s (thresholdOwner s x)
+unfolding thresholdOwner
 owner-after s x f =
     either (not (ltb x (s .n)) || not (eqb x (s .v))) s _ _ (λ e. missed-after s f)
     (λ e. let z = or-none (not (ltb x (s .n))) (not (eqb x (s .v))) e in
@@ -101,31 +101,31 @@ owner-after s x f =
     let g = eqb-true x (s .v) (not-f (eqb x (s .v)) (z .1)) in
     record { sane = (f .0, omega arith, omega arith, omega arith, omega arith); line = omega arith; begun = omega arith })
 
-member-after : (s : Spot) (h : Held) (x : ℕ) → Sane s → After 0 0 s (member s h x)
-unfolding member
+member-after : (s : Spot) (h : Held) (x : ℕ) → ThresholdSane s → After 0 0 s (thresholdMember s h x)
+unfolding thresholdMember
 member-after s h x f =
     either (not (ltb x (s .n))) s _ _ (λ e. at-after s _ f)
     (λ e. either (has (h .plain) x) s _ _ (λ d. at-after s _ f) (λ d. doing-after s _ _ (omega arith) f))
 
-opened-after : (s : Spot) (h : Held) → Sane s → After 0 1 s (openedSet s h)
-unfolding openedSet
+opened-after : (s : Spot) (h : Held) → ThresholdSane s → After 0 1 s (setOpened s h)
+unfolding setOpened
 opened-after s h f =
     either (ltb 48 (h .sets)) s _ _ (λ e. at-after s _ f)
     (λ e. either (ltb 3 (s .depth)) s _ _ (λ d. at-after s _ f)
     (λ d. let g = ltb-false 48 (h .sets) e in record { sane = (f .0, f .1, omega arith, f .2, f .3); line = omega arith; begun = omega arith }))
 
-closed-after : (s : Spot) (h : Held) → Sane s → After 0 0 s (closedSet s h)
-unfolding closedSet
+closed-after : (s : Spot) (h : Held) → ThresholdSane s → After 0 0 s (setClosed s h)
+unfolding setClosed
 closed-after s h f =
     either (not (ltb 1 (s .depth))) s _ _ (λ e. missed-after s f)
     (λ e. either (unreached h) s _ _ (λ d. at-after s _ f) (λ d. record { sane = (f .0, f .1, f .3, f .4, omega arith); line = omega arith; begun = omega arith }))
 
-completed-after : (s : Spot) (h : Held) → Sane s → After 1 0 s (completed s h)
-unfolding completed
+completed-after : (s : Spot) (h : Held) → ThresholdSane s → After 1 0 s (setCompleted s h)
+unfolding setCompleted
 completed-after s h f =
     either (ltb 1 (s .depth)) s _ _ (λ e. missed-later s f) (λ e. either (unreached h) s _ _ (λ d. at-later s _ f) (λ d. next-after s Owner f))
 
-in-numbered : (p : Phase) (s : Spot) (h : Held) (x : ℕ) → Sane s → After 0 0 s (numbered p s h x)
+in-numbered : (p : Phase) (s : Spot) (h : Held) (x : ℕ) → ThresholdSane s → After 0 0 s (thresholdNumbered p s h x)
 in-numbered Head s h x f = missed-after s f
 in-numbered Count s h x f = many-after s x f
 in-numbered Tail s h x f = missed-after s f
@@ -136,7 +136,7 @@ in-numbered Of s h x f = missed-after s f
 in-numbered Members s h x f = member-after s h x f
 in-numbered (Wrong w) s h x f = missed-after s f
 
-in-sited : (p : Phase) (s : Spot) → Sane s → After 0 0 s (sited p s)
+in-sited : (p : Phase) (s : Spot) → ThresholdSane s → After 0 0 s (thresholdSited p s)
 in-sited Head s f = at-after s Count f
 in-sited Count s f = missed-after s f
 in-sited Tail s f = missed-after s f
@@ -147,7 +147,7 @@ in-sited Of s f = missed-after s f
 in-sited Members s f = missed-after s f
 in-sited (Wrong w) s f = missed-after s f
 
-in-linked : (p : Phase) (s : Spot) → Sane s → After 0 0 s (linked p s)
+in-linked : (p : Phase) (s : Spot) → ThresholdSane s → After 0 0 s (linked p s)
 in-linked Head s f = missed-after s f
 in-linked Count s f = missed-after s f
 in-linked Tail s f = missed-after s f
@@ -158,7 +158,7 @@ in-linked Of s f = at-after s Members f
 in-linked Members s f = missed-after s f
 in-linked (Wrong w) s f = missed-after s f
 
-in-coloned : (p : Phase) (s : Spot) → Sane s → After 0 0 s (coloned p s)
+in-coloned : (p : Phase) (s : Spot) → ThresholdSane s → After 0 0 s (thresholdColoned p s)
 in-coloned Head s f = missed-after s f
 in-coloned Count s f = missed-after s f
 in-coloned Tail s f = missed-after s f
@@ -169,7 +169,7 @@ in-coloned Of s f = missed-after s f
 in-coloned Members s f = missed-after s f
 in-coloned (Wrong w) s f = missed-after s f
 
-in-opening : (p : Phase) (s : Spot) (h : Held) → Sane s → After 0 1 s (openingSet p s h)
+in-opening : (p : Phase) (s : Spot) (h : Held) → ThresholdSane s → After 0 1 s (bracketOpens p s h)
 in-opening Head s h f = missed-after s f
 in-opening Count s h f = missed-after s f
 in-opening Tail s h f = missed-after s f
@@ -180,7 +180,7 @@ in-opening Of s h f = missed-after s f
 in-opening Members s h f = opened-after s h f
 in-opening (Wrong w) s h f = missed-after s f
 
-in-closing : (p : Phase) (s : Spot) (h : Held) → Sane s → After 0 0 s (closingSet p s h)
+in-closing : (p : Phase) (s : Spot) (h : Held) → ThresholdSane s → After 0 0 s (bracketCloses p s h)
 in-closing Head s h f = missed-after s f
 in-closing Count s h f = missed-after s f
 in-closing Tail s h f = missed-after s f
@@ -191,7 +191,7 @@ in-closing Of s h f = missed-after s f
 in-closing Members s h f = closed-after s h f
 in-closing (Wrong w) s h f = missed-after s f
 
-at-end : (p : Phase) (s : Spot) (h : Held) → Sane s → After 1 0 s (lineEnd p s h)
+at-end : (p : Phase) (s : Spot) (h : Held) → ThresholdSane s → After 1 0 s (thresholdLineEnd p s h)
 at-end Head s h f = next-after s Head f
 at-end Count s h f = missed-later s f
 at-end Tail s h f = next-after s Owner f
@@ -202,7 +202,7 @@ at-end Of s h f = missed-later s f
 at-end Members s h f = completed-after s h f
 at-end (Wrong w) s h f = missed-later s f
 
-pub told-after : (t : Token) (h : Held) (s : Spot) → Sane s → After (ends t) (opens t) s (spoken t h s)
+pub told-after : (t : Token) (h : Held) (s : Spot) → ThresholdSane s → After (ends t) (opens t) s (thresholdSpoken t h s)
 told-after Silence h s f = at-after s (s .phase) f
 told-after Sites h s f = in-sited (s .phase) s f
 told-after TheOf h s f = in-linked (s .phase) s f

@@ -9,7 +9,8 @@ use Rattle.refusals.specs.declared.Refusal.the-variants.{Count as Sets, Thresho
 use Rattle.threshold_words.specs.declared.Token.{Token}
 use Rattle.threshold_words.specs.declared.Token.the-variants.{Silence, Sites, Number, Colon, Open, Close, End, Strange}
 use Rattle.threshold_words.specs.declared.Token.the-variants.{Of as TheOf}
-use Rattle.threshold_grammar.specs.Grammar.{doing, at, own, missed, onward, many, owner, sited, linked, coloned}
+use Rattle.threshold_grammar.specs.Grammar.{doing, spotAt, thresholdOwn, thresholdMissed, thresholdOnward, thresholdMany, thresholdOwner, thresholdSited}
+use Rattle.threshold_grammar.specs.Grammar.{linked, thresholdColoned}
 use Rattle.threshold_grammar.specs.declared.Deed.the-variants.{Nothing, Inner, Least, Site}
 use Rattle.threshold_grammar.specs.declared.Phase.{Phase}
 use Rattle.threshold_grammar.specs.declared.Phase.the-variants.{Head, Count, Tail, Owner, Mark, Threshold, Of, Members, Wrong}
@@ -19,22 +20,22 @@ use Rattle.threshold_nesting.specs.declared.Held.{Held}
 
 -- a rule is broken by the line that is read
 abbrev pub broken : Spot → (ℕ → Refusal) → Spot
-broken s r = at s (Wrong (Rule (r (own (s .v)))))
+broken s r = spotAt s (Wrong (Rule (r (thresholdOwn (s .v)))))
 
 -- "a threshold of zero, or above its sites and inner sets together"
 unfoldable pub unreached : Held → Bool
 unreached h = eqb (h .threshold) 0 || ltb (size (h .plain) + h .inner) (h .threshold)
 
 -- one site more in the innermost set: "a site at or above n 5"; "a site named twice in one set is a fault of the text"
-unfoldable pub member : Spot → Held → ℕ → Spot
-member s h x =
+unfoldable pub thresholdMember : Spot → Held → ℕ → Spot
+thresholdMember s h x =
     cond (not (ltb x (s .n))) (broken s Slice)
-    (cond (has (h .plain) x) (at s (Wrong Other))
+    (cond (has (h .plain) x) (spotAt s (Wrong Other))
     (doing s (Site (single x)) Members))
 
 -- an inner set begins: "a 50th set 4 (when its bracket opens)", "a bracket that opens a fifth level 22"; it stands behind all sets so far
-unfoldable pub openedSet : Spot → Held → Spot
-openedSet s h =
+unfoldable pub setOpened : Spot → Held → Spot
+setOpened s h =
     cond (ltb 48 (h .sets)) (broken s Sets)
     (cond (ltb 3 (s .depth)) (broken s Nesting)
     (record {
@@ -50,10 +51,10 @@ openedSet s h =
     }))
 
 -- the innermost set is complete at its `)`: "21 (said when the set is complete)"; the set around it is in hand again. The root has no bracket.
-unfoldable pub closedSet : Spot → Held → Spot
-unfolding missed unreached
-closedSet s h =
-    cond (not (ltb 1 (s .depth))) (missed s)
+unfoldable pub setClosed : Spot → Held → Spot
+unfolding thresholdMissed unreached
+setClosed s h =
+    cond (not (ltb 1 (s .depth))) (thresholdMissed s)
     (cond (unreached h) (broken s Unreachable)
     (record {
       line = s .line;
@@ -68,63 +69,63 @@ closedSet s h =
     }))
 
 -- the root is complete at the end of the line; "a missing `)` is a fault of the text"
-unfoldable pub completed : Spot → Held → Spot
-unfolding missed unreached
-completed s h = cond (ltb 1 (s .depth)) (missed s) (cond (unreached h) (broken s Unreachable) (onward s Owner))
+unfoldable pub setCompleted : Spot → Held → Spot
+unfolding thresholdMissed unreached
+setCompleted s h = cond (ltb 1 (s .depth)) (thresholdMissed s) (cond (unreached h) (broken s Unreachable) (thresholdOnward s Owner))
 
 -- what a number does where something is expected, then an opening bracket, a closing one, the end of a line
-abbrev pub numbered : Phase → Spot → Held → ℕ → Spot
-numbered Head s h x = missed s
-numbered Count s h x = many s x
-numbered Tail s h x = missed s
-numbered Owner s h x = owner s x
-numbered Mark s h x = missed s
-numbered Threshold s h x = doing s (Least x) Of
-numbered Of s h x = missed s
-numbered Members s h x = member s h x
-numbered (Wrong w) s h x = missed s
+abbrev pub thresholdNumbered : Phase → Spot → Held → ℕ → Spot
+thresholdNumbered Head s h x = thresholdMissed s
+thresholdNumbered Count s h x = thresholdMany s x
+thresholdNumbered Tail s h x = thresholdMissed s
+thresholdNumbered Owner s h x = thresholdOwner s x
+thresholdNumbered Mark s h x = thresholdMissed s
+thresholdNumbered Threshold s h x = doing s (Least x) Of
+thresholdNumbered Of s h x = thresholdMissed s
+thresholdNumbered Members s h x = thresholdMember s h x
+thresholdNumbered (Wrong w) s h x = thresholdMissed s
 
-abbrev pub openingSet : Phase → Spot → Held → Spot
-openingSet Head s h = missed s
-openingSet Count s h = missed s
-openingSet Tail s h = missed s
-openingSet Owner s h = missed s
-openingSet Mark s h = missed s
-openingSet Threshold s h = missed s
-openingSet Of s h = missed s
-openingSet Members s h = openedSet s h
-openingSet (Wrong w) s h = missed s
+abbrev pub bracketOpens : Phase → Spot → Held → Spot
+bracketOpens Head s h = thresholdMissed s
+bracketOpens Count s h = thresholdMissed s
+bracketOpens Tail s h = thresholdMissed s
+bracketOpens Owner s h = thresholdMissed s
+bracketOpens Mark s h = thresholdMissed s
+bracketOpens Threshold s h = thresholdMissed s
+bracketOpens Of s h = thresholdMissed s
+bracketOpens Members s h = setOpened s h
+bracketOpens (Wrong w) s h = thresholdMissed s
 
-abbrev pub closingSet : Phase → Spot → Held → Spot
-closingSet Head s h = missed s
-closingSet Count s h = missed s
-closingSet Tail s h = missed s
-closingSet Owner s h = missed s
-closingSet Mark s h = missed s
-closingSet Threshold s h = missed s
-closingSet Of s h = missed s
-closingSet Members s h = closedSet s h
-closingSet (Wrong w) s h = missed s
+abbrev pub bracketCloses : Phase → Spot → Held → Spot
+bracketCloses Head s h = thresholdMissed s
+bracketCloses Count s h = thresholdMissed s
+bracketCloses Tail s h = thresholdMissed s
+bracketCloses Owner s h = thresholdMissed s
+bracketCloses Mark s h = thresholdMissed s
+bracketCloses Threshold s h = thresholdMissed s
+bracketCloses Of s h = thresholdMissed s
+bracketCloses Members s h = setClosed s h
+bracketCloses (Wrong w) s h = thresholdMissed s
 
-abbrev pub lineEnd : Phase → Spot → Held → Spot
-lineEnd Head s h = onward s Head
-lineEnd Count s h = missed s
-lineEnd Tail s h = onward s Owner
-lineEnd Owner s h = onward s Owner
-lineEnd Mark s h = missed s
-lineEnd Threshold s h = missed s
-lineEnd Of s h = missed s
-lineEnd Members s h = completed s h
-lineEnd (Wrong w) s h = missed s
+abbrev pub thresholdLineEnd : Phase → Spot → Held → Spot
+thresholdLineEnd Head s h = thresholdOnward s Head
+thresholdLineEnd Count s h = thresholdMissed s
+thresholdLineEnd Tail s h = thresholdOnward s Owner
+thresholdLineEnd Owner s h = thresholdOnward s Owner
+thresholdLineEnd Mark s h = thresholdMissed s
+thresholdLineEnd Threshold s h = thresholdMissed s
+thresholdLineEnd Of s h = thresholdMissed s
+thresholdLineEnd Members s h = setCompleted s h
+thresholdLineEnd (Wrong w) s h = thresholdMissed s
 
 -- what a word does where it is heard; h is the innermost set of the line that is read, and how many sets the line has so far
-abbrev pub spoken : Token → Held → Spot → Spot
-spoken Silence h s = at s (s .phase)
-spoken Sites h s = sited (s .phase) s
-spoken TheOf h s = linked (s .phase) s
-spoken (Number x) h s = numbered (s .phase) s h x
-spoken Colon h s = coloned (s .phase) s
-spoken Open h s = openingSet (s .phase) s h
-spoken Close h s = closingSet (s .phase) s h
-spoken End h s = lineEnd (s .phase) s h
-spoken Strange h s = missed s
+abbrev pub thresholdSpoken : Token → Held → Spot → Spot
+thresholdSpoken Silence h s = spotAt s (s .phase)
+thresholdSpoken Sites h s = thresholdSited (s .phase) s
+thresholdSpoken TheOf h s = linked (s .phase) s
+thresholdSpoken (Number x) h s = thresholdNumbered (s .phase) s h x
+thresholdSpoken Colon h s = thresholdColoned (s .phase) s
+thresholdSpoken Open h s = bracketOpens (s .phase) s h
+thresholdSpoken Close h s = bracketCloses (s .phase) s h
+thresholdSpoken End h s = thresholdLineEnd (s .phase) s h
+thresholdSpoken Strange h s = thresholdMissed s

@@ -1,8 +1,9 @@
 // What a word does where a set is open. The rules are in specs/Nesting.antt.
 ghost use mathlib.Core.Path.{_≡_};
 ghost use Prim.Native.Nat.{_+_, _^_, _≤_, _<_};
-ghost use Rattle.threshold_grammar.specs.Grammar.{Sane};
-ghost use Rattle.threshold_nesting.specs.Nesting.{unreached, member, openedSet, closedSet, completed, numbered, openingSet, closingSet, lineEnd, spoken};
+ghost use Rattle.threshold_grammar.specs.Grammar.{ThresholdSane};
+ghost use Rattle.threshold_nesting.specs.Nesting.{unreached, thresholdMember, setOpened, setClosed, setCompleted, thresholdNumbered, bracketOpens};
+ghost use Rattle.threshold_nesting.specs.Nesting.{bracketCloses, thresholdLineEnd, thresholdSpoken};
 use refusals::Refusal;
 use threshold_grammar::Deed;
 use threshold_grammar::Phase;
@@ -31,8 +32,8 @@ fn unreached(h: Held) -> bool
 
 // One site more in the innermost set.
 fn member(s: Spot, h: Held, x: u64) -> Spot
-    requires { ⌜ Sane s ⌝ }
-    ensures { λ r. ⌜ r ≡ member s h x ⌝ }
+    requires { ⌜ ThresholdSane s ⌝ }
+    ensures { λ r. ⌜ r ≡ thresholdMember s h x ⌝ }
 {
     if s.n <= x {
         return threshold_grammar::at(
@@ -48,7 +49,7 @@ fn member(s: Spot, h: Held, x: u64) -> Spot
 
 // An inner set begins.
 fn opened(s: Spot, h: Held) -> Spot
-    ensures { λ r. ⌜ r ≡ openedSet s h ⌝ }
+    ensures { λ r. ⌜ r ≡ setOpened s h ⌝ }
 {
     if 48 < h.sets {
         return threshold_grammar::at(
@@ -78,7 +79,7 @@ fn opened(s: Spot, h: Held) -> Spot
 // The innermost set is complete at its bracket.
 fn closed(s: Spot, h: Held) -> Spot
     requires { ⌜ h .inner < 2 ^ 63 ⌝ }
-    ensures { λ r. ⌜ r ≡ closedSet s h ⌝ }
+    ensures { λ r. ⌜ r ≡ setClosed s h ⌝ }
 {
     if s.depth <= 1 {
         return threshold_grammar::missed(s);
@@ -106,7 +107,7 @@ fn closed(s: Spot, h: Held) -> Spot
 fn completed(s: Spot, h: Held) -> Spot
     requires { ⌜ s .line + 1 < 2 ^ 64 ⌝ }
     requires { ⌜ h .inner < 2 ^ 63 ⌝ }
-    ensures { λ r. ⌜ r ≡ completed s h ⌝ }
+    ensures { λ r. ⌜ r ≡ setCompleted s h ⌝ }
 {
     if 1 < s.depth {
         return threshold_grammar::missed(s);
@@ -122,8 +123,8 @@ fn completed(s: Spot, h: Held) -> Spot
 
 // A number.
 fn numbered(s: Spot, h: Held, x: u64) -> Spot
-    requires { ⌜ Sane s ⌝ }
-    ensures { λ r. ⌜ r ≡ numbered (s .phase) s h x ⌝ }
+    requires { ⌜ ThresholdSane s ⌝ }
+    ensures { λ r. ⌜ r ≡ thresholdNumbered (s .phase) s h x ⌝ }
 {
     let p = s.phase;
     match p {
@@ -141,7 +142,7 @@ fn numbered(s: Spot, h: Held, x: u64) -> Spot
 
 // An opening bracket.
 fn opening(s: Spot, h: Held) -> Spot
-    ensures { λ r. ⌜ r ≡ openingSet (s .phase) s h ⌝ }
+    ensures { λ r. ⌜ r ≡ bracketOpens (s .phase) s h ⌝ }
 {
     let p = s.phase;
     match p {
@@ -160,7 +161,7 @@ fn opening(s: Spot, h: Held) -> Spot
 // A closing bracket.
 fn closing(s: Spot, h: Held) -> Spot
     requires { ⌜ h .inner < 2 ^ 63 ⌝ }
-    ensures { λ r. ⌜ r ≡ closingSet (s .phase) s h ⌝ }
+    ensures { λ r. ⌜ r ≡ bracketCloses (s .phase) s h ⌝ }
 {
     let p = s.phase;
     match p {
@@ -180,7 +181,7 @@ fn closing(s: Spot, h: Held) -> Spot
 fn line_end(s: Spot, h: Held) -> Spot
     requires { ⌜ s .line + 1 < 2 ^ 64 ⌝ }
     requires { ⌜ h .inner < 2 ^ 63 ⌝ }
-    ensures { λ r. ⌜ r ≡ lineEnd (s .phase) s h ⌝ }
+    ensures { λ r. ⌜ r ≡ thresholdLineEnd (s .phase) s h ⌝ }
 {
     let p = s.phase;
     match p {
@@ -198,10 +199,10 @@ fn line_end(s: Spot, h: Held) -> Spot
 
 // What a word does where it is heard; h is the innermost set of the line that is read, and how many sets the line has so far.
 pub fn spoken(s: Spot, h: Held, t: Token) -> Spot
-    requires { ⌜ Sane s ⌝ }
+    requires { ⌜ ThresholdSane s ⌝ }
     requires { ⌜ s .line + 1 < 2 ^ 64 ⌝ }
     requires { ⌜ h .inner < 2 ^ 63 ⌝ }
-    ensures { λ r. ⌜ r ≡ spoken t h s ⌝ }
+    ensures { λ r. ⌜ r ≡ thresholdSpoken t h s ⌝ }
 {
     let p = s.phase;
     match t {

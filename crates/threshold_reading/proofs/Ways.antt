@@ -4,13 +4,13 @@ use mathlib.Core.List.{List}
 use mathlib.Core.Path.{_≡_, refl, sym, ap, _∙_}
 use lib.Bits.{bitOr}
 use lib.ListN.{getD, set}
-use Rattle.threshold_grammar.specs.Grammar.{own}
+use Rattle.threshold_grammar.specs.Grammar.{thresholdOwn}
 use Rattle.threshold_grammar.specs.declared.Deed.{Deed}
 use Rattle.threshold_grammar.specs.declared.Deed.the-variants.{Nothing, Root, Inner, Least, Site}
 use Rattle.threshold_grammar.specs.declared.Spot.{Spot}
 use Rattle.threshold_reading.specs.Lines.{enacted}
 
-module _ (s : Spot) (t : List ℕ) (u : ℕ) (o : u ≡ own (s .v)) where
+module _ (s : Spot) (t : List ℕ) (u : ℕ) (o : u ≡ thresholdOwn (s .v)) where
   pub begun : (t₁ t₂ : List ℕ) → t₁ ≡ set t (148 * u) (s .set + 1)
       → t₂ ≡ set t₁ (148 * u + (2 + 3 * s .around)) (getD t (148 * u + (2 + 3 * s .around)) 0 + 1) → t₂ ≡ enacted Inner s t
   begun t₁ t₂ e f =

@@ -4,7 +4,7 @@ use Prim.Native.Nat.{ℕ, _+_, _*_}
 use mathlib.Core.List.{List}
 use lib.Bits.{bitOr}
 use lib.ListN.{getD, set}
-use Rattle.threshold_grammar.specs.Grammar.{own}
+use Rattle.threshold_grammar.specs.Grammar.{thresholdOwn}
 use Rattle.threshold_grammar.specs.declared.Deed.{Deed}
 use Rattle.threshold_grammar.specs.declared.Deed.the-variants.{Nothing, Root, Inner, Least, Site}
 use Rattle.threshold_grammar.specs.declared.Spot.{Spot}
@@ -25,8 +25,8 @@ abbrev pub plainAt : ℕ → ℕ → ℕ
 plainAt u i = 148 * u + (3 + 3 * i)
 
 -- the sets of site u
-abbrev pub lineSets : List ℕ → ℕ → ThresholdSets
-lineSets t u = record {
+abbrev pub setsHeard : List ℕ → ℕ → ThresholdSets
+setsHeard t u = record {
   count = getD t (countAt u) 0;
   threshold = λ i. getD t (thresholdAt u i) 0;
   inner = λ i. getD t (innerAt u i) 0;
@@ -35,7 +35,7 @@ lineSets t u = record {
 
 -- of the line that is read: how many sets it has so far, and its innermost open set
 abbrev pub held : Spot → List ℕ → Held
-held s t = let S = lineSets t (own (s .v)) in record {
+held s t = let S = setsHeard t (thresholdOwn (s .v)) in record {
   sets = S .count;
   threshold = S .threshold (s .set);
   inner = S .inner (s .set);
@@ -46,9 +46,9 @@ held s t = let S = lineSets t (own (s .v)) in record {
 -- innermost set gets its threshold, sites
 abbrev pub enacted : Deed → Spot → List ℕ → List ℕ
 enacted Nothing s t = t
-enacted Root s t = set t (countAt (own (s .v))) 1
+enacted Root s t = set t (countAt (thresholdOwn (s .v))) 1
 enacted Inner s t =
-    let i = innerAt (own (s .v)) (s .around) in
-    set (set t (countAt (own (s .v))) (s .set + 1)) i (getD t i 0 + 1)
-enacted (Least x) s t = set t (thresholdAt (own (s .v)) (s .set)) x
-enacted (Site q) s t = let i = plainAt (own (s .v)) (s .set) in set t i (bitOr (getD t i 0) q)
+    let i = innerAt (thresholdOwn (s .v)) (s .around) in
+    set (set t (countAt (thresholdOwn (s .v))) (s .set + 1)) i (getD t i 0 + 1)
+enacted (Least x) s t = set t (thresholdAt (thresholdOwn (s .v)) (s .set)) x
+enacted (Site q) s t = let i = plainAt (thresholdOwn (s .v)) (s .set) in set t i (bitOr (getD t i 0) q)

@@ -3,10 +3,10 @@ ghost use mathlib.Core.Path.{_≡_};
 ghost use Prim.Native.Nat.{_+_, _^_, _≤_, _<_};
 ghost use lib.Bits.{bitOr};
 ghost use lib.ListN.{length, getD, set, replicate};
-ghost use Rattle.threshold_grammar.specs.Grammar.{Sane};
+ghost use Rattle.threshold_grammar.specs.Grammar.{ThresholdSane};
 ghost use Rattle.threshold_reading.specs.Inner.{Few};
 ghost use Rattle.threshold_reading.specs.Lines.{held, enacted};
-ghost use Rattle.threshold_reading.specs.Reading.{here, afterByte, leavesLine, heardAs, finished, textRead};
+ghost use Rattle.threshold_reading.specs.Reading.{thresholdHere, wordAfter, wordLeaves, thresholdHeardAs, thresholdFinished, thresholdTextRead};
 use threshold_grammar::Deed;
 use threshold_grammar::Phase;
 use threshold_grammar::Spot;
@@ -18,7 +18,7 @@ use threshold_words::Token;
 // How many sets the line that is read has so far, and its innermost open set.
 fn hold(s: Spot, t: &[u64]) -> Held
     requires { ⌜ length (now t) ≡ 9472 ⌝ }
-    requires { ⌜ Sane s ⌝ }
+    requires { ⌜ ThresholdSane s ⌝ }
     ensures { λ r. ⌜ r ≡ held s (now (t .entry)) ⌝ }
 {
     let at = 148 * threshold_grammar::own(s.v) as usize;
@@ -50,7 +50,7 @@ fn join(t: &mut [u64], at: usize, q: u64)
 // An inner set begins, and counts for the set around it.
 fn begin(s: Spot, t: &mut [u64])
     requires { ⌜ length (now t) ≡ 9472 ⌝ }
-    requires { ⌜ Sane s ⌝ }
+    requires { ⌜ ThresholdSane s ⌝ }
     requires { ⌜ Few (2 ^ 63) (now t) ⌝ }
     ensures { λ r. ⌜ now (t .exit) ≡ enacted Deed.Inner s (now (t .entry)) ⌝ }
 {
@@ -64,7 +64,7 @@ fn begin(s: Spot, t: &mut [u64])
 // What a word does to the sets.
 fn enact(s: Spot, t: &mut [u64])
     requires { ⌜ length (now t) ≡ 9472 ⌝ }
-    requires { ⌜ Sane s ⌝ }
+    requires { ⌜ ThresholdSane s ⌝ }
     requires { ⌜ Few (2 ^ 63) (now t) ⌝ }
     ensures { λ r. ⌜ now (t .exit) ≡ enacted (s .deed) s (now (t .entry)) ⌝ }
 {
@@ -84,10 +84,10 @@ fn enact(s: Spot, t: &mut [u64])
 // A word is heard.
 fn step(s: Spot, k: Token, t: &mut [u64]) -> Spot
     requires { ⌜ length (now t) ≡ 9472 ⌝ }
-    requires { ⌜ Sane s ⌝ }
+    requires { ⌜ ThresholdSane s ⌝ }
     requires { ⌜ s .line + 1 < 2 ^ 64 ⌝ }
     requires { ⌜ Few (2 ^ 63) (now t) ⌝ }
-    ensures { λ r. ⌜ (r ≡ afterByte k s (now (t .entry))) × (now (t .exit) ≡ leavesLine k s (now (t .entry))) ⌝ }
+    ensures { λ r. ⌜ (r ≡ wordAfter k s (now (t .entry))) × (now (t .exit) ≡ wordLeaves k s (now (t .entry))) ⌝ }
 {
     let h = hold(s, t);
     let r = threshold_nesting::spoken(s, h, k);
@@ -98,10 +98,10 @@ fn step(s: Spot, k: Token, t: &mut [u64]) -> Spot
 // A byte is heard: the word that ends there, then the byte itself.
 fn hear(c: Sign, w: Begun, s: Spot, t: &mut [u64]) -> Spot
     requires { ⌜ length (now t) ≡ 9472 ⌝ }
-    requires { ⌜ Sane s ⌝ }
+    requires { ⌜ ThresholdSane s ⌝ }
     requires { ⌜ s .line + 1 < 2 ^ 64 ⌝ }
     requires { ⌜ Few (2 ^ 63) (now t) ⌝ }
-    ensures { λ r. ⌜ (r ≡ heardAs c w s (now (t .entry)) .0) × (now (t .exit) ≡ heardAs c w s (now (t .entry)) .1) ⌝ }
+    ensures { λ r. ⌜ (r ≡ thresholdHeardAs c w s (now (t .entry)) .0) × (now (t .exit) ≡ thresholdHeardAs c w s (now (t .entry)) .1) ⌝ }
 {
     let s = step(s, threshold_words::ended(c, w), t);
     step(s, threshold_words::said(c), t)
@@ -110,7 +110,8 @@ fn hear(c: Sign, w: Begun, s: Spot, t: &mut [u64]) -> Spot
 // The text is walked once; the sets grow in the room of 64 times 148 zeros.
 pub fn walk(text: &[u8], t: &mut [u64]) -> Spot
     requires { ⌜ now t ≡ replicate 9472 0 ⌝ }
-    ensures { λ r. ⌜ (r ≡ textRead (now (text .entry)) (replicate 9472 0) .spot) × (now (t .exit) ≡ textRead (now (text .entry)) (replicate 9472 0) .lines) ⌝ }
+    ensures { λ r. ⌜ (r ≡ thresholdTextRead (now (text .entry)) (replicate 9472 0) .spot)
+        × (now (t .exit) ≡ thresholdTextRead (now (text .entry)) (replicate 9472 0) .lines) ⌝ }
 {
     let mut w = Begun::Fresh;
     let mut s = threshold_grammar::outside(1, 0, 0, Phase::Head);

@@ -3,9 +3,9 @@ ghost use mathlib.Core.Path.{_≡_};
 ghost use Prim.Native.Nat.{_≤_};
 ghost use lib.ListN.{length};
 ghost use Rattle.io.specs.Counts.{Counts};
-ghost use Rattle.threshold_made.specs.Made.{made};
+ghost use Rattle.threshold_made.specs.Made.{thresholdMade};
 ghost use Rattle.text.specs.Written.{Writes};
-ghost use Rattle.threshold_said.specs.MakeText.{opening, faultLines, isRule, isAnswer, makeText};
+ghost use Rattle.threshold_said.specs.MakeText.{thresholdOpening, thresholdFaultLines, thresholdIsRule, thresholdIsAnswer, thresholdMakeText};
 use threshold_grammar::Why;
 use threshold_made::Made;
 
@@ -15,7 +15,7 @@ pub const ROOM: usize = 512;
 // A refusal has its line before.
 fn put_opening(room: &mut [u8], why: Why) -> usize
     requires { ⌜ 50 ≤ length (now room) ⌝ }
-    ensures { λ e. ⌜ Writes (opening why) (now (room .entry)) 0 e (now (room .exit)) ⌝ }
+    ensures { λ e. ⌜ Writes (thresholdOpening why) (now (room .entry)) 0 e (now (room .exit)) ⌝ }
 {
     match why {
         Why::Sites => 0,
@@ -36,7 +36,7 @@ fn put_opening(room: &mut [u8], why: Why) -> usize
 // `line L: ` and what was expected there, or the refusal.
 fn put_fault(room: &mut [u8], line: u64, why: Why) -> usize
     requires { ⌜ 512 ≤ length (now room) ⌝ }
-    ensures { λ e. ⌜ Writes (faultLines line why) (now (room .entry)) 0 e (now (room .exit)) ⌝ }
+    ensures { λ e. ⌜ Writes (thresholdFaultLines line why) (now (room .entry)) 0 e (now (room .exit)) ⌝ }
 {
     let at = put_opening(room, why);
     let at = text::put(room, at, b"line ");
@@ -48,8 +48,8 @@ fn put_fault(room: &mut [u8], line: u64, why: Why) -> usize
 
 // What is said of a text, by the answer for it.
 pub fn make(text: &[u8], answer: Made, room: &mut [u8; ROOM]) -> usize
-    requires { ⌜ answer ≡ made (now text) 32768 ⌝ }
-    ensures text { λ r. ⌜ Writes (makeText (now (text .entry))) (now (room .entry)) 0 r (now (room .exit)) ⌝ }
+    requires { ⌜ answer ≡ thresholdMade (now text) 32768 ⌝ }
+    ensures text { λ r. ⌜ Writes (thresholdMakeText (now (text .entry))) (now (room .entry)) 0 r (now (room .exit)) ⌝ }
     ensures counts { λ r. ⌜ Counts r (now (room .exit)) ⌝ }
 {
     match answer {
@@ -61,7 +61,7 @@ pub fn make(text: &[u8], answer: Made, room: &mut [u8; ROOM]) -> usize
 
 // Whether it is a rule of tables that the text breaks.
 fn is_rule(why: Why) -> bool
-    ensures { λ r. ⌜ r ≡ isRule why ⌝ }
+    ensures { λ r. ⌜ r ≡ thresholdIsRule why ⌝ }
 {
     match why {
         Why::Sites => false,
@@ -81,7 +81,7 @@ fn is_rule(why: Why) -> bool
 
 // Whether what is said of a text is an answer, or that it is none.
 pub fn is_answer(answer: Made) -> bool
-    ensures { λ r. ⌜ r ≡ isAnswer answer ⌝ }
+    ensures { λ r. ⌜ r ≡ thresholdIsAnswer answer ⌝ }
 {
     match answer {
         Made::Sites(_) => true,

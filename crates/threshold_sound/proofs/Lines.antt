@@ -21,16 +21,16 @@ use Rattle.threshold_sets.specs.Met.{ThresholdSets}
 use Rattle.threshold_words.specs.declared.Token.{Token}
 use Rattle.threshold_words.specs.declared.Token.the-variants.{Silence, Sites, Number, Colon, End, Strange}
 use Rattle.threshold_words.specs.declared.Token.the-variants.{Of as TheOf, Open as TheOpen, Close as TheClose}
-use Rattle.threshold_grammar.specs.Grammar.{Sane, doing, at, outside, own, missed, onward, many, owner, sited, linked, coloned}
+use Rattle.threshold_grammar.specs.Grammar.{ThresholdSane, doing, spotAt, outside, thresholdOwn, thresholdMissed, thresholdOnward, thresholdMany, thresholdOwner, thresholdSited, linked, thresholdColoned}
 use Rattle.threshold_grammar.specs.declared.Deed.the-variants.{Nothing, Root, Inner, Least, Site}
 use Rattle.threshold_grammar.specs.declared.Phase.{Phase}
 use Rattle.threshold_grammar.specs.declared.Phase.the-variants.{Head, Count, Tail, Owner, Mark, Threshold, Of, Members, Wrong}
 use Rattle.threshold_grammar.specs.declared.Spot.{Spot}
 use Rattle.threshold_nesting.proofs.Ways.{inward, backward}
-use Rattle.threshold_nesting.specs.Nesting.{broken, unreached, member, openedSet, closedSet, completed, numbered, openingSet, closingSet, lineEnd, spoken}
+use Rattle.threshold_nesting.specs.Nesting.{broken, unreached, thresholdMember, setOpened, setClosed, setCompleted, thresholdNumbered, bracketOpens, bracketCloses, thresholdLineEnd, thresholdSpoken}
 use Rattle.threshold_nesting.specs.declared.Held.{Held}
-use Rattle.threshold_reading.specs.Lines.{countAt, thresholdAt, innerAt, plainAt, lineSets, held, enacted}
-use Rattle.threshold_reading.specs.Reading.{afterByte, leavesLine}
+use Rattle.threshold_reading.specs.Lines.{countAt, thresholdAt, innerAt, plainAt, setsHeard, held, enacted}
+use Rattle.threshold_reading.specs.Reading.{wordAfter, wordLeaves}
 use Rattle.threshold_sound.proofs.Row.{Reached, Unused, Row, row-root, row-inner, row-changed, row-closed, row-sound}
 
 -- the open sets of a line, the root at place 0
@@ -74,14 +74,14 @@ abbrev pub Blank : ThresholdSets → Type 0
 Blank S = (S .count ≡ 0) × ((i : ℕ) → i < 49 → Unused S i)
 
 abbrev pub Done : ℕ → ℕ → List ℕ → Type 0
-Done n k t = (u : ℕ) → u < k → Full n (lineSets t u)
+Done n k t = (u : ℕ) → u < k → Full n (setsHeard t u)
 
 abbrev pub Left : ℕ → List ℕ → Type 0
-Left k t = (u : ℕ) → k ≤ u → u < 64 → Blank (lineSets t u)
+Left k t = (u : ℕ) → k ≤ u → u < 64 → Blank (setsHeard t u)
 
 -- the line that is read has sets, of which some are open
 abbrev pub Begun : Spot → List ℕ → Type 0
-Begun s t = (1 ≤ s .v) × Done (s .n) (own (s .v)) t × Left (s .v) t × (E : Nest) × Says E s × Row (s .n) (inmost E ∷ outer E) (lineSets t (own (s .v)))
+Begun s t = (1 ≤ s .v) × Done (s .n) (thresholdOwn (s .v)) t × Left (s .v) t × (E : Nest) × Says E s × Row (s .n) (inmost E ∷ outer E) (setsHeard t (thresholdOwn (s .v)))
 
 -- what holds where something is expected
 abbrev pub Good : Phase → Spot → List ℕ → Type 0
@@ -89,7 +89,7 @@ Good Head s t = Left 0 t
 Good Count s t = Left 0 t
 Good Tail s t = (1 ≤ s .n) × Done (s .n) (s .v) t × Left (s .v) t
 Good Owner s t = (1 ≤ s .n) × Done (s .n) (s .v) t × Left (s .v) t
-Good Mark s t = (1 ≤ s .v) × Done (s .n) (own (s .v)) t × Left (own (s .v)) t × Says one s
+Good Mark s t = (1 ≤ s .v) × Done (s .n) (thresholdOwn (s .v)) t × Left (thresholdOwn (s .v)) t × Says one s
 Good Threshold s t = Begun s t
 Good Of s t = Begun s t
 Good Members s t = Begun s t
@@ -116,7 +116,7 @@ module _ (t : List ℕ) (w a x : ℕ) (l : a < 148) where
   stay-count : (u : ℕ) → (u ≡ w → ⊥) → getD (set t (148 * w + a) x) (148 * u) 0 ≡ getD t (148 * u) 0
   stay-count u f = getD-set-other t (148 * w + a) (148 * u) x 0 (λ e. apart u w 0 a (omega arith) l f (omega (arith, e)))
 
-  same-sets : (u : ℕ) → (u ≡ w → ⊥) → Agree 49 (lineSets t u) (lineSets (set t (148 * w + a) x) u)
+  same-sets : (u : ℕ) → (u ≡ w → ⊥) → Agree 49 (setsHeard t u) (setsHeard (set t (148 * w + a) x) u)
   same-sets u f = record {
     count-alike = sym (stay-count u f);
     threshold-alike = λ i h. sym (stay u (1 + 3 * i) f (omega (arith, h)));
@@ -139,12 +139,12 @@ blank-alike S T a f = (
 )
 
 -- lines before and behind the one that is read
-module _ (n w : ℕ) (t T : List ℕ) (f : (u : ℕ) → (u ≡ w → ⊥) → Agree 49 (lineSets t u) (lineSets T u)) where
+module _ (n w : ℕ) (t T : List ℕ) (f : (u : ℕ) → (u ≡ w → ⊥) → Agree 49 (setsHeard t u) (setsHeard T u)) where
   done-on : Done n w t → Done n w T
-  done-on d u h = full-alike n (lineSets t u) (lineSets T u) (f u (λ e. omega (arith, e, h))) (d u h)
+  done-on d u h = full-alike n (setsHeard t u) (setsHeard T u) (f u (λ e. omega (arith, e, h))) (d u h)
 
   left-on : (k : ℕ) → w < k → Left k t → Left k T
-  left-on k h d u g m = blank-alike (lineSets t u) (lineSets T u) (f u (λ e. omega (arith, e, g, h))) (d u g m)
+  left-on k h d u g m = blank-alike (setsHeard t u) (setsHeard T u) (f u (λ e. omega (arith, e, g, h))) (d u g m)
 
 -- cells of different kinds stand apart
 third : (i j a b : ℕ) → a < 3 → b < 3 → (a ≡ b → ⊥) → a + 3 * i ≡ b + 3 * j → ⊥
@@ -162,10 +162,10 @@ thirteen w i j e = third i (1 + j) 1 0 (omega arith) (omega arith) (λ y. omega 
 twentythree : (w i j : ℕ) → 148 * w + (2 + 3 * i) ≡ 148 * w + (3 + 3 * j) → ⊥
 twentythree w i j e = third i (1 + j) 2 0 (omega arith) (omega arith) (λ y. omega (arith, y)) (omega (arith, e))
 
-counted : (t : List ℕ) (w x u : ℕ) → (u ≡ w → ⊥) → Agree 49 (lineSets t u) (lineSets (set t (148 * w) x) u)
+counted : (t : List ℕ) (w x u : ℕ) → (u ≡ w → ⊥) → Agree 49 (setsHeard t u) (setsHeard (set t (148 * w) x) u)
 counted t w x u f =
     let e : 148 * w + 0 ≡ 148 * w = omega arith in
-    subst (λ (k : ℕ). Agree 49 (lineSets t u) (lineSets (set t k x) u)) e (same-sets t w 0 x (omega arith) u f)
+    subst (λ (k : ℕ). Agree 49 (setsHeard t u) (setsHeard (set t k x) u)) e (same-sets t w 0 x (omega arith) u f)
 
 agree-on : {S T R : ThresholdSets} → Agree 49 S T → Agree 49 T R → Agree 49 S R
 agree-on a b = record {
@@ -199,17 +199,17 @@ sole (three a b) s f l = absurd (omega (arith, f .0, l))
 sole (four a b c) s f l = absurd (omega (arith, f .0, l))
 
 -- the ways of a word
-module _ (s : Spot) (t : List ℕ) (sane : Sane s) (long : length t ≡ 9472) where
-  own-below : own (s .v) < 64
+module _ (s : Spot) (t : List ℕ) (sane : ThresholdSane s) (long : length t ≡ 9472) where
+  own-below : thresholdOwn (s .v) < 64
   own-below = omega (arith, sane .0, sane .1)
 
-  pub missed-good : Better (missed s) t
-  unfolding missed
+  pub missed-good : Better (thresholdMissed s) t
+  unfolding thresholdMissed
   missed-good = omega arith
 
   pub rooted : Good Mark s t → Begun (doing s Root Threshold) (enacted Root s t)
   rooted f =
-      let w = own (s .v) in
+      let w = thresholdOwn (s .v) in
       let T = set t (countAt w) 1 in
       let z = f .2 w (omega arith) own-below .1 in
       let c : getD T (countAt w) 0 ≡ 1 = getD-set-same t (countAt w) 1 0 (omega (arith, long, own-below)) in
@@ -220,7 +220,7 @@ module _ (s : Spot) (t : List ℕ) (sane : Sane s) (long : length t ≡ 9472) wh
         left-on (s .n) w t T (λ u g. counted t w 1 u g) (s .v) k (λ u g m. f .2 u (omega (arith, g)) m),
         one,
         f .3,
-        row-root (s .n) (lineSets T w) c
+        row-root (s .n) (setsHeard T w) c
             (λ i l. (far (1 + 3 * i) (omega arith) ∙ z i l .0, far (2 + 3 * i) (omega arith) ∙ z i l .1, far (3 + 3 * i) (omega arith) ∙ z i l .2)),
       )
 
@@ -231,12 +231,12 @@ module _ (s : Spot) (t : List ℕ) (sane : Sane s) (long : length t ≡ 9472) wh
   says-doing (four a b c) f r e = (e .0 ∙ f .0, e .1 ∙ f .1, e .2 ∙ f .2, e .3 ∙ f .3)
 
   -- the same sets, elsewhere in the line
-  pub moved : (p : Phase) → Begun s t → Begun (at s p) t
-  moved p f = (f .0, f .1, f .2, f .3, says-doing (f .3) (f .4) (at s p) (refl, refl, refl, refl), f .5)
+  pub moved : (p : Phase) → Begun s t → Begun (spotAt s p) t
+  moved p f = (f .0, f .1, f .2, f .3, says-doing (f .3) (f .4) (spotAt s p) (refl, refl, refl, refl), f .5)
 
   pub least-good : (x : ℕ) → Begun s t → Begun (doing s (Least x) Of) (enacted (Least x) s t)
   least-good x f =
-      let w = own (s .v) in
+      let w = thresholdOwn (s .v) in
       let a = 1 + 3 * s .set in
       let l : a < 148 = omega (arith, sane .2) in
       let T = set t (148 * w + a) x in
@@ -247,7 +247,7 @@ module _ (s : Spot) (t : List ℕ) (sane : Sane s) (long : length t ≡ 9472) wh
         left-on (s .n) w t T (same-sets t w a x l) (s .v) k (f .2),
         f .3,
         says-doing (f .3) (f .4) (doing s (Least x) Of) (refl, refl, refl, refl),
-        row-changed (s .n) (inmost (f .3)) (outer (f .3)) (lineSets t w) (lineSets T w)
+        row-changed (s .n) (inmost (f .3)) (outer (f .3)) (setsHeard t w) (setsHeard T w)
             (getD-set-other t (148 * w + a) (148 * w) x 0 (λ e. omega (arith, e)))
             (λ i h g. getD-set-other t (148 * w + a) (thresholdAt w i) x 0 (λ e. g (omega (arith, e, p))))
             (λ i h. getD-set-other t (148 * w + a) (innerAt w i) x 0 (λ e. twelve w (s .set) i (sym e)))
@@ -258,7 +258,7 @@ module _ (s : Spot) (t : List ℕ) (sane : Sane s) (long : length t ≡ 9472) wh
 
   pub site-good : (x : ℕ) → x < s .n → Begun s t → Begun (doing s (Site (single x)) Members) (enacted (Site (single x)) s t)
   site-good x below f =
-      let w = own (s .v) in
+      let w = thresholdOwn (s .v) in
       let a = 3 + 3 * s .set in
       let l : a < 148 = omega (arith, sane .2) in
       let y = bitOr (getD t (148 * w + a) 0) (single x) in
@@ -274,7 +274,7 @@ module _ (s : Spot) (t : List ℕ) (sane : Sane s) (long : length t ≡ 9472) wh
         left-on (s .n) w t T (same-sets t w a y l) (s .v) k (f .2),
         f .3,
         says-doing (f .3) (f .4) (doing s (Site (single x)) Members) (refl, refl, refl, refl),
-        row-changed (s .n) (inmost (f .3)) (outer (f .3)) (lineSets t w) (lineSets T w)
+        row-changed (s .n) (inmost (f .3)) (outer (f .3)) (setsHeard t w) (setsHeard T w)
             (getD-set-other t (148 * w + a) (148 * w) y 0 (λ e. omega (arith, e)))
             (λ i h g. getD-set-other t (148 * w + a) (thresholdAt w i) y 0 (λ e. thirteen w i (s .set) e))
             (λ i h. getD-set-other t (148 * w + a) (innerAt w i) y 0 (λ e. twentythree w i (s .set) e))
@@ -286,7 +286,7 @@ module _ (s : Spot) (t : List ℕ) (sane : Sane s) (long : length t ≡ 9472) wh
 
   pub inner-good : held s t .sets ≤ 48 → s .depth ≤ 3 → Begun s t → Begun (inward s (held s t)) (enacted Inner (inward s (held s t)) t)
   inner-good room deep f =
-      let w = own (s .v) in
+      let w = thresholdOwn (s .v) in
       let a = 2 + 3 * s .set in
       let l : a < 148 = omega (arith, sane .2) in
       let c = getD t (countAt w) 0 + 1 in
@@ -296,7 +296,7 @@ module _ (s : Spot) (t : List ℕ) (sane : Sane s) (long : length t ≡ 9472) wh
       let p : s .set ≡ inmost (f .3) = says-set (f .3) s (f .4) in
       let k : w < s .v = omega (arith, f .0) in
       let g = grow (f .3) s (held s t) (f .4) deep in
-      let ag : (u : ℕ) → (u ≡ w → ⊥) → Agree 49 (lineSets t u) (lineSets T u) = λ u h. agree-on (counted t w c u h) (same-sets m w a y l u h) in
+      let ag : (u : ℕ) → (u ≡ w → ⊥) → Agree 49 (setsHeard t u) (setsHeard T u) = λ u h. agree-on (counted t w c u h) (same-sets m w a y l u h) in
       let far : (b : ℕ) → 1 ≤ b → getD m (148 * w + b) 0 ≡ getD t (148 * w + b) 0 = λ b h. getD-set-other t (countAt w) (148 * w + b) c 0 (λ e. omega (arith, e, h)) in
       let lm : length m ≡ 9472 = length-set t (countAt w) c ∙ long in
       let first : getD T (countAt w) 0 ≡ getD t (countAt w) 0 + 1 =
@@ -311,8 +311,8 @@ module _ (s : Spot) (t : List ℕ) (sane : Sane s) (long : length t ≡ 9472) wh
         left-on (s .n) w t T ag (s .v) k (f .2),
         g .0,
         g .1,
-        subst (λ (Q : List ℕ). Row (s .n) Q (lineSets T w)) (sym (g .2))
-            (row-inner (s .n) (inmost (f .3)) (outer (f .3)) (lineSets t w) (lineSets T w) (g .3) room first
+        subst (λ (Q : List ℕ). Row (s .n) Q (setsHeard T w)) (sym (g .2))
+            (row-inner (s .n) (inmost (f .3)) (outer (f .3)) (setsHeard t w) (setsHeard T w) (g .3) room first
             (λ i h. getD-set-other m (148 * w + a) (thresholdAt w i) y 0 (λ e. twelve w i (s .set) e) ∙ far (1 + 3 * i) (omega arith))
             inn
             (λ i h. getD-set-other m (148 * w + a) (plainAt w i) y 0 (λ e. twentythree w (s .set) i (sym e)) ∙ far (3 + 3 * i) (omega arith))
@@ -320,10 +320,10 @@ module _ (s : Spot) (t : List ℕ) (sane : Sane s) (long : length t ≡ 9472) wh
       )
 
   -- the innermost set reaches its threshold
-  reached : (E : Nest) → Says E s → unreached (held s t) ≡ false → Reached (lineSets t (own (s .v))) (inmost E)
+  reached : (E : Nest) → Says E s → unreached (held s t) ≡ false → Reached (setsHeard t (thresholdOwn (s .v))) (inmost E)
   unfolding unreached
   reached E f e =
-      let S = lineSets t (own (s .v)) in
+      let S = setsHeard t (thresholdOwn (s .v)) in
       let z = or-none (eqb (S .threshold (s .set)) 0) (ltb (size (S .plain (s .set)) + S .inner (s .set)) (S .threshold (s .set))) e in
       let a = eqb-false (S .threshold (s .set)) 0 (z .0) in
       subst (λ (i : ℕ). Reached S i) (says-set E s f) (omega (arith, a), ltb-false (size (S .plain (s .set)) + S .inner (s .set)) (S .threshold (s .set)) (z .1))
@@ -336,17 +336,17 @@ module _ (s : Spot) (t : List ℕ) (sane : Sane s) (long : length t ≡ 9472) wh
         f .2,
         g .0,
         g .1,
-        subst (λ (Q : List ℕ). Row (s .n) Q (lineSets t (own (s .v)))) (sym (g .2))
-            (row-closed (s .n) (inmost (f .3)) (outer (f .3)) (lineSets t (own (s .v))) (reached (f .3) (f .4) e) (f .5)),
+        subst (λ (Q : List ℕ). Row (s .n) Q (setsHeard t (thresholdOwn (s .v)))) (sym (g .2))
+            (row-closed (s .n) (inmost (f .3)) (outer (f .3)) (setsHeard t (thresholdOwn (s .v))) (reached (f .3) (f .4) e) (f .5)),
       )
 
   pub end-good : s .depth ≤ 1 → unreached (held s t) ≡ false → Begun s t → Done (s .n) (s .v) t × Left (s .v) t
   end-good flat e f =
-      let w = own (s .v) in
-      let r = subst (λ (Q : List ℕ). Row (s .n) Q (lineSets t w)) (sole (f .3) s (f .4) flat)
-      (row-closed (s .n) (inmost (f .3)) (outer (f .3)) (lineSets t w) (reached (f .3) (f .4) e) (f .5)) in
-      let full : Full (s .n) (lineSets t w) = (row-sound (s .n) (lineSets t w) r, r .unused, r .kids) in
-      ((λ u h. same-or (λ (x : ℕ). Full (s .n) (lineSets t x)) u w full (λ g. f .1 u (nearer u h g))), f .2)
+      let w = thresholdOwn (s .v) in
+      let r = subst (λ (Q : List ℕ). Row (s .n) Q (setsHeard t w)) (sole (f .3) s (f .4) flat)
+      (row-closed (s .n) (inmost (f .3)) (outer (f .3)) (setsHeard t w) (reached (f .3) (f .4) e) (f .5)) in
+      let full : Full (s .n) (setsHeard t w) = (row-sound (s .n) (setsHeard t w) r, r .unused, r .kids) in
+      ((λ u h. same-or (λ (x : ℕ). Full (s .n) (setsHeard t x)) u w full (λ g. f .1 u (nearer u h g))), f .2)
     where
-      nearer : (u : ℕ) → u < s .v → (u ≡ own (s .v) → ⊥) → u < own (s .v)
+      nearer : (u : ℕ) → u < s .v → (u ≡ thresholdOwn (s .v) → ⊥) → u < thresholdOwn (s .v)
       nearer u h g = ⊎-elim (λ y. absurd (g (eqb-true u (s .v - 1) y))) (λ y. let z = eqb-false u (s .v - 1) y in omega (arith, h, z)) (cases (eqb u (s .v - 1)))

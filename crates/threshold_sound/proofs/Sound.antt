@@ -20,17 +20,17 @@ use Rattle.masks.specs.Mask.{allBelow, size, _⊆_}
 use Rattle.refusals.specs.declared.Check.the-variants.{Sound}
 use Rattle.site_block.specs.Block.{misheaded}
 use Rattle.threshold_block.specs.Block.{setsIn, setsUnfilled}
-use Rattle.threshold_grammar.specs.Grammar.{Sane, expected}
+use Rattle.threshold_grammar.specs.Grammar.{ThresholdSane, thresholdExpected}
 use Rattle.threshold_grammar.specs.declared.Phase.{Phase}
 use Rattle.threshold_grammar.specs.declared.Phase.the-variants.{Head, Count, Tail, Owner, Mark, Threshold, Of, Members, Wrong}
 use Rattle.threshold_grammar.specs.declared.Spot.{Spot}
 use Rattle.threshold_image.proofs.Exact.{thresholds-sound}
 use Rattle.threshold_image.specs.Image.{thresholdsCheck, Thresholds}
-use Rattle.threshold_made.specs.Made.{isWhole, answerOf, madeOf, thresholdBlocksIn, orShort, imageTo, made, leaves, thresholdImageIn}
+use Rattle.threshold_made.specs.Made.{thresholdIsWhole, thresholdAnswerOf, thresholdMadeOf, madeBlocks, thresholdOrShort, imageTo, thresholdMade, thresholdLeaves, imageMade}
 use Rattle.threshold_made.specs.declared.Made.{Made}
 use Rattle.threshold_made.specs.declared.Made.the-variants.{Sites, Fault, Room}
-use Rattle.threshold_reading.specs.Lines.{lineSets}
-use Rattle.threshold_reading.specs.Reading.{textRead}
+use Rattle.threshold_reading.specs.Lines.{setsHeard}
+use Rattle.threshold_reading.specs.Reading.{thresholdTextRead}
 use Rattle.threshold_sets.proofs.Alike.{sound-alike}
 use Rattle.threshold_sets.specs.Check.{SoundSets}
 use Rattle.threshold_sets.specs.Met.{ThresholdSets}
@@ -38,12 +38,12 @@ use Rattle.threshold_sound.proofs.Block.{store-headed, store-sealed, st
 use Rattle.threshold_sound.proofs.Lines.{Full, Done, Good}
 use Rattle.threshold_sound.proofs.Row.{Unused}
 use Rattle.threshold_sound.proofs.Words.{Keeps, text-keeps}
-use Rattle.threshold_sound.specs.Theorems.{MadeSound, MadeChecked, LeftSound}
+use Rattle.threshold_sound.specs.Theorems.{ThresholdsMadeSound, ThresholdsMadeChecked, ThresholdsLeftSound}
 use Rattle.threshold_write.proofs.Store.{length-store}
 use Rattle.threshold_write.specs.Store.{storeSets}
 
 -- a text that is answered with n sites
-ends : (p : Phase) (b : Bool) → isWhole p b ≡ true → (p ≡ Owner) × (b ≡ false)
+ends : (p : Phase) (b : Bool) → thresholdIsWhole p b ≡ true → (p ≡ Owner) × (b ≡ false)
 ends Head b e = absurd (false≢true e)
 ends Count b e = absurd (false≢true e)
 ends Tail b e = absurd (false≢true e)
@@ -54,12 +54,12 @@ ends Of b e = absurd (false≢true e)
 ends Members b e = absurd (false≢true e)
 ends (Wrong w) b e = absurd (false≢true e)
 
-answered : (s : Spot) (n : ℕ) → answerOf s ≡ Sites n → (s .phase ≡ Owner) × (s .n ≤ s .v) × (s .n ≡ n)
-unfolding answerOf
-answered s n e = pick (isWhole (s .phase) (ltb (s .v) (s .n))) refl e
+answered : (s : Spot) (n : ℕ) → thresholdAnswerOf s ≡ Sites n → (s .phase ≡ Owner) × (s .n ≤ s .v) × (s .n ≡ n)
+unfolding thresholdAnswerOf
+answered s n e = pick (thresholdIsWhole (s .phase) (ltb (s .v) (s .n))) refl e
   where
-    pick : (b : Bool) → isWhole (s .phase) (ltb (s .v) (s .n)) ≡ b
-        → cond b (Sites (s .n)) (Fault (s .line) (expected (s .phase) (ltb (s .v) (s .n)) (ltb 1 (s .depth)))) ≡ Sites n
+    pick : (b : Bool) → thresholdIsWhole (s .phase) (ltb (s .v) (s .n)) ≡ b
+        → cond b (Sites (s .n)) (Fault (s .line) (thresholdExpected (s .phase) (ltb (s .v) (s .n)) (ltb 1 (s .depth)))) ≡ Sites n
         → (s .phase ≡ Owner) × (s .n ≤ s .v) × (s .n ≡ n)
     pick true w e = let h = ends (s .phase) (ltb (s .v) (s .n)) w in (h .0, ltb-false (s .v) (s .n) (h .1), cc)
     pick false w e = let z : _≡_ {A = ℕ} 0 1 = cc in absurd (omega arith)
@@ -83,7 +83,7 @@ module _ (n : ℕ) (S : ThresholdSets) (few : n ≤ 64) (f : Full n S) where
       (cases (ltb i (S .count)))
 
 -- all blocks
-module _ (s : Spot) (t : List ℕ) (n : ℕ) (k : Keeps s t) (e : answerOf s ≡ Sites n) where
+module _ (s : Spot) (t : List ℕ) (n : ℕ) (k : Keeps s t) (e : thresholdAnswerOf s ≡ Sites n) where
   whole : (1 ≤ n) × (n ≤ 64) × Done n n t
   whole =
       let a = answered s n e in
@@ -91,57 +91,57 @@ module _ (s : Spot) (t : List ℕ) (n : ℕ) (k : Keeps s t) (e : answerOf s ≡
       let m = a .2 in (
         omega (arith, g .0, m),
         omega (arith, k .sane .0, m),
-        (λ u h. subst (λ (x : ℕ). Full x (lineSets t u)) m (g .1 u (omega (arith, h, m, a .1)))),
+        (λ u h. subst (λ (x : ℕ). Full x (setsHeard t u)) m (g .1 u (omega (arith, h, m, a .1)))),
       )
 
-  block : (v : ℕ) → v < n → part 512 v (imageTo n t n) ≡ storeSets n v (lineSets t v)
+  block : (v : ℕ) → v < n → part 512 v (imageTo n t n) ≡ storeSets n v (setsHeard t v)
   unfolding imageTo
-  block v l = part-cat (λ i. storeSets n i (lineSets t i)) 512 n v l (λ i h. length-store n i (lineSets t i))
+  block v l = part-cat (λ i. storeSets n i (setsHeard t i)) 512 n v l (λ i h. length-store n i (setsHeard t i))
 
   pub made-sound : Thresholds (imageTo n t n) n
   unfolding imageTo
   made-sound = record {
-    long = length-cat (λ i. storeSets n i (lineSets t i)) 512 n (λ i h. length-store n i (lineSets t i));
+    long = length-cat (λ i. storeSets n i (setsHeard t i)) 512 n (λ i h. length-store n i (setsHeard t i));
     some-site = whole .0;
     few-sites = whole .1;
-    sealed-so = λ v l. ap sealed (block v l) ∙ store-sealed n v (lineSets t v);
-    headed = λ v l. ap (misheaded n v) (block v l) ∙ store-headed n v (lineSets t v) (omega (arith, l, whole .1)) (omega (arith, whole .1));
+    sealed-so = λ v l. ap sealed (block v l) ∙ store-sealed n v (setsHeard t v);
+    headed = λ v l. ap (misheaded n v) (block v l) ∙ store-headed n v (setsHeard t v) (omega (arith, l, whole .1)) (omega (arith, whole .1));
     sets = λ v l.
         let f = whole .2 v l in
         let c = f .0 .few-sets in
         subst (λ (b : List ℕ). SoundSets n (setsIn b)) (sym (block v l))
-        (sound-alike (store-sets n v (lineSets t v) (omega (arith, c)) (fits n (lineSets t v) (whole .1) f)) c (f .0));
+        (sound-alike (store-sets n v (setsHeard t v) (omega (arith, c)) (fits n (setsHeard t v) (whole .1) f)) c (f .0));
     filled = λ v l.
         let f = whole .2 v l in
         let c = f .0 .few-sets in
-        ap setsUnfilled (block v l) ∙ store-filled n v (lineSets t v) (omega (arith, c)) c (f .1);
+        ap setsUnfilled (block v l) ∙ store-filled n v (setsHeard t v) (omega (arith, c)) c (f .1);
   }
 
-pub made-image : MadeSound
-unfolding madeOf thresholdImageIn
+pub made-image : ThresholdsMadeSound
+unfolding thresholdMadeOf imageMade
 made-image text n e =
-    let h = textRead text (replicate 9472 0) in
-    subst (λ (k : ℕ). Thresholds (imageTo k (h .lines) k) n) (sym (ap thresholdBlocksIn e)) (made-sound (h .spot) (h .lines) n (text-keeps text) e)
+    let h = thresholdTextRead text (replicate 9472 0) in
+    subst (λ (k : ℕ). Thresholds (imageTo k (h .lines) k) n) (sym (ap madeBlocks e)) (made-sound (h .spot) (h .lines) n (text-keeps text) e)
 
-pub made-checked : MadeChecked
+pub made-checked : ThresholdsMadeChecked
 made-checked text n e = thresholds-sound (made-image text n e)
 
 -- the room
-fitting : (room : ℕ) (m : Made) (n : ℕ) → orShort room m ≡ Sites n → m ≡ Sites n
-fitting room m n e = pick (ltb room (512 * thresholdBlocksIn m)) e
+fitting : (room : ℕ) (m : Made) (n : ℕ) → thresholdOrShort room m ≡ Sites n → m ≡ Sites n
+fitting room m n e = pick (ltb room (512 * madeBlocks m)) e
   where
     pick : (b : Bool) → cond b Room m ≡ Sites n → m ≡ Sites n
     pick true e = let z : _≡_ {A = ℕ} 0 1 = cc in absurd (omega arith)
     pick false e = e
 
-pub left-sound : LeftSound
-unfolding made leaves thresholdImageIn
+pub left-sound : ThresholdsLeftSound
+unfolding thresholdMade thresholdLeaves imageMade
 left-sound text room n e =
-    let a = fitting (length room) (answerOf (madeOf text .spot)) n e in
+    let a = fitting (length room) (thresholdAnswerOf (thresholdMadeOf text .spot)) n e in
     let i = made-image text n a in
-    let x : thresholdImageIn text ≡ imageTo n (madeOf text .lines) n = ap (λ (m : Made). imageTo (thresholdBlocksIn m) (madeOf text .lines) (thresholdBlocksIn m)) a in
-    let y : leaves text room ≡ imageTo n (madeOf text .lines) n ++ drop (512 * n) room =
-    ap (λ (m : Made). imageTo (thresholdBlocksIn m) (madeOf text .lines) (thresholdBlocksIn m) ++ drop (512 * thresholdBlocksIn m) room) e in
-    let z : take (512 * n) (leaves text room) ≡ thresholdImageIn text =
-    ap (take (512 * n)) y ∙ take-at (imageTo n (madeOf text .lines) n) (drop (512 * n) room) (512 * n) (ap length (sym x) ∙ i .long) ∙ sym x in
+    let x : imageMade text ≡ imageTo n (thresholdMadeOf text .lines) n = ap (λ (m : Made). imageTo (madeBlocks m) (thresholdMadeOf text .lines) (madeBlocks m)) a in
+    let y : thresholdLeaves text room ≡ imageTo n (thresholdMadeOf text .lines) n ++ drop (512 * n) room =
+    ap (λ (m : Made). imageTo (madeBlocks m) (thresholdMadeOf text .lines) (madeBlocks m) ++ drop (512 * madeBlocks m) room) e in
+    let z : take (512 * n) (thresholdLeaves text room) ≡ imageMade text =
+    ap (take (512 * n)) y ∙ take-at (imageTo n (thresholdMadeOf text .lines) n) (drop (512 * n) room) (512 * n) (ap length (sym x) ∙ i .long) ∙ sym x in
     ap thresholdsCheck z ∙ made-checked text n a

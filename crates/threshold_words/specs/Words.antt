@@ -16,41 +16,41 @@ use Rattle.threshold_words.specs.declared.Token.the-variants.{Silence, S
 use Rattle.threshold_words.specs.declared.Token.the-variants.{Colon as TheColon, Open as TheOpen, Close as TheClose}
 
 -- numbers are decimal: one digit more. 256 stands for every number over 255, so that nothing wraps
-unfoldable pub grown : ℕ → ℕ → ℕ
-grown x d = cond (ltb (10 * x + d) 256) (10 * x + d) 256
+unfoldable pub thresholdGrown : ℕ → ℕ → ℕ
+thresholdGrown x d = cond (ltb (10 * x + d) 256) (10 * x + d) 256
 
-unfoldable pub counts : ℕ → ℕ → Begun
-unfolding grown
-counts x b = cond (ltb b 48 || ltb 57 b) Odd (Digits (grown x (b - 48)))
+unfoldable pub thresholdCounts : ℕ → ℕ → Begun
+unfolding thresholdGrown
+thresholdCounts x b = cond (ltb b 48 || ltb 57 b) Odd (Digits (thresholdGrown x (b - 48)))
 
 -- one letter more of `sites`, of which k letters are there
-unfoldable pub spelt : ℕ → ℕ → Begun
-spelt k b = cond (not (ltb 4 k) && eqb (getD (ascii "sites") k 0) b) (Letters (k + 1)) Odd
+unfoldable pub thresholdSpelt : ℕ → ℕ → Begun
+thresholdSpelt k b = cond (not (ltb 4 k) && eqb (getD (ascii "sites") k 0) b) (Letters (k + 1)) Odd
 
 -- the second letter of `of`
 unfoldable pub oh : ℕ → Begun
 oh b = cond (eqb b 102) OhEff Odd
 
 -- the first byte of a word: the digits are 48 to 57, `o` is 111
-unfoldable pub opens : ℕ → Begun
-unfolding counts spelt
-opens b = cond (ltb b 58) (counts 0 b) (cond (eqb b 111) Oh (spelt 0 b))
+unfoldable pub thresholdOpens : ℕ → Begun
+unfolding thresholdCounts thresholdSpelt
+thresholdOpens b = cond (ltb b 58) (thresholdCounts 0 b) (cond (eqb b 111) Oh (thresholdSpelt 0 b))
 
 -- a byte that is a part of a word
-abbrev pub wordOn : Begun → ℕ → Begun
-wordOn Fresh b = opens b
-wordOn Gap b = opens b
-wordOn (Digits x) b = counts x b
-wordOn (Letters k) b = spelt k b
-wordOn Oh b = oh b
-wordOn OhEff b = Odd
-wordOn Odd b = Odd
-wordOn Return b = Odd
-wordOn Comment b = Comment
+abbrev pub thresholdWordOn : Begun → ℕ → Begun
+thresholdWordOn Fresh b = thresholdOpens b
+thresholdWordOn Gap b = thresholdOpens b
+thresholdWordOn (Digits x) b = thresholdCounts x b
+thresholdWordOn (Letters k) b = thresholdSpelt k b
+thresholdWordOn Oh b = oh b
+thresholdWordOn OhEff b = Odd
+thresholdWordOn Odd b = Odd
+thresholdWordOn Return b = Odd
+thresholdWordOn Comment b = Comment
 
 -- what a byte is: LF, `#`, `:`, `(`, `)`, CR, blank, tab, or a part of a word
-unfoldable pub plain : ℕ → Sign
-plain b =
+unfoldable pub thresholdPlain : ℕ → Sign
+thresholdPlain b =
     cond (eqb b 10) Line
     (cond (eqb b 35) Note
     (cond (eqb b 58) Colon
@@ -61,87 +61,87 @@ plain b =
     (cond (eqb b 9) Blank
     Part)))))))
 
-unfoldable pub orLine : ℕ → Sign → Sign
-orLine b other = cond (eqb b 10) Line other
+unfoldable pub thresholdOrLine : ℕ → Sign → Sign
+thresholdOrLine b other = cond (eqb b 10) Line other
 
 -- behind a CR all but LF is strange, and in a comment every byte is taken
-abbrev pub signOf : Begun → ℕ → Sign
-signOf Fresh b = plain b
-signOf Gap b = plain b
-signOf (Digits x) b = plain b
-signOf (Letters k) b = plain b
-signOf Oh b = plain b
-signOf OhEff b = plain b
-signOf Odd b = plain b
-signOf Return b = orLine b Part
-signOf Comment b = orLine b Note
+abbrev pub thresholdSignOf : Begun → ℕ → Sign
+thresholdSignOf Fresh b = thresholdPlain b
+thresholdSignOf Gap b = thresholdPlain b
+thresholdSignOf (Digits x) b = thresholdPlain b
+thresholdSignOf (Letters k) b = thresholdPlain b
+thresholdSignOf Oh b = thresholdPlain b
+thresholdSignOf OhEff b = thresholdPlain b
+thresholdSignOf Odd b = thresholdPlain b
+thresholdSignOf Return b = thresholdOrLine b Part
+thresholdSignOf Comment b = thresholdOrLine b Note
 
 -- what is in hand after the byte
-abbrev pub turn : Sign → Begun → ℕ → Begun
-turn Line w b = Fresh
-turn Note w b = Comment
-turn Colon w b = Gap
-turn Open w b = Gap
-turn Close w b = Gap
-turn Back w b = Return
-turn Blank w b = Gap
-turn Part w b = wordOn w b
+abbrev pub thresholdTurn : Sign → Begun → ℕ → Begun
+thresholdTurn Line w b = Fresh
+thresholdTurn Note w b = Comment
+thresholdTurn Colon w b = Gap
+thresholdTurn Open w b = Gap
+thresholdTurn Close w b = Gap
+thresholdTurn Back w b = Return
+thresholdTurn Blank w b = Gap
+thresholdTurn Part w b = thresholdWordOn w b
 
 -- a word that is complete
-unfoldable pub spelled : ℕ → Token
-spelled k = cond (eqb k 5) Sites Strange
+unfoldable pub thresholdSpelled : ℕ → Token
+thresholdSpelled k = cond (eqb k 5) Sites Strange
 
-abbrev pub whole : Begun → Token
-whole Fresh = Silence
-whole Gap = Silence
-whole (Digits x) = Number x
-whole (Letters k) = spelled k
-whole Oh = Strange
-whole OhEff = Of
-whole Odd = Strange
-whole Return = Silence
-whole Comment = Silence
+abbrev pub thresholdWhole : Begun → Token
+thresholdWhole Fresh = Silence
+thresholdWhole Gap = Silence
+thresholdWhole (Digits x) = Number x
+thresholdWhole (Letters k) = thresholdSpelled k
+thresholdWhole Oh = Strange
+thresholdWhole OhEff = Of
+thresholdWhole Odd = Strange
+thresholdWhole Return = Silence
+thresholdWhole Comment = Silence
 
 -- the word that ends at the byte, and what the byte says itself
-abbrev pub ended : Sign → Begun → Token
-ended Line w = whole w
-ended Note w = whole w
-ended Colon w = whole w
-ended Open w = whole w
-ended Close w = whole w
-ended Back w = whole w
-ended Blank w = whole w
-ended Part w = Silence
+abbrev pub thresholdEnded : Sign → Begun → Token
+thresholdEnded Line w = thresholdWhole w
+thresholdEnded Note w = thresholdWhole w
+thresholdEnded Colon w = thresholdWhole w
+thresholdEnded Open w = thresholdWhole w
+thresholdEnded Close w = thresholdWhole w
+thresholdEnded Back w = thresholdWhole w
+thresholdEnded Blank w = thresholdWhole w
+thresholdEnded Part w = Silence
 
-abbrev pub said : Sign → Token
-said Line = End
-said Note = Silence
-said Colon = TheColon
-said Open = TheOpen
-said Close = TheClose
-said Back = Silence
-said Blank = Silence
-said Part = Silence
+abbrev pub thresholdSaid : Sign → Token
+thresholdSaid Line = End
+thresholdSaid Note = Silence
+thresholdSaid Colon = TheColon
+thresholdSaid Open = TheOpen
+thresholdSaid Close = TheClose
+thresholdSaid Back = Silence
+thresholdSaid Blank = Silence
+thresholdSaid Part = Silence
 
 -- the last line's end may be missing: the end of the text is heard as LF, but not where a line has just begun. A CR there has no LF.
-abbrev pub closing : Begun → Sign
-closing Fresh = Note
-closing Gap = Line
-closing (Digits x) = Line
-closing (Letters k) = Line
-closing Oh = Line
-closing OhEff = Line
-closing Odd = Line
-closing Return = Line
-closing Comment = Line
+abbrev pub thresholdClosing : Begun → Sign
+thresholdClosing Fresh = Note
+thresholdClosing Gap = Line
+thresholdClosing (Digits x) = Line
+thresholdClosing (Letters k) = Line
+thresholdClosing Oh = Line
+thresholdClosing OhEff = Line
+thresholdClosing Odd = Line
+thresholdClosing Return = Line
+thresholdClosing Comment = Line
 
-abbrev pub stopped : Begun → Begun
-stopped Fresh = Fresh
-stopped Gap = Gap
-stopped (Digits x) = Digits x
-stopped (Letters k) = Letters k
-stopped Oh = Oh
-stopped OhEff = OhEff
-stopped Odd = Odd
-stopped Return = Odd
-stopped Comment = Comment
+abbrev pub thresholdStopped : Begun → Begun
+thresholdStopped Fresh = Fresh
+thresholdStopped Gap = Gap
+thresholdStopped (Digits x) = Digits x
+thresholdStopped (Letters k) = Letters k
+thresholdStopped Oh = Oh
+thresholdStopped OhEff = OhEff
+thresholdStopped Odd = Odd
+thresholdStopped Return = Odd
+thresholdStopped Comment = Comment

@@ -1,7 +1,8 @@
 // From bytes to words: what is in hand after a byte of a text, the word that ends there, and what the byte says itself. The rules are in specs/Words.antt.
 ghost use mathlib.Core.Path.{_≡_};
-ghost use Rattle.threshold_words.specs.Words.{counts, spelt, oh, opens, wordOn, plain, orLine, signOf, turn};
-ghost use Rattle.threshold_words.specs.Words.{spelled, whole, ended, said, closing, stopped};
+ghost use Rattle.threshold_words.specs.Words.{thresholdCounts, thresholdSpelt, oh, thresholdOpens, thresholdWordOn, thresholdPlain, thresholdOrLine};
+ghost use Rattle.threshold_words.specs.Words.{thresholdSignOf, thresholdTurn, thresholdSpelled, thresholdWhole, thresholdEnded, thresholdSaid};
+ghost use Rattle.threshold_words.specs.Words.{thresholdClosing, thresholdStopped};
 
 // What is in hand: the beginning of a line, a gap, a number, so many letters of `sites`, `o`, `of`, a word that is none, the CR of CR LF, a comment.
 pub enum Begun {
@@ -43,7 +44,7 @@ pub enum Token {
 
 // One digit more; 256 stands for every number over 255.
 fn counts(x: u64, b: u8) -> Begun
-    ensures { λ r. ⌜ r ≡ counts x b ⌝ }
+    ensures { λ r. ⌜ r ≡ thresholdCounts x b ⌝ }
 {
     if b < 48 {
         return Begun::Odd;
@@ -64,7 +65,7 @@ fn counts(x: u64, b: u8) -> Begun
 
 // One letter more of `sites`.
 fn spelt(k: u64, b: u8) -> Begun
-    ensures { λ r. ⌜ r ≡ spelt k b ⌝ }
+    ensures { λ r. ⌜ r ≡ thresholdSpelt k b ⌝ }
 {
     let word = b"sites";
     if 4 < k {
@@ -88,7 +89,7 @@ fn oh(b: u8) -> Begun
 
 // The first byte of a word.
 fn opens(b: u8) -> Begun
-    ensures { λ r. ⌜ r ≡ opens b ⌝ }
+    ensures { λ r. ⌜ r ≡ thresholdOpens b ⌝ }
 {
     if b < 58 {
         return counts(0, b);
@@ -101,7 +102,7 @@ fn opens(b: u8) -> Begun
 
 // A byte that is a part of a word.
 fn word_on(w: Begun, b: u8) -> Begun
-    ensures { λ r. ⌜ r ≡ wordOn w b ⌝ }
+    ensures { λ r. ⌜ r ≡ thresholdWordOn w b ⌝ }
 {
     match w {
         Begun::Fresh => opens(b),
@@ -118,7 +119,7 @@ fn word_on(w: Begun, b: u8) -> Begun
 
 // What a byte is outside comments.
 fn plain(b: u8) -> Sign
-    ensures { λ r. ⌜ r ≡ plain b ⌝ }
+    ensures { λ r. ⌜ r ≡ thresholdPlain b ⌝ }
 {
     if b == 10 {
         return Sign::Line;
@@ -149,7 +150,7 @@ fn plain(b: u8) -> Sign
 
 // LF, or else something that every other byte is.
 fn or_line(b: u8, other: Sign) -> Sign
-    ensures { λ r. ⌜ r ≡ orLine b other ⌝ }
+    ensures { λ r. ⌜ r ≡ thresholdOrLine b other ⌝ }
 {
     if b == 10 {
         return Sign::Line;
@@ -159,7 +160,7 @@ fn or_line(b: u8, other: Sign) -> Sign
 
 // What a byte is where a word is in hand.
 pub fn sign_of(w: Begun, b: u8) -> Sign
-    ensures { λ r. ⌜ r ≡ signOf w b ⌝ }
+    ensures { λ r. ⌜ r ≡ thresholdSignOf w b ⌝ }
 {
     match w {
         Begun::Fresh => plain(b),
@@ -176,7 +177,7 @@ pub fn sign_of(w: Begun, b: u8) -> Sign
 
 // What is in hand after the byte.
 pub fn turn(c: Sign, w: Begun, b: u8) -> Begun
-    ensures { λ r. ⌜ r ≡ turn c w b ⌝ }
+    ensures { λ r. ⌜ r ≡ thresholdTurn c w b ⌝ }
 {
     match c {
         Sign::Line => Begun::Fresh,
@@ -192,7 +193,7 @@ pub fn turn(c: Sign, w: Begun, b: u8) -> Begun
 
 // `sites` is whole after five letters.
 fn spelled(k: u64) -> Token
-    ensures { λ r. ⌜ r ≡ spelled k ⌝ }
+    ensures { λ r. ⌜ r ≡ thresholdSpelled k ⌝ }
 {
     if k == 5 {
         return Token::Sites;
@@ -202,7 +203,7 @@ fn spelled(k: u64) -> Token
 
 // A word that is complete.
 fn whole(w: Begun) -> Token
-    ensures { λ r. ⌜ r ≡ whole w ⌝ }
+    ensures { λ r. ⌜ r ≡ thresholdWhole w ⌝ }
 {
     match w {
         Begun::Fresh => Token::Silence,
@@ -219,7 +220,7 @@ fn whole(w: Begun) -> Token
 
 // The word that ends at the byte.
 pub fn ended(c: Sign, w: Begun) -> Token
-    ensures { λ r. ⌜ r ≡ ended c w ⌝ }
+    ensures { λ r. ⌜ r ≡ thresholdEnded c w ⌝ }
 {
     match c {
         Sign::Line => whole(w),
@@ -235,7 +236,7 @@ pub fn ended(c: Sign, w: Begun) -> Token
 
 // What the byte says itself.
 pub fn said(c: Sign) -> Token
-    ensures { λ r. ⌜ r ≡ said c ⌝ }
+    ensures { λ r. ⌜ r ≡ thresholdSaid c ⌝ }
 {
     match c {
         Sign::Line => Token::End,
@@ -251,7 +252,7 @@ pub fn said(c: Sign) -> Token
 
 // How the end of the text is heard: as LF, or not at all where a line has just begun.
 pub fn closing(w: Begun) -> Sign
-    ensures { λ r. ⌜ r ≡ closing w ⌝ }
+    ensures { λ r. ⌜ r ≡ thresholdClosing w ⌝ }
 {
     match w {
         Begun::Fresh => Sign::Note,
@@ -268,7 +269,7 @@ pub fn closing(w: Begun) -> Sign
 
 // What is in hand at the end of the text: a CR without LF is a word that is none.
 pub fn stopped(w: Begun) -> Begun
-    ensures { λ r. ⌜ r ≡ stopped w ⌝ }
+    ensures { λ r. ⌜ r ≡ thresholdStopped w ⌝ }
 {
     match w {
         Begun::Fresh => Begun::Fresh,

@@ -6,7 +6,7 @@ ghost use lib.ListN.{length, take, drop};
 ghost use lib.Seq.{sets};
 ghost use Rattle.le.specs.Le.{digits};
 ghost use Rattle.site_block.specs.Block.{head};
-ghost use Rattle.threshold_reading.specs.Lines.{lineSets};
+ghost use Rattle.threshold_reading.specs.Lines.{setsHeard};
 ghost use Rattle.threshold_write.specs.Store.{setPlaces, storeSets};
 
 // Bytes 0 to 7 of a block.
@@ -35,7 +35,7 @@ fn put_places(b: &mut [u8], t: &[u64], u: usize)
     requires { ⌜ length (now b) ≡ 512 ⌝ }
     requires { ⌜ length (now t) ≡ 9472 ⌝ }
     requires { ⌜ u < 64 ⌝ }
-    ensures { λ r. ⌜ now (b .exit) ≡ (take 8 (now (b .entry)) ++ setPlaces (lineSets (now (t .entry)) u) 49) ++ drop 498 (now (b .entry)) ⌝ }
+    ensures { λ r. ⌜ now (b .exit) ≡ (take 8 (now (b .entry)) ++ setPlaces (setsHeard (now (t .entry)) u) 49) ++ drop 498 (now (b .entry)) ⌝ }
 {
     let mut i: usize = 0;
     while i < 49 {
@@ -61,7 +61,7 @@ pub fn store_sets(t: &[u64], n: u64, u: usize, b: &mut [u8])
     requires { ⌜ length (now b) ≡ 512 ⌝ }
     requires { ⌜ n ≤ 64 ⌝ }
     requires { ⌜ u < 64 ⌝ }
-    ensures { λ r. ⌜ now (b .exit) ≡ storeSets n u (lineSets (now (t .entry)) u) ⌝ }
+    ensures { λ r. ⌜ now (b .exit) ≡ storeSets n u (setsHeard (now (t .entry)) u) ⌝ }
 {
     put_head(b, u as u16, n as u16, (t[148 * u] % 65536) as u16);
     put_places(b, t, u);

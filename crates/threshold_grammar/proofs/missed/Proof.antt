@@ -1,6 +1,6 @@
 -- The phase says what was expected.
 use mathlib.Core.Path.{_≡_, refl, sym, ap, _∙_}
-use Rattle.threshold_grammar.specs.Grammar.{at, missed}
+use Rattle.threshold_grammar.specs.Grammar.{spotAt, thresholdMissed}
 use Rattle.threshold_grammar.specs.declared.Phase.the-variants.{Wrong}
 use Rattle.threshold_grammar.specs.declared.Why.{Why}
 use borrow.Author.Needs.{needs}
@@ -10,8 +10,8 @@ use Rattle.threshold_grammar.proofs.at.Reads as at-reads
 use Rattle.threshold_grammar.proofs.expected.Reads as expected-reads
 
 returns : tie.Need-returns
-unfolding missed
-returns c = c .at .ensures ∙ ap (λ (why : Why). at (c .before .before .before .before .args .s) (Wrong why)) (c .before .expected .ensures)
+unfolding thresholdMissed
+returns c = c .at .ensures ∙ ap (λ (why : Why). spotAt (c .before .before .before .before .args .s) (Wrong why)) (c .before .expected .ensures)
 
 pub missed-spec : {M : Type 1} → statement M
 missed-spec =

@@ -1,7 +1,7 @@
 -- One test after the other.
 use mathlib.Core.Path.{_≡_, refl, sym, ap, _∙_}
 use Prim.Native.Nat.{ℕ}
-use Rattle.threshold_grammar.specs.Grammar.{at}
+use Rattle.threshold_grammar.specs.Grammar.{spotAt}
 use Rattle.threshold_grammar.specs.declared.Phase.the-variants.{Wrong}
 use Rattle.threshold_grammar.specs.declared.Why.the-variants.{Rule}
 use Rattle.threshold_grammar.specs.Grammar.{doing}
@@ -19,14 +19,17 @@ use Rattle.threshold_grammar.proofs.doing.Reads as doing-reads
 use Rattle.threshold_grammar.proofs.own.Reads as own-reads
 
 returns : tie.Need-returns
-returns c = c .at .ensures ∙ ap (λ (v : ℕ). at (c .before .before .before .before .args .s) (Wrong (Rule (Slice v)))) (c .before .own .ensures) ∙ sym (member-above _ _ _ (c .before .before .if1 .taken))
+returns c = c .at .ensures ∙ ap (λ (v : ℕ). spotAt (c .before .before .before .before .args .s) (Wrong (Rule (Slice v)))) (c .before .own .ensures) ∙ sym (member-above _ _ _ (c .before .before .if1 .taken))
 
 returns-2 : tie.Need-returns-2
 returns-2 c = c .at2 .ensures ∙ sym (member-twice _ _ _ (c .before .before .before .if1 .left) (sym (c .before .before .has .ensures) ∙ c .before .if2 .taken))
 
 returns-3 : tie.Need-returns-3
-returns-3 c = c .doing .ensures ∙ ap (λ (q : ℕ). doing (c .before .before .before .before .before .before .args .s) (Site q) Members) (c .before .single .ensures)
-    ∙ sym (member-more _ _ _ (c .before .before .before .before .if1 .left) (sym (c .before .before .before .has .ensures) ∙ c .before .before .if2 .left))
+returns-3 c =
+    c .doing .ensures
+    ∙ ap (λ (q : ℕ). doing (c .before .before .before .before .before .before .args .s) (Site q) Members) (c .before .single .ensures)
+    ∙ sym (member-more _ _ _ (c .before .before .before .before .if1 .left) (sym (c .before .before .before .has .ensures)
+    ∙ c .before .before .if2 .left))
 
 pub member-spec : {M : Type 1} → statement M
 member-spec =

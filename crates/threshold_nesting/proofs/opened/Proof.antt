@@ -1,7 +1,7 @@
 -- One test after the other.
 use mathlib.Core.Path.{_≡_, refl, sym, ap, _∙_}
 use Prim.Native.Nat.{ℕ}
-use Rattle.threshold_grammar.specs.Grammar.{at}
+use Rattle.threshold_grammar.specs.Grammar.{spotAt}
 use Rattle.threshold_grammar.specs.declared.Phase.the-variants.{Wrong}
 use Rattle.threshold_grammar.specs.declared.Why.the-variants.{Rule}
 use Rattle.refusals.specs.declared.Refusal.the-variants.{Count, Nesting}
@@ -13,10 +13,12 @@ use Rattle.threshold_grammar.proofs.at.Reads as at-reads
 use Rattle.threshold_grammar.proofs.own.Reads as own-reads
 
 returns : tie.Need-returns
-returns c = c .at .ensures ∙ ap (λ (v : ℕ). at (c .before .before .before .before .args .s) (Wrong (Rule (Count v)))) (c .before .own .ensures) ∙ sym (opened-50 _ _ (c .before .before .if1 .taken))
+returns c = c .at .ensures ∙ ap (λ (v : ℕ). spotAt (c .before .before .before .before .args .s) (Wrong (Rule (Count v)))) (c .before .own .ensures) ∙ sym (opened-50 _ _ (c .before .before .if1 .taken))
 
 returns-2 : tie.Need-returns-2
-returns-2 c = c .at2 .ensures ∙ ap (λ (v : ℕ). at (c .before .before .before .before .before .before .args .s) (Wrong (Rule (Nesting v)))) (c .before .own2 .ensures)
+returns-2 c =
+    c .at2 .ensures
+    ∙ ap (λ (v : ℕ). spotAt (c .before .before .before .before .before .before .args .s) (Wrong (Rule (Nesting v)))) (c .before .own2 .ensures)
     ∙ sym (opened-fifth _ _ (c .before .before .before .before .if1 .left) (c .before .before .if2 .taken))
 
 returns-3 : tie.Need-returns-3

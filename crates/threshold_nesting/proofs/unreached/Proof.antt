@@ -15,8 +15,9 @@ returns c = rw (eq-eqb _ 0 (c .if1 .taken)) refl
 
 returns-2 : tie.Need-returns-2
 unfolding unreached
-returns-2 c = rw (ne-eqb _ 0 (c .before .before .before .if1 .left)) (ap (λ (k : ℕ). ltb (k + c .before .before .before .before .before .args .h .inner)
-    (c .before .before .before .before .before .args .h .threshold)) (c .before .before .size .ensures))
+returns-2 c =
+    let h = c .before .before .before .before .before .args .h in
+    rw (ne-eqb _ 0 (c .before .before .before .if1 .left)) (ap (λ (k : ℕ). ltb (k + h .inner) (h .threshold)) (c .before .before .size .ensures))
 
 pub unreached-spec : {M : Type 1} → statement M
 unreached-spec =

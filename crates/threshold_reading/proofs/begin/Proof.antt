@@ -13,9 +13,10 @@ add-k : tie.Need-add-k
 add-k c = let p = c .before .before .before .pre in let k = p .1 .1 (c .before .own .result) (c .before .before .before .args .s .around) (p .1 .0 .3) in record { fits = omega (arith, k) }
 
 returns : tie.Need-returns
-returns c = let a = c .before .before .before .before .before .before .before .before .before .before .before .before .args in begun (a .s) (now (a .t))
-    (c .before .before .before .before .before .before .before .before .before .before .own .result)
-    (c .before .before .before .before .before .before .before .before .before .before .own .ensures) _ _ (c .before .before .before .before .before .before .put .ensures) (c .before .before .put2 .ensures)
+returns c =
+    let a = c .before .before .before .before .before .before .before .before .before .before .before .before .args in
+    let o = c .before .before .before .before .before .before .before .before .before .before .own in
+    begun (a .s) (now (a .t)) (o .result) (o .ensures) _ _ (c .before .before .before .before .before .before .put .ensures) (c .before .before .put2 .ensures)
 
 pub begin-spec : {M : Type 1} → statement M
 begin-spec =

@@ -11,25 +11,34 @@ use Rattle.threshold_reading.proofs.join.Reads as join-reads
 use Rattle.threshold_reading.proofs.put.Reads as put-reads
 
 returns : tie.Need-returns
-returns c = let a = c .before .before .before .before .args in idle (a .s) (now (a .t)) (c .before .before .own .result) (c .before .before .own .ensures) (c .enum-told .given .1)
+returns c =
+    let a = c .before .before .before .before .args in
+    let o = c .before .before .own in
+    idle (a .s) (now (a .t)) (o .result) (o .ensures) (c .enum-told .given .1)
 
 returns-2 : tie.Need-returns-2
-returns-2 c = let a = c .before .before .before .before .before .before .before .before .args in rooted (a .s) (now (a .t)) (c .before .before .before .before .before .before .own .result)
-    (c .before .before .before .before .before .before .own .ensures) _ (c .before .before .before .before .enum-told2 .given .1) (c .before .before .put .ensures)
+returns-2 c =
+    let a = c .before .before .before .before .before .before .before .before .args in
+    let o = c .before .before .before .before .before .before .own in
+    rooted (a .s) (now (a .t)) (o .result) (o .ensures) _ (c .before .before .before .before .enum-told2 .given .1) (c .before .before .put .ensures)
 
 returns-3 : tie.Need-returns-3
-returns-3 c = let a = c .before .before .before .before .before .before .before .before .args in inner (a .s) (now (a .t)) (c .before .before .before .before .before .before .own .result)
-    (c .before .before .before .before .before .before .own .ensures) _ (c .before .before .before .before .enum-told3 .given .1) (c .before .before .begin .ensures)
+returns-3 c =
+    let a = c .before .before .before .before .before .before .before .before .args in
+    let o = c .before .before .before .before .before .before .own in
+    inner (a .s) (now (a .t)) (o .result) (o .ensures) _ (c .before .before .before .before .enum-told3 .given .1) (c .before .before .begin .ensures)
 
 returns-4 : tie.Need-returns-4
-returns-4 c = let a = c .before .before .before .before .before .before .before .before .before .args in least (a .s) (now (a .t))
-    (c .before .before .before .before .before .before .before .own .result) (c .before .before .before .before .before .before .before .own .ensures) _ _
-    (c .before .before .before .before .before .d .given .1) (c .before .before .put2 .ensures)
+returns-4 c =
+    let a = c .before .before .before .before .before .before .before .before .before .args in
+    let o = c .before .before .before .before .before .before .before .own in
+    least (a .s) (now (a .t)) (o .result) (o .ensures) _ _ (c .before .before .before .before .before .d .given .1) (c .before .before .put2 .ensures)
 
 returns-5 : tie.Need-returns-5
-returns-5 c = let a = c .before .before .before .before .before .before .before .before .before .args in joined (a .s) (now (a .t))
-    (c .before .before .before .before .before .before .before .own .result) (c .before .before .before .before .before .before .before .own .ensures) _ _
-    (c .before .before .before .before .before .d2 .given .1) (c .before .before .join .ensures)
+returns-5 c =
+    let a = c .before .before .before .before .before .before .before .before .before .args in
+    let o = c .before .before .before .before .before .before .before .own in
+    joined (a .s) (now (a .t)) (o .result) (o .ensures) _ _ (c .before .before .before .before .before .d2 .given .1) (c .before .before .join .ensures)
 
 pub enact-spec : {M : Type 1} → statement M
 enact-spec =

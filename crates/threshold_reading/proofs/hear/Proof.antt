@@ -28,11 +28,12 @@ step-requires-2 c κs = let p = c .before .before .before .before .before .befor
     )
 
 returns : tie.Need-returns
-returns c = let p = c .before .before .before .before .before .before .before .before .before .before .before .pre in
+returns c =
+    let p = c .before .before .before .before .before .before .before .before .before .before .before .pre in
     let a = c .before .before .before .before .before .before .before .before .before .before .before .args in
     let t = c .before .before .before .before .before .before .before .step .ensures in
-    byte (a .c) (a .w) (a .s) _ (now (a .t)) _ _ (c .before .before .before .before .before .before .before .before .before .ended .ensures) (t .0) (t .1) (p .1 .0) _ _ _
-    (c .before .before .before .before .said .ensures) (c .before .before .step2 .ensures .0) (c .before .before .step2 .ensures .1)
+    let u = c .before .before .step2 .ensures in
+    byte (a .c) (a .w) (a .s) _ (now (a .t)) _ _ (c .before .before .before .before .before .before .before .before .before .ended .ensures) (t .0) (t .1) (p .1 .0) _ _ _ (c .before .before .before .before .said .ensures) (u .0) (u .1)
 
 pub hear-spec : {M : Type 1} → statement M
 hear-spec =

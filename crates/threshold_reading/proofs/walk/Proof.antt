@@ -7,11 +7,11 @@ use mathlib.Core.List.{List}
 use lib.ListN.{length, drop, getD, replicate, length-replicate}
 use Rattle.threshold_reading.proofs.Steps.{sane-eq, start-sane, heard-after, heard-few, heard-length, walk-step, walk-end, zero-at}
 use Rattle.threshold_words.specs.declared.Begun.the-variants.{Fresh}
-use Rattle.threshold_grammar.specs.Grammar.{Sane}
+use Rattle.threshold_grammar.specs.Grammar.{ThresholdSane}
 use Rattle.threshold_grammar.specs.declared.Spot.{Spot}
 use Rattle.threshold_reading.specs.Inner.{Few}
 use Rattle.threshold_reading.specs.Lines.{innerAt}
-use Rattle.threshold_reading.specs.Reading.{here, readOn, start}
+use Rattle.threshold_reading.specs.Reading.{thresholdHere, thresholdReadOn, thresholdStart}
 use borrow.Author.Needs.{needs}
 use Rattle.threshold_reading.proofs.walk.Statement.{statement}
 use Rattle.threshold_reading.proofs.walk.Tie as tie
@@ -25,8 +25,8 @@ use Rattle.threshold_words.proofs.turn.Reads as turn-reads
 -- what is left to read gives what the whole text gives
 abbrev Inv-loop : tie.InvT-loop
 Inv-loop text t₀ w₀ s₀ i₀ t w s i =
-    (i ≤ length text) × (length t ≡ length t₀) × (s .line ≤ i + 1) × (Sane s) × (Few (i + 1) t)
-    × (readOn (here w s t) (drop i text) ≡ readOn (here Fresh start (replicate 9472 0)) text)
+    (i ≤ length text) × (length t ≡ length t₀) × (s .line ≤ i + 1) × (ThresholdSane s) × (Few (i + 1) t)
+    × (thresholdReadOn (thresholdHere w s t) (drop i text) ≡ thresholdReadOn (thresholdHere Fresh thresholdStart (replicate 9472 0)) text)
 
 abbrev μ-loop : tie.MeasureT-loop
 μ-loop text t₀ w₀ s₀ i₀ t w s i = length text - i
@@ -40,7 +40,7 @@ loop-holds c = let p = c .before .before .before .pre in
       omega (arith, ap (λ (x : Spot). x .line) o),
       sane-eq o start-sane,
       (λ u i l. let z = ap (λ (x : List ℕ). getD x (innerAt u i) 0) p ∙ zero-at 9472 (innerAt u i) in omega (arith, z)),
-      ap (λ (x : Spot). readOn (here Fresh x (now (a .t))) (now (a .text))) o ∙ ap (λ (x : List ℕ). readOn (here Fresh start x) (now (a .text))) p,
+      ap (λ (x : Spot). thresholdReadOn (thresholdHere Fresh x (now (a .t))) (now (a .text))) o ∙ ap (λ (x : List ℕ). thresholdReadOn (thresholdHere Fresh thresholdStart x) (now (a .text))) p,
     )
 
 hear-requires : tie.Need-hear-requires Inv-loop μ-loop

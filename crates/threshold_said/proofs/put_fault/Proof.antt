@@ -1,7 +1,7 @@
 -- Six texts, one behind the other.
 use native.Mathlib.Omega.{arith}
 use borrow.Author.Needs.{needs}
-use Rattle.threshold_said.specs.MakeText.{faultLines}
+use Rattle.threshold_said.specs.MakeText.{thresholdFaultLines}
 use Rattle.threshold_said.proofs.Ways.{length-opening, six}
 use Rattle.threshold_wanted.proofs.Lengths.{length-wanted}
 use Rattle.text.proofs.Width.{length-decimal}
@@ -26,7 +26,7 @@ put-requires-3 c κs = let a = c .before .before .before .before .before .before
     .before .before .before .before .args in omega (arith, length-opening (a .why), length-decimal (a .line), length-wanted (a .why))
 
 returns : tie.Need-returns
-unfolding faultLines
+unfolding thresholdFaultLines
 returns c =
     let c6 = c .before .before in
     let c5 = c6 .before .before .before .before .before in

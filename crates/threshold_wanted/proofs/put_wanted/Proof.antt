@@ -6,12 +6,12 @@ use mathlib.Core.List.{List}
 use Rattle.lines.proofs.Chain.{as-text}
 use Rattle.threshold_grammar.specs.declared.Why.{Why}
 use Rattle.text.specs.Text.{ascii}
-use Rattle.threshold_wanted.specs.Wanted.{wanted}
+use Rattle.threshold_wanted.specs.Wanted.{thresholdWanted}
 use Rattle.threshold_wanted.proofs.put_wanted.Statement.{statement}
 use Rattle.threshold_wanted.proofs.put_wanted.Tie as tie
 
 abbrev said : Why → List ℕ
-said why = ascii (wanted why)
+said why = ascii (thresholdWanted why)
 
 returns : tie.Need-returns
 returns c = as-text (sym (ap said (c .before .before .before .before .before .enum-told .given .1))) (c .before .before .put .ensures)

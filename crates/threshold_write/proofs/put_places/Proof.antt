@@ -5,7 +5,7 @@ use denote.Ref.{now}
 use mathlib.Core.List.{List, _++_}
 use Prim.Native.Nat.{ℕ, _+_, _-_, _*_, _≤_}
 use lib.ListN.{length, take, drop}
-use Rattle.threshold_reading.specs.Lines.{lineSets}
+use Rattle.threshold_reading.specs.Lines.{setsHeard}
 use Rattle.threshold_write.specs.Store.{setPlaces}
 use Rattle.threshold_write.proofs.Store.{places-holds, places-again}
 use borrow.Author.Needs.{needs}
@@ -14,7 +14,7 @@ use Rattle.threshold_write.proofs.put_places.Tie as tie
 use Rattle.threshold_write.proofs.put_set.Reads as put-set-reads
 
 abbrev Inv-loop : tie.InvT-loop
-Inv-loop b₀ t u i₀ b i = (i ≤ 49) × (length b ≡ 512) × (b ≡ (take 8 b₀ ++ setPlaces (lineSets t u) i) ++ drop (8 + 10 * i) b₀)
+Inv-loop b₀ t u i₀ b i = (i ≤ 49) × (length b ≡ 512) × (b ≡ (take 8 b₀ ++ setPlaces (setsHeard t u) i) ++ drop (8 + 10 * i) b₀)
 
 abbrev μ-loop : tie.MeasureT-loop
 μ-loop b₀ t u i₀ b i = 49 - i
@@ -28,7 +28,7 @@ loop-again c = let s = c .before .before .before .before .before .before .before
       omega arith,
       c .before .before .put-set .kept .0 ∙ l .inv .1,
       c .before .before .put-set .ensures
-          ∙ places-again (l .b) (now (s .args .b)) (lineSets (now (s .args .t)) (s .args .u)) (l .i) (s .pre .0) (c .before .before .before .before .before .before .before .loop-test .taken) (l .inv .2),
+          ∙ places-again (l .b) (now (s .args .b)) (setsHeard (now (s .args .t)) (s .args .u)) (l .i) (s .pre .0) (c .before .before .before .before .before .before .before .loop-test .taken) (l .inv .2),
     )
 
 same-length : tie.Need-same-length Inv-loop μ-loop

@@ -13,7 +13,9 @@ use Rattle.le.proofs.put16.Reads as put16-reads
 use Rattle.le.proofs.put32.Reads as put32-reads
 
 returns : tie.Need-returns
-returns c = let a = c .before .before .before .before .before .before .before .before .before .args in c .before .before .put32 .ensures
+returns c =
+    let a = c .before .before .before .before .before .before .before .before .before .args in
+    c .before .before .put32 .ensures
     ∙ ap (λ (x : List ℕ). sets x 500 (digits 4 0)) (c .before .before .before .before .before .before .put16 .ensures)
     ∙ zeros-put (now (a .b)) (c .before .before .before .before .before .before .before .before .before .pre)
 

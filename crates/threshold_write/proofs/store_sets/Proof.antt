@@ -2,7 +2,7 @@
 use mathlib.Core.Path.{_≡_, refl, sym, ap, _∙_}
 use native.Mathlib.Omega.{arith}
 use denote.Ref.{now}
-use Rattle.threshold_reading.specs.Lines.{lineSets}
+use Rattle.threshold_reading.specs.Lines.{setsHeard}
 use Rattle.threshold_write.proofs.Store.{store-puts}
 use borrow.Author.Needs.{needs}
 use Rattle.threshold_write.proofs.store_sets.Statement.{statement}
@@ -17,7 +17,7 @@ returns c = let s = c .before .before .before .before .before .before .before .b
     let h = c .before .before .before .before .before .before .before .before .before .before .before .before .before .before .put-head in
     let p = c .before .before .before .before .before .before .before .before .before .before .put-places in
     c .before .before .put-sums .ensures
-    ∙ store-puts (now (s .args .b)) (lineSets (now (s .args .t)) (s .args .u)) (s .args .n) (s .args .u) _ _ _ (h .kept .0 ∙ s .pre .1 .0) (p .kept .0 ∙ (h .kept .0 ∙ s .pre .1 .0)) (h .ensures)
+    ∙ store-puts (now (s .args .b)) (setsHeard (now (s .args .t)) (s .args .u)) (s .args .n) (s .args .u) _ _ _ (h .kept .0 ∙ s .pre .1 .0) (p .kept .0 ∙ (h .kept .0 ∙ s .pre .1 .0)) (h .ensures)
     (p .ensures) (c .before .before .before .before .before .before .put-zeros .ensures)
 
 pub store-sets-spec : {M : Type 1} → statement M
