@@ -5,26 +5,26 @@ use mathlib.Core.Logic.{_⊎_, inl, inr, ⊎-elim}
 use mathlib.Core.Path.{_≡_, refl, sym, ap, _∙_, subst}
 use native.Mathlib.Nat.{eq-or-lt-of-le, lt-of-lt-of-le}
 use native.Mathlib.Omega.{arith}
-use lib.Bits.{bitAnd, bitOr, or-zero-r, and-comm, or-disjoint}
+use lib.Bits.{bitAnd, bitOr, or-zero-r, and-comm}
 use lib.Dec.{eqb, ltb}
 use lib.Pow.{ones-lt}
-use borrow.Author.Tests.{eqb-true, eqb-false, eq-eqb, ne-eqb, ltb-true, ltb-false}
+use borrow.Author.Tests.{eqb-true, eqb-false, ne-eqb, ltb-true, ltb-false}
 use Rattle.ground.proofs.Least.{least-le, least-passes, least-before, least-fails, least-found}
-use Rattle.ground.proofs.Logic.{and-l, and-r, and-i, cases, is-false, clash, not-t, or-i, or-e}
+use Rattle.ground.proofs.Logic.{and-l, and-r, and-i, cases, is-false, clash, not-t, or-e}
 use Rattle.ground.proofs.Some.{some-of, some-ex}
 use Rattle.masks.proofs.Laws.AllBelow.{in-all, ⊆-all}
 use Rattle.masks.proofs.Laws.Apart.{apart-⊆, common-of, minus-apart, ⊆-minus, ⊆-minus-apart}
 use Rattle.masks.proofs.Laws.Gather.{∈-gather, gather-∈, gather-lt}
-use Rattle.masks.proofs.Laws.Single.{in?, ∈-eq, minus-grows}
-use Rattle.masks.proofs.Laws.Step.{next-least, next-with, or-part}
+use Rattle.masks.proofs.Laws.Single.{in?, ∈-eq}
+use Rattle.masks.proofs.Laws.Step.{next-with, or-part}
 use Rattle.masks.proofs.Laws.Subsets.{mem, not-in-zero, ⊆-zero, member-of, ⊆-refl, ⊆-trans, ⊆-antisym, ⊆-le, within-⊆, ⊆-within, ∈-below, or-⊆, or-⊆-l, or-⊆-r, minus-⊆, ∈-minus, minus-not-in, empty}
 use Rattle.masks.specs.Mask.{has, within, minus, allBelow, gather, _∈_, _⊆_}
-use Rattle.sets.specs.Quorum.{quorum, round, largest}
+use Rattle.sets.specs.Quorum.{quorum, largest}
 use Rattle.verdicts.specs.Inner.{Gathered}
 use Rattle.sets.specs.Slices.{Slices}
 use Rattle.verdicts.specs.Verdicts.{beside, apart, firstApart, meets, dispensable, isIntact, intact}
-use Rattle.sets.proofs.Quorum.{Rule, round-⊆, round-slice, quorum-below, quorum-lt, quorum-some, quorum-slice, quorum-empty, quorum-still, still-quorum}
-use Rattle.sets.proofs.Quorum.{largest-⊆, largest-still, largest-quorum, largest-contains, largest-greatest, largest-grows}
+use Rattle.sets.proofs.Quorum.{Rule, quorum-below, quorum-lt, quorum-some, quorum-slice}
+use Rattle.sets.proofs.Quorum.{largest-⊆, largest-quorum, largest-greatest}
 
 module _ (s : ℕ → ℕ → Bool) (n : ℕ) where
   -- a quorum is apart if what is beside it is not empty; what is no quorum is not apart
