@@ -18,6 +18,7 @@
 #define STACK 262144
 #define STACK_ALLOWED 1024
 #define STACK_OF_LISTS 9216
+#define STACK_OF_VERDICTS 11264
 #define STACK_OF_RECORDS 26624
 #define STACK_OF_ROWS 43008
 #define STACK_OF_BOTH 60416
@@ -594,7 +595,7 @@ int main(int count, char **words)
         on_painted("tables", tables, STACK_ALLOWED);
         on_painted("images", images, STACK_ALLOWED);
         on_painted("set questions", questions, STACK_ALLOWED);
-        on_painted("verdicts", verdicts, STACK_OF_LISTS);
+        on_painted("verdicts", verdicts, STACK_OF_VERDICTS);
         on_painted("voting", voting, STACK_ALLOWED);
         on_painted("runs", runs, STACK_OF_LISTS);
         on_painted("runs of records", runs_of_records, STACK_OF_RECORDS);
