@@ -15,9 +15,9 @@
  * Memory.    A call writes to `out` and to the cells named at it, and to nothing else. On a refusal it writes to `out` alone. Room beyond the named cells
  *            is kept as it was. What is lent as const is read and not changed.
  * Overlap.   What a call may write (out, room, state, answers) may not overlap anything else that is lent to the same call.
- * Stack.     siren_shared and siren_run use less than 9,216 bytes of it, siren_intact less than 11,264, siren_run_records, which packs its list there, less
- *            than 26,624.
- *            The calls over a table of thresholds, which load it there, use less than 43,008, but siren_threshold_run_records less than 60,416 and
+ * Stack.     siren_largest, siren_sound and siren_step use less than 1,536 bytes of it, siren_shared and siren_run less than 10,240, siren_intact less
+ *            than 11,264, siren_run_records, which packs its list there, less than 26,624.
+ *            The calls over a table of thresholds, which load it there, use less than 45,056, but siren_threshold_run_records less than 60,416 and
  *            siren_threshold_check, which loads nothing, less than 1,024, as every other call. Measured by outside/capi/test.c, which refuses more.
  *
  * A table of n sites (1 to 64, numbered from 0) is 63 n numbers: for each site the count of its slices, 1 to 62, then 62 places that hold the slices in

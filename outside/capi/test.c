@@ -17,10 +17,11 @@
 #define PAINT 0xa5
 #define STACK 262144
 #define STACK_ALLOWED 1024
-#define STACK_OF_LISTS 9216
+#define STACK_OF_ROUNDS 1536
+#define STACK_OF_LISTS 10240
 #define STACK_OF_VERDICTS 11264
 #define STACK_OF_RECORDS 26624
-#define STACK_OF_ROWS 43008
+#define STACK_OF_ROWS 45056
 #define STACK_OF_BOTH 60416
 /* The limits are those of include/siren.h. A copy of the lent table, 2,520 bytes for table A, is refused. */
 #define COUNT(a) (sizeof(a) / sizeof *(a))
@@ -594,9 +595,9 @@ int main(int count, char **words)
     if (count == 1) {
         on_painted("tables", tables, STACK_ALLOWED);
         on_painted("images", images, STACK_ALLOWED);
-        on_painted("set questions", questions, STACK_ALLOWED);
+        on_painted("set questions", questions, STACK_OF_ROUNDS);
         on_painted("verdicts", verdicts, STACK_OF_VERDICTS);
-        on_painted("voting", voting, STACK_ALLOWED);
+        on_painted("voting", voting, STACK_OF_ROUNDS);
         on_painted("runs", runs, STACK_OF_LISTS);
         on_painted("runs of records", runs_of_records, STACK_OF_RECORDS);
         on_painted("journals", journals, STACK_ALLOWED);
