@@ -96,7 +96,7 @@ fn write(root: &Path, leaflet: &Leaflet) {
 fn main() {
     let words: Vec<String> = std::env::args().collect();
     let leaflet = Leaflet::of(&fs::read_to_string("docs/LEAFLET.md").expect("the leaflet"));
-    assert_eq!(leaflet.len(), 20, "the leaflet has a row for each number");
+    assert_eq!(leaflet.len(), 23, "the leaflet has a row for each number");
     match words.iter().map(String::as_str).collect::<Vec<_>>()[1..] {
         ["write", root] => write(Path::new(root), &leaflet),
         ["try", root] => programs::try_all(Path::new(root), &leaflet, &samples()),
