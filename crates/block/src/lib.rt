@@ -1,8 +1,10 @@
 // The block of 512 bytes: its two sums, the check of a lent block, and the check written. Nothing is copied: the sums run over the lent bytes.
+#![tactic(auto)]
+
 ghost use Rattle.std.specs.Prelude.{◌≡◌, ◌+◌, ◌*◌, ◌%◌, ◌^◌, ◌≤◌, length, take};
 ghost use Rattle.block.specs.Block.{sum_s, sum_t, check_s, check_t, check, seal};
 
-#[derive(Drop)]
+#[derive(Clone, Copy)]
 pub struct Sums {
     pub s: u32,
     pub t: u32,

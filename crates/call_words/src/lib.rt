@@ -1,10 +1,11 @@
 // A word of a text, and what the words of a line say of a call.
+#![tactic(auto)]
 ghost use Rattle.std.specs.Prelude.{◌≡◌};
 ghost use Rattle.call_words.specs.Grammar.{hear, closed};
 ghost use Rattle.call_words.specs.Word.{lower, figure, spells, meant};
 
 // What the words of a line have said so far. The fields are the call's bytes as far as they are known.
-#[derive(Drop)]
+#[derive(Clone, Copy)]
 pub enum Heard {
     Nothing,
     Kind(u8),
@@ -18,7 +19,7 @@ pub enum Heard {
 }
 
 // What a line says: nothing, a call, or what was expected where it is wrong.
-#[derive(Drop)]
+#[derive(Clone, Copy)]
 pub enum Line {
     Empty,
     Call(u8, u8, u8, u8),

@@ -1,1 +1,2 @@
 // What is proved of calls as text, both ways; no code.
+#![tactic(auto)]

@@ -1,4 +1,5 @@
 // Calls as text, read: a text of any length, line by line, into a lent room for 4,096 calls.
+#![tactic(auto)]
 ghost use Rattle.std.specs.Prelude.{◌≡◌, ◌+◌, ◌%◌, ◌≤◌, length, take, drop};
 ghost use Rattle.calls_text.specs.Inner.{hear_piece, line_at, took_of, took_into};
 ghost use Rattle.calls_text.specs.Pieces.{stops, upto, says};
@@ -7,14 +8,14 @@ ghost use Rattle.calls_text.specs.Reading.{with_line, read_text, text_into};
 use call_words::{Heard, Line};
 
 // How many bytes of the room are calls, or what is wrong with the line.
-#[derive(Drop)]
+#[derive(Clone, Copy)]
 enum Took {
     To(usize),
     Not(u8),
 }
 
 // How many bytes the list has; or the first line that is wrong, and what was expected there, 4 where its call is one too many.
-#[derive(Drop)]
+#[derive(Clone, Copy)]
 pub enum Made {
     Bytes(usize),
     Fault(u64, u8),

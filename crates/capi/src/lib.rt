@@ -1,4 +1,5 @@
 // Every public call of the library for C and Rust, but for the two of the firmware. The header is include/siren.h.
+#![tactic(auto)]
 ghost use Rattle.std.specs.Prelude.{◌≡◌, length};
 ghost use Rattle.said_votes.specs.Run.{run_says, run_state, run_answers};
 ghost use Rattle.image.specs.Read.{read, read_into};

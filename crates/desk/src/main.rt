@@ -1,5 +1,6 @@
 // The desk program: a call in words, the answer on standard output, what is wrong with the call on standard error. Argument 0 is the program's name, 1 the
 // call's first word, 2, 3 and 4 are those behind it.
+#![tactic(auto)]
 
 mod calls;
 mod journals;

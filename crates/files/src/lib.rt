@@ -1,12 +1,13 @@
 // The files and masks that a call of a program names, the answer on standard output, and what is said on standard error when a call cannot be
 // answered. Nothing here decides anything of the rules.
+#![tactic(auto)]
 ghost use Rattle.files.specs.Files.{fetched_bytes};
 
 use libc::{STDERR_FILENO, STDOUT_FILENO};
 use text::Typed;
 
 // How many bytes a file has, or that it cannot be used, which has then been said.
-#[derive(Drop)]
+#[derive(Clone, Copy)]
 pub enum Fetched {
     Bytes(usize),
     Unused,

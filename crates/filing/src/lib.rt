@@ -1,4 +1,5 @@
 // A new file under the name that an argument gives: whole, or not at all. Nothing here decides anything of the rules.
+#![tactic(auto)]
 ghost use Rattle.std.specs.Prelude.{◌≤◌, length};
 ghost use Rattle.libc.specs.Io.{Ended};
 

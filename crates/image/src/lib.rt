@@ -1,11 +1,12 @@
 // The table of groups on file: reading an image into a table in memory.
+#![tactic(auto)]
 ghost use Rattle.std.specs.Prelude.{◌≡◌, length};
 ghost use Rattle.image.specs.Read.{read, read_into};
 
 use refusals::{Check, Refusal};
 
 // The number of sites read, or the refusal.
-#[derive(Drop)]
+#[derive(Clone, Copy)]
 pub enum Reading {
     Sites(u64),
     Refused(Refusal),

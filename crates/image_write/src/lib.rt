@@ -1,11 +1,12 @@
 // The table of groups on file: writing a table in memory as an image.
+#![tactic(auto)]
 ghost use Rattle.std.specs.Prelude.{◌≡◌, length};
 ghost use Rattle.image_write.specs.Write.{write, write_into};
 
 use refusals::{Check, Refusal};
 
 // The number of sites written, or the refusal.
-#[derive(Drop)]
+#[derive(Clone, Copy)]
 pub enum Writing {
     Sites(u64),
     Refused(Refusal),

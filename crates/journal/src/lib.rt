@@ -1,4 +1,5 @@
 // The journal of calls on file: its check, and its list for a run.
+#![tactic(auto)]
 ghost use Rattle.std.specs.Prelude.{◌≡◌, ◌*◌, ◌≤◌, length};
 ghost use Rattle.journal.specs.Journal.{call_count, check, listed, list_into};
 ghost use Rattle.journal_blocks.specs.Journal.{journal_blocks_check, list_of};
@@ -6,14 +7,14 @@ ghost use Rattle.journal_blocks.specs.Journal.{journal_blocks_check, list_of};
 use refusals::{Check, Refusal};
 
 // The number of blocks and of calls, or the refusal.
-#[derive(Drop)]
+#[derive(Clone, Copy)]
 pub enum Checked {
     Sound { blocks: u64, calls: u64 },
     Refused(Refusal),
 }
 
 // The length of the list, or the refusal.
-#[derive(Drop)]
+#[derive(Clone, Copy)]
 pub enum Listed {
     Bytes(u64),
     Refused(Refusal),

@@ -1,9 +1,10 @@
 // The call at a place of a journal.
+#![tactic(auto)]
 ghost use Rattle.std.specs.Prelude.{◌≡◌};
 ghost use Rattle.journal_next.specs.Next.{next};
 
 // One call of the journal and the place behind it, or none is left.
-#[derive(Drop)]
+#[derive(Clone, Copy)]
 pub enum Next {
     Call {
         kind: u8,

@@ -1,4 +1,5 @@
 // What the desk does with journals: read, have the text made, print it. Nothing here decides anything of the rules.
+#![tactic(auto)]
 use files::Fetched;
 use text::Typed;
 

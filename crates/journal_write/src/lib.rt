@@ -1,11 +1,12 @@
 // The writer of the journal of calls on file.
+#![tactic(auto)]
 ghost use Rattle.std.specs.Prelude.{◌≡◌, length};
 ghost use Rattle.journal_write.specs.Keep.{keep, keep_into};
 
 use refusals::Refusal;
 
 // The number of blocks written, or the refusal.
-#[derive(Drop)]
+#[derive(Clone, Copy)]
 pub enum Kept {
     Blocks(u64),
     Refused(Refusal),

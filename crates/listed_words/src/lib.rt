@@ -1,4 +1,5 @@
 // The sets of a family of sets of at most 12 sites, from words into a site's row: their number, then the sets, ascending, and zeros behind them.
+#![tactic(auto)]
 ghost use Rattle.std.specs.Prelude.{◌≡◌, ◌<◌, ◌+◌, ◌*◌, replicate};
 ghost use Rattle.ground.specs.Search.{those};
 ghost use Rattle.set_words.specs.Inner.{in_family};

@@ -1,4 +1,6 @@
 // A set of sites as a 64-bit mask: bit v for site v.
+#![tactic(auto)]
+
 ghost use Rattle.std.specs.Prelude.{◌≡◌, ◌<◌, ◌≤◌};
 ghost use Rattle.masks.specs.Mask.{has, single, within, minus, all_below, size};
 

@@ -1,5 +1,6 @@
 // The search for the largest quorum inside a set of sites of a checked table, where the rows hold sets with thresholds: one round; and where rounds are not
 // asked for, sweep by sweep.
+#![tactic(auto)]
 ghost use Rattle.std.specs.Prelude.{◌≡◌, true, ◌<◌};
 ghost use Rattle.masks.specs.Mask.{has};
 ghost use Rattle.one_round.specs.Inner.Swept.{Swept};

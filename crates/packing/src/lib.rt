@@ -1,10 +1,11 @@
 // A list of calls as bytes: records of four byte values, put one behind the other into a room for 4,096 of them.
+#![tactic(auto)]
 ghost use Rattle.std.specs.Prelude.{◌≡◌, length};
 ghost use Rattle.packing.specs.Inner.{put_at, pack_to, packable};
 
 // A call: kind (0 propose, 1 vote, 2 accept), from, to, side (0 drill, 1 live).
 #[repr(C)]
-#[derive(Drop)]
+#[derive(Clone, Copy)]
 pub struct Call {
     pub kind: u8,
     pub from: u8,

@@ -1,4 +1,5 @@
 // A later pass over a list of calls, which looks at the calls that wait alone.
+#![tactic(auto)]
 ghost use Rattle.std.specs.Prelude.{◌≡◌, ◌+◌, ◌*◌, ◌<◌, length, get_or};
 ghost use Rattle.rules.specs.Inner.{row_vote};
 ghost use Rattle.pass.specs.Calls.{calls, call_at};
@@ -7,7 +8,7 @@ ghost use Rattle.asking.specs.Inner.{Known};
 ghost use Rattle.sets.specs.Inner.Rows.{Rows, row_questions};
 
 // Whether a call that has waited changed the state, and whether it waits still.
-#[derive(Drop)]
+#[derive(Clone, Copy)]
 struct Turn {
     changed: bool,
     waits: bool,
@@ -56,7 +57,7 @@ fn work_again(
 }
 
 // Whether a pass changed the state, and how many calls wait still.
-#[derive(Drop)]
+#[derive(Clone, Copy)]
 pub struct Round {
     pub changed: bool,
     pub count: usize,

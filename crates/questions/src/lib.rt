@@ -1,5 +1,6 @@
 // The set questions as public calls, but for the two verdicts: each checks table, set and site itself, in the order table, 10, 11. Of each the table is
 // checked first; the rest is asked of its rows. The answers of all.
+#![tactic(auto)]
 ghost use Rattle.std.specs.Prelude.{◌≡◌, not, ltb};
 ghost use Rattle.refusals.specs.First.{or_else, refuse};
 ghost use Rattle.refusals.specs.declared.Refusal as Refused;
@@ -11,7 +12,7 @@ ghost use Rattle.questions.specs.Answers.{to_holds, quorum, to_greatest, largest
 use refusals::{Check, Refusal};
 
 // Whether it holds, or the refusal.
-#[derive(Drop)]
+#[derive(Clone, Copy)]
 pub enum Holds {
     Yes,
     No,
@@ -19,14 +20,14 @@ pub enum Holds {
 }
 
 // The largest quorum inside a set (0 if there is none) and the number of rounds that dropped somebody, or the refusal.
-#[derive(Drop)]
+#[derive(Clone, Copy)]
 pub enum Greatest {
     Set { set: u64, rounds: u64 },
     Refused(Refusal),
 }
 
 // Every two quorums meet; or two that do not, the first of the smallest mask and the second the largest beside it; or the refusal.
-#[derive(Drop)]
+#[derive(Clone, Copy)]
 pub enum Sharing {
     Meet,
     Apart { first: u64, second: u64 },
@@ -34,7 +35,7 @@ pub enum Sharing {
 }
 
 // The intact sites, or the refusal.
-#[derive(Drop)]
+#[derive(Clone, Copy)]
 pub enum Standing {
     Intact(u64),
     Refused(Refusal),

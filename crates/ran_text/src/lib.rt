@@ -1,4 +1,5 @@
 // The lines of a run by what was answered, as bytes in a lent room.
+#![tactic(auto)]
 ghost use Rattle.std.specs.Prelude.{◌≡◌, ◌≤◌, length};
 ghost use Rattle.ran_text.specs.Inner.{whole_of, ran_lines, FewCalls};
 ghost use Rattle.text.specs.Written.{Writes};

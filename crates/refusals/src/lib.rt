@@ -1,8 +1,10 @@
 // The one list of refusals: a case for each number of the rules, holding the block or site for the numbers that carry one.
+#![tactic(auto)]
+
 ghost use Rattle.std.specs.Prelude.{◌≡◌};
 ghost use Rattle.refusals.specs.Refusal.{number, place, code};
 
-#[derive(Drop)]
+#[derive(Clone, Copy)]
 pub enum Refusal {
     // An image, a table in memory or a lone block of a wrong length.
     Length,
@@ -53,7 +55,7 @@ pub enum Refusal {
 }
 
 // The answer of a check that has no value to give.
-#[derive(Drop)]
+#[derive(Clone, Copy)]
 pub enum Check {
     Sound,
     Refused(Refusal),

@@ -1,4 +1,5 @@
 // Each site's line for the register, with what the entry is worth.
+#![tactic(auto)]
 ghost use Rattle.std.specs.Prelude.{cond, ◌++◌, ◌≡◌, ◌+◌, ◌*◌, ◌≤◌, ◌<◌, eqb, length};
 ghost use Rattle.ground.specs.Pieces.{cat};
 ghost use Rattle.lines.specs.Lines.{newline};

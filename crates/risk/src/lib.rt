@@ -1,1 +1,2 @@
 // What is at stake when sites break: how many others one site takes with it, and the fewest faulty sites that leave nobody intact.
+#![tactic(auto)]

@@ -1,11 +1,12 @@
 // The largest quorum inside a set of sites of a checked table, round by round; and where its rounds are not asked for, sweep by sweep.
+#![tactic(auto)]
 ghost use Rattle.std.specs.Prelude.{◌≡◌, ◌<◌};
 ghost use Rattle.masks.specs.Mask.{has};
 ghost use Rattle.sets.specs.Quorum.{largest, rounds};
 ghost use Rattle.sets.specs.Inner.Rows.{Rows, rules_of};
 
 // The set left and the number of rounds that dropped somebody.
-#[derive(Drop)]
+#[derive(Clone, Copy)]
 pub struct SetLeft {
     pub set: u64,
     pub rounds: u64,

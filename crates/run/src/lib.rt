@@ -1,5 +1,6 @@
 // The run of a list of calls, given as bytes: passes from first to last until a pass changes nothing. The table is checked first;
 // the rest is asked of its rows.
+#![tactic(auto)]
 ghost use Rattle.std.specs.Prelude.{◌≡◌, length, ◌≤◌};
 ghost use Rattle.sets.specs.Groups.{lists};
 ghost use Rattle.sets.specs.Inner.Rows.{Rows};
@@ -9,7 +10,7 @@ ghost use Rattle.run.specs.Run.{run_check, ran, state_into, answers_into};
 use refusals::{Check, Refusal};
 
 // The number of passes, or the refusal.
-#[derive(Drop)]
+#[derive(Clone, Copy)]
 pub enum Ran {
     Passes(u64),
     Refused(Refusal),

@@ -1,11 +1,12 @@
 // Two quorums without a common site, of a checked table of at most 12 sites.
+#![tactic(auto)]
 ghost use Rattle.std.specs.Prelude.{◌≡◌, cond, ◌≤◌, eqb};
 ghost use Rattle.verdicts.specs.Verdicts.{beside, first_apart};
 ghost use Rattle.shared_sites.specs.Inner.{beside_first};
 ghost use Rattle.sets.specs.Inner.Rows.{Rows, rules_of};
 
 // Two quorums without a common site.
-#[derive(Drop)]
+#[derive(Clone, Copy)]
 pub struct Pair {
     pub first: u64,
     pub second: u64,

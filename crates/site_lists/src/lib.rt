@@ -1,4 +1,5 @@
 // The list of the smallest slices of each site, from the rows of a table of at most 12 sites.
+#![tactic(auto)]
 ghost use Rattle.std.specs.Prelude.{◌≡◌, ◌++◌, ◌≤◌, length, drop};
 ghost use Rattle.set_words.specs.Inner.{Above};
 ghost use Rattle.sets.specs.Inner.Rows.{Rows};

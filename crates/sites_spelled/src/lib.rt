@@ -1,5 +1,6 @@
 // What is printed behind the seven lines of a verdict, by what the questions answered: its sets by their sites' numbers, and two quorums with no common site
 // where there are such.
+#![tactic(auto)]
 ghost use Rattle.std.specs.Prelude.{◌+◌, ◌≤◌, ◌++◌, length};
 ghost use Rattle.sites_spelled.specs.Spelled.{parted, four_sets, sets_spelled};
 ghost use Rattle.text.specs.Written.{Writes};

@@ -1,4 +1,5 @@
 // Of a family of sets of at most 12 sites, as words, the smallest: those of which no set with one member less is in the family.
+#![tactic(auto)]
 ghost use Rattle.std.specs.Prelude.{◌≡◌, ◌<◌, length};
 ghost use Rattle.set_words.specs.Inner.{Says, in_family};
 ghost use Rattle.smallest_words.specs.Inner.{least_in, Grown, LeastWord};

@@ -1,4 +1,5 @@
 // Number 18: a state that the rules do not explain, as a whole.
+#![tactic(auto)]
 ghost use Rattle.std.specs.Prelude.{◌≡◌, ℕ, not, length};
 ghost use Rattle.ground.specs.Search.{some};
 ghost use Rattle.masks.specs.Mask.{within};

@@ -1,4 +1,5 @@
 // The grammar of a table as text: what is expected, and what each word that is heard there does. The rules are in specs/Grammar.antt.
+#![tactic(auto)]
 ghost use Rattle.std.specs.Prelude.{Bool, ◌≡◌, ltb, ◌+◌, ◌^◌, ◌≤◌, ◌<◌};
 ghost use Rattle.table_grammar.specs.Grammar.{at, own, next_line, expected, missed, onward, first_member, member, many, owner};
 ghost use Rattle.table_grammar.specs.Grammar.{numbered, sited, coloned, barred, line_end, spoken, Sane};
@@ -7,7 +8,7 @@ use refusals::Refusal;
 use table_words::Token;
 
 // Why a text is none: what was expected; or the refusal of a group.
-#[derive(Drop)]
+#[derive(Clone, Copy)]
 pub enum Why {
     Sites,
     Count,
@@ -22,7 +23,7 @@ pub enum Why {
 }
 
 // What is expected next: `sites`, the number of sites, the end of the line, a site's line, its colon, the first site of a group, a further one.
-#[derive(Drop)]
+#[derive(Clone, Copy)]
 pub enum Phase {
     Head,
     Count,
@@ -35,7 +36,7 @@ pub enum Phase {
 }
 
 // The line, counted from 1, the number of sites, the site lines begun, the group so far, and what is expected next.
-#[derive(Drop)]
+#[derive(Clone, Copy)]
 pub struct Spot {
     pub line: u64,
     pub n: u64,

@@ -1,11 +1,12 @@
 // A table from a person's text.
+#![tactic(auto)]
 ghost use Rattle.std.specs.Prelude.{◌++◌, ◌≡◌, ◌≤◌, length, take, drop};
 ghost use Rattle.table_made.specs.Made.{is_whole, answer_of, numbers, made, leaves};
 
 use table_grammar::{Phase, Spot, Why};
 
 // What a text is: a table of so many sites, or none, with the line and what was expected there; or the room lent for the table is too short.
-#[derive(Drop)]
+#[derive(Clone, Copy)]
 pub enum Made {
     Sites(u64),
     Fault(u64, Why),

@@ -1,5 +1,6 @@
 // What the desk does with a table's text: read, have the table made, put it on file, print. Nothing here decides anything of the rules. A file is
 // written by `put_on_file` alone, which is lent the text that was read and the image of its table.
+#![tactic(auto)]
 ghost use Rattle.std.specs.Prelude.{◌≡◌};
 ghost use Rattle.table_made.specs.Made.{made};
 ghost use Rattle.table_shell.specs.Filed.{image_in};

@@ -1,9 +1,10 @@
 // From bytes to words: what is in hand after a byte of a text, the word that ends there, and what the byte says itself. The rules are in specs/Words.antt.
+#![tactic(auto)]
 ghost use Rattle.std.specs.Prelude.{◌≡◌};
 ghost use Rattle.table_words.specs.Words.{counts, spelt, opens, word_on, plain, or_line, sign_of, turn, spelled, whole, ended, said, closing, stopped};
 
 // What is in hand: the beginning of a line, a gap, a number, so many letters of `sites`, a word that is none, the CR of CR LF, a comment.
-#[derive(Drop)]
+#[derive(Clone, Copy)]
 pub enum Begun {
     Fresh,
     Gap,
@@ -15,7 +16,7 @@ pub enum Begun {
 }
 
 // What a byte is: LF, one of a comment, `:`, `|`, CR, a blank or a tab, a part of a word.
-#[derive(Drop)]
+#[derive(Clone, Copy)]
 pub enum Sign {
     Line,
     Note,
@@ -27,7 +28,7 @@ pub enum Sign {
 }
 
 // What the grammar hears.
-#[derive(Drop)]
+#[derive(Clone, Copy)]
 pub enum Token {
     Silence,
     Sites,

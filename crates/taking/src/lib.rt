@@ -1,4 +1,5 @@
 // A call on a sound state: its answer, and whether the state changed.
+#![tactic(auto)]
 ghost use Rattle.std.specs.Prelude.{◌≡◌};
 ghost use Rattle.asking.specs.Inner.{Known};
 ghost use Rattle.refusals.specs.declared.Check as Answer;
@@ -44,7 +45,7 @@ pub fn change(
 }
 
 // The answer of a call, and whether it changed the state.
-#[derive(Drop)]
+#[derive(Clone, Copy)]
 pub struct Worked {
     pub answer: Check,
     pub changed: bool,

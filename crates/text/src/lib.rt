@@ -1,10 +1,11 @@
 // Words, numbers and masks, written one behind the other into a lent room; and a mask that was typed.
+#![tactic(auto)]
 ghost use Rattle.std.specs.Prelude.{◌≡◌, ◌+◌, ◌≤◌, length};
 ghost use Rattle.text.specs.Text.{decimal, mask, worth, typed};
 ghost use Rattle.text.specs.Written.{Writes};
 
 // A mask, or none where what was typed is not 1 to 16 hexadecimal digits.
-#[derive(Drop)]
+#[derive(Clone, Copy)]
 pub enum Typed {
     Mask(u64),
     NoMask,

@@ -1,4 +1,5 @@
 // The grammar of a table of thresholds as text: what is expected, and what a word does there that needs no set. The rules are in specs/Grammar.antt.
+#![tactic(auto)]
 ghost use Rattle.std.specs.Prelude.{◌≡◌, ◌+◌, ◌^◌, ◌≤◌, ◌<◌};
 ghost use Rattle.threshold_grammar.specs.Grammar.{ThresholdSane, doing, spot_at, outside, threshold_own, threshold_next_line, next_member};
 ghost use Rattle.threshold_grammar.specs.Grammar.{threshold_expected, threshold_missed, threshold_onward, threshold_many, threshold_owner};
@@ -7,7 +8,7 @@ ghost use Rattle.threshold_grammar.specs.Grammar.{threshold_sited, linked, thres
 use refusals::Refusal;
 
 // Why a text is none: what was expected; or the refusal of a set.
-#[derive(Drop)]
+#[derive(Clone, Copy)]
 pub enum Why {
     Sites,
     Count,
@@ -24,7 +25,7 @@ pub enum Why {
 }
 
 // What is expected next: `sites`, the number of sites, the end of the line, a site's line, its colon, a set's threshold, its `of`, a member.
-#[derive(Drop)]
+#[derive(Clone, Copy)]
 pub enum Phase {
     Head,
     Count,
@@ -38,7 +39,7 @@ pub enum Phase {
 }
 
 // What a word does to the sets of the line: nothing; the root begins, an inner set begins; the innermost gets its threshold, the sites of a mask.
-#[derive(Drop)]
+#[derive(Clone, Copy)]
 pub enum Deed {
     Nothing,
     Root,
@@ -49,7 +50,7 @@ pub enum Deed {
 
 // The line, counted from 1, the number of sites, the site lines begun; how many sets are open, the place of the innermost, of the one around it and of the
 // one around that; what the last word did to the sets, and what is expected next.
-#[derive(Drop)]
+#[derive(Clone, Copy)]
 pub struct Spot {
     pub line: u64,
     pub n: u64,

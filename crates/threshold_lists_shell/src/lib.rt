@@ -1,5 +1,6 @@
 // What the desk does to write a table of thresholds as lists: read, have it translated, put the table on file, print. Nothing here decides anything of the
 // rules. A file is written by `put_on_file` alone, which is lent the bytes that were read and the image of the lists.
+#![tactic(auto)]
 ghost use Rattle.std.specs.Prelude.{◌≡◌};
 ghost use Rattle.threshold_lists.specs.Translation.{translate};
 ghost use Rattle.threshold_lists_text.specs.ListsText.{lists_image};

@@ -1,4 +1,5 @@
 // What `desk thresholds lists` prints, as bytes in a lent room: that the table is written, or the refusal.
+#![tactic(auto)]
 ghost use Rattle.std.specs.Prelude.{◌≡◌};
 ghost use Rattle.io.specs.Counts.{IsPrefixLen};
 ghost use Rattle.text.specs.Written.{Writes};

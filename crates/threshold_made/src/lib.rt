@@ -1,11 +1,12 @@
 // The image of a table of thresholds from a person's text.
+#![tactic(auto)]
 ghost use Rattle.std.specs.Prelude.{◌++◌, ◌≡◌, ◌*◌, ◌≤◌, length, drop};
 ghost use Rattle.threshold_made.specs.Made.{threshold_is_whole, threshold_answer_of, made_blocks, image_to, threshold_made, threshold_leaves};
 
 use threshold_grammar::{Phase, Spot, Why};
 
 // What a text is: a table of so many sites, or none, with the line and what was expected there; or the room lent for the image is too short.
-#[derive(Drop)]
+#[derive(Clone, Copy)]
 pub enum Made {
     Sites(u64),
     Fault(u64, Why),

@@ -1,5 +1,6 @@
 // What the desk does with the text of a table of thresholds: read, have the image made, put it on file, print. Nothing here decides anything of the rules. A
 // file is written by `put_on_file` alone, which is lent the text that was read and the image that it is; that every such image is sound is proved.
+#![tactic(auto)]
 ghost use Rattle.std.specs.Prelude.{◌≡◌};
 ghost use Rattle.threshold_made.specs.Made.{threshold_made, image_made};
 

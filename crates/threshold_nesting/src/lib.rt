@@ -1,4 +1,5 @@
 // What a word does where a set is open. The rules are in specs/Nesting.antt.
+#![tactic(auto)]
 ghost use Rattle.std.specs.Prelude.{◌≡◌, ◌+◌, ◌^◌, ◌≤◌, ◌<◌};
 ghost use Rattle.threshold_grammar.specs.Grammar.{ThresholdSane};
 ghost use Rattle.threshold_nesting.specs.Nesting.{unreached, threshold_member, set_opened, set_closed, set_completed, threshold_numbered, bracket_opens};
@@ -9,7 +10,7 @@ use threshold_grammar::{Deed, Phase, Spot, Why};
 use threshold_words::Token;
 
 // How many sets the line has so far, and of the innermost its threshold, the number of its inner sets and the mask of its sites.
-#[derive(Drop)]
+#[derive(Clone, Copy)]
 pub struct Held {
     pub sets: u64,
     pub threshold: u64,

@@ -1,5 +1,6 @@
 // What the desk prints of tables of thresholds. Of these standard output is written by `say` alone, which has the text in hand and nothing else; it is called
 // by the functions behind it, and each of these is lent the bytes that were read.
+#![tactic(auto)]
 ghost use Rattle.std.specs.Prelude.{true, false, ◌≡◌};
 ghost use Rattle.judged_text.specs.Judged.{judged_text};
 ghost use Rattle.ran_text.specs.Ran.{ran_text};

@@ -1,4 +1,5 @@
 // A site's sets as a row of 63 numbers: whether the root is met, and the row that a block gives.
+#![tactic(auto)]
 ghost use Rattle.std.specs.Prelude.{cond, ◌++◌, ◌≡◌, ◌<◌, ◌≤◌, leb, length, get_or, drop};
 ghost use Rattle.std.specs.Int.Bits.{bit_and};
 ghost use Rattle.masks.specs.Mask.{size};
@@ -7,7 +8,7 @@ ghost use Rattle.threshold_row.specs.Inner.Row.{pair_in, sets_of, four_at, masks
 ghost use Rattle.threshold_row.specs.Inner.Seen.{Tells};
 
 // How many sets are met, and the place behind them.
-#[derive(Drop)]
+#[derive(Clone, Copy)]
 struct Seen {
     met: u64,
     next: usize,

@@ -1,5 +1,6 @@
 // What `desk thresholds run` and `desk thresholds replay` print, as bytes in a lent room: the run of a list of calls, or of a journal's list, on a table of
 // thresholds.
+#![tactic(auto)]
 ghost use Rattle.std.specs.Prelude.{◌≡◌};
 ghost use Rattle.io.specs.Counts.{IsPrefixLen};
 ghost use Rattle.ran_text.specs.Ran.{ran_text};

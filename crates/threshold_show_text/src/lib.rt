@@ -1,4 +1,5 @@
 // What `desk thresholds show` prints of an image, as bytes in a lent room. Answers the length of what it wrote.
+#![tactic(auto)]
 ghost use Rattle.io.specs.Counts.{IsPrefixLen};
 ghost use Rattle.text.specs.Written.{Writes};
 ghost use Rattle.threshold_show_text.specs.ThresholdsShow.{thresholds_show_text};

@@ -1,4 +1,5 @@
 // A table of thresholds, written as a person writes it.
+#![tactic(auto)]
 ghost use Rattle.std.specs.Prelude.{◌≡◌, ◌+◌, ◌-◌, ◌*◌, ◌/◌, ◌≤◌, ◌<◌, length};
 ghost use Rattle.refusals.specs.declared.Check.TheVariants.{Sound};
 ghost use Rattle.site_block.specs.Block.{count_field};
@@ -9,7 +10,7 @@ ghost use Rattle.threshold_shown.specs.Inner.{Shows};
 ghost use Rattle.threshold_shown.specs.Show.{own_shown, inner_shown, set_shown, sets_line, sets_lines, show_thresholds};
 
 // The place behind a text, and the place behind the sets that it shows.
-#[derive(Drop)]
+#[derive(Clone, Copy)]
 struct Put {
     end: usize,
     next: usize,

@@ -1,1 +1,2 @@
 // What is proved of an image of thresholds that a text makes; no code.
+#![tactic(auto)]

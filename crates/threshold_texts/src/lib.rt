@@ -1,4 +1,5 @@
 // What `desk thresholds check` and `desk thresholds verdict` print, as bytes in a lent room: the check of a table of thresholds, and its verdict.
+#![tactic(auto)]
 ghost use Rattle.io.specs.Counts.{IsPrefixLen};
 ghost use Rattle.judged_text.specs.Judged.{judged_text};
 ghost use Rattle.sets.specs.Groups.{thresholds};

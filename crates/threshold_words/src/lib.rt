@@ -1,11 +1,12 @@
 // From bytes to words: what is in hand after a byte of a text, the word that ends there, and what the byte says itself. The rules are in specs/Words.antt.
+#![tactic(auto)]
 ghost use Rattle.std.specs.Prelude.{◌≡◌};
 ghost use Rattle.threshold_words.specs.Words.{threshold_counts, threshold_spelt, oh, threshold_opens, threshold_word_on, threshold_plain, threshold_or_line};
 ghost use Rattle.threshold_words.specs.Words.{threshold_sign_of, threshold_turn, threshold_spelled, threshold_whole, threshold_ended, threshold_said};
 ghost use Rattle.threshold_words.specs.Words.{threshold_closing, threshold_stopped};
 
 // What is in hand: the beginning of a line, a gap, a number, so many letters of `sites`, `o`, `of`, a word that is none, the CR of CR LF, a comment.
-#[derive(Drop)]
+#[derive(Clone, Copy)]
 pub enum Begun {
     Fresh,
     Gap,
@@ -19,7 +20,7 @@ pub enum Begun {
 }
 
 // What a byte is: LF, one of a comment, `:`, `(`, `)`, CR, a blank or a tab, a part of a word.
-#[derive(Drop)]
+#[derive(Clone, Copy)]
 pub enum Sign {
     Line,
     Note,
@@ -32,7 +33,7 @@ pub enum Sign {
 }
 
 // What the grammar hears.
-#[derive(Drop)]
+#[derive(Clone, Copy)]
 pub enum Token {
     Silence,
     Sites,

@@ -1,5 +1,6 @@
 // The translation of a table of thresholds into a table in memory: each site with the list of its smallest slices. All sites are listed before a number of
 // the room changes.
+#![tactic(auto)]
 ghost use Rattle.std.specs.Prelude.{◌≡◌, length};
 ghost use Rattle.threshold_lists.specs.Translation.{translate, translate_into};
 

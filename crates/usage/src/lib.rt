@@ -1,4 +1,5 @@
 // What the desk can be asked, a line for each call.
+#![tactic(auto)]
 
 // Says it on standard output.
 pub fn usage() {

@@ -1,4 +1,5 @@
 // The public calls of the voting: the soundness of a state, and the step. Of each the table is checked first; the rest is asked of its rows.
+#![tactic(auto)]
 ghost use Rattle.std.specs.Prelude.{◌≡◌};
 ghost use Rattle.sets.specs.Groups.{lists};
 ghost use Rattle.sets.specs.Inner.Rows.{Rows};
@@ -9,7 +10,7 @@ ghost use Rattle.votes.specs.Call.{call};
 use refusals::{Check, Refusal};
 
 // A call was taken, or refused.
-#[derive(Drop)]
+#[derive(Clone, Copy)]
 pub enum Stepped {
     Taken,
     Refused(Refusal),
