@@ -1,5 +1,6 @@
 // What the controllers' firmware calls from C: these two functions and nothing else. The header is include/siren_firmware.h.
 #![tactic(auto)]
+
 ghost use Rattle.std.specs.Prelude.{◌≡◌};
 ghost use Rattle.block.specs.Block.{check};
 ghost use Rattle.mark.specs.Mark.{mark};

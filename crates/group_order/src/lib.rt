@@ -1,5 +1,6 @@
 // A group joins the groups of its site, which stand in ascending order.
 #![tactic(auto)]
+
 ghost use Rattle.std.specs.Prelude.{◌≡◌, cond, ◌++◌, ltb, ◌+◌, ◌≤◌, ◌<◌, length, take, drop};
 ghost use Rattle.rows.specs.Site.{count};
 ghost use Rattle.group_order.specs.Joined.{sift, joined, known};

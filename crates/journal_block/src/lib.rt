@@ -1,5 +1,6 @@
 // One block of a journal, up to 125 calls as 512 bytes: its count of calls, and its check.
 #![tactic(auto)]
+
 ghost use Rattle.std.specs.Prelude.{◌≡◌, ◌≤◌, ◌<◌, length};
 ghost use Rattle.journal_block.specs.Block.{calls_field, miscounted, calls_unfilled, journal_block_check};
 

@@ -1,5 +1,6 @@
 // A list of calls as bytes: records of four byte values, put one behind the other into a room for 4,096 of them.
 #![tactic(auto)]
+
 ghost use Rattle.std.specs.Prelude.{◌≡◌, length};
 ghost use Rattle.packing.specs.Inner.{put_at, pack_to, packable};
 

@@ -1,5 +1,6 @@
 // Of a family of sets as words: those that have no site of a set, and the last below a set.
 #![tactic(auto)]
+
 ghost use Rattle.std.specs.Prelude.{◌≡◌, ◌&&◌, ◌<◌, ◌≤◌, ◌+◌, ◌*◌, eqb, length};
 ghost use Rattle.std.specs.Int.Bits.{bit_and};
 ghost use Rattle.set_words.specs.Inner.{Says, in_family};

@@ -1,5 +1,6 @@
 // Families of sets of at most 12 sites: 64 words, in which the set w * 64 + j is bit j of word w.
 #![tactic(auto)]
+
 ghost use Rattle.std.specs.Prelude.{◌≡◌, ◌<◌, ◌+◌, ◌^◌, length};
 ghost use Rattle.set_words.specs.Inner.{Without, Lacking, Above, FirstSet, LastSet};
 

@@ -1,5 +1,6 @@
 // One block of the table on file, a site's numbers as 512 bytes: checked and read.
 #![tactic(auto)]
+
 ghost use Rattle.std.specs.Prelude.{true, ◌≡◌, ℕ, ◌≤◌, ◌<◌, length};
 ghost use Rattle.site_block.specs.Block.{count_field, slice_field, block_unfilled, load, block_row_check, block_check};
 ghost use Rattle.refusals.specs.First.{first};

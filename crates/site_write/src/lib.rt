@@ -1,5 +1,6 @@
 // One block of the table on file, written from a site's numbers.
 #![tactic(auto)]
+
 ghost use Rattle.std.specs.Prelude.{◌≡◌, ◌++◌, ◌≤◌, ◌<◌, length, take, drop};
 ghost use Rattle.rows.specs.Site.{count};
 ghost use Rattle.site_block.specs.Block.{head, places, store};

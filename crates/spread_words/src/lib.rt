@@ -1,5 +1,6 @@
 // Families of sets as words: the sites 6 to 11 are handed on, so that each word gets what stands in those below it.
 #![tactic(auto)]
+
 ghost use Rattle.std.specs.Prelude.{◌≡◌, ◌<◌, ◌+◌, ◌*◌, length};
 ghost use Rattle.spread_words.specs.Inner.{Spread, joins, Joined, near_place, far_place};
 

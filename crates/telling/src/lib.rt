@@ -1,5 +1,6 @@
 // A refusal, or values without one, as a call says them: the number is answered, and place and values are written to the four numbers of `out`.
 #![tactic(auto)]
+
 ghost use Rattle.std.specs.Prelude.{◌≡◌};
 ghost use Rattle.telling.specs.Telling.{told, given};
 

@@ -1,5 +1,6 @@
 // Words, numbers and masks, written one behind the other into a lent room; and a mask that was typed.
 #![tactic(auto)]
+
 ghost use Rattle.std.specs.Prelude.{◌≡◌, ◌+◌, ◌≤◌, length};
 ghost use Rattle.text.specs.Text.{decimal, mask, worth, typed};
 ghost use Rattle.text.specs.Written.{Writes};

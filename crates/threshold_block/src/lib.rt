@@ -1,5 +1,6 @@
 // One block of a table of thresholds: its check.
 #![tactic(auto)]
+
 ghost use Rattle.std.specs.Prelude.{◌≡◌, ◌-◌, ◌+◌, ◌≤◌, ◌<◌, length, get_or};
 ghost use Rattle.refusals.specs.First.{or_else, refuse, first};
 ghost use Rattle.site_block.specs.Block.{count_field};

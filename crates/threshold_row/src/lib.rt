@@ -1,5 +1,6 @@
 // A site's sets as a row of 63 numbers: whether the root is met, and the row that a block gives.
 #![tactic(auto)]
+
 ghost use Rattle.std.specs.Prelude.{cond, ◌++◌, ◌≡◌, ◌<◌, ◌≤◌, leb, length, get_or, drop};
 ghost use Rattle.std.specs.Int.Bits.{bit_and};
 ghost use Rattle.masks.specs.Mask.{size};

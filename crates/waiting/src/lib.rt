@@ -1,5 +1,6 @@
 // The places of the calls that wait: those refused with 15.
 #![tactic(auto)]
+
 ghost use Rattle.std.specs.Prelude.{◌≡◌, cond, ◌+◌, ◌<◌, ◌≤◌, length, set};
 ghost use Rattle.waiting.specs.Inner.{Listed};
 

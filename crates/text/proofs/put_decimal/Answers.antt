@@ -1,0 +1,11 @@
+-- `put_decimal` meets its contract: the digits that the kit spells are those of the definition.
+use mathlib.Core.Path.{subst}
+use Rattle.text.specs.Written.{Writes}
+use Rattle.text.proofs.Width.{decimal-spelt}
+use Rattle.text.proofs.put_decimal.Goals as goal
+
+pub returns : goal.returns
+returns c =
+    let d = c.decimal-k in subst (λ l. Writes l c.args.room.now c.args.at c.put.result c.put.new.0)
+    (decimal-spelt c.args.x c.decimal-k.result _ c.ranges.x.fits c.decimal-k.ensures.len (?!d.ensures.1.1!))
+    c.put.ensures

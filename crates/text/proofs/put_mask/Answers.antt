@@ -1,0 +1,11 @@
+-- `put_mask` meets its contract: the digits that the kit spells are those of the definition.
+use mathlib.Core.Path.{subst}
+use Rattle.text.specs.Written.{Writes}
+use Rattle.text.proofs.Width.{mask-spelt}
+use Rattle.text.proofs.put_mask.Goals as goal
+
+pub returns : goal.returns
+returns c =
+    let d = c.hex-k in subst (λ l. Writes l c.args.room.now c.args.at c.put.result c.put.new.0)
+    (mask-spelt c.args.m c.hex-k.result _ c.ranges.m.fits c.hex-k.ensures.len (?!d.ensures.1.1!))
+    c.put.ensures
