@@ -2,9 +2,9 @@
  * it on file, the set questions, the step and the run of a vote, and the journal of its calls on file. The two calls of the controllers' firmware are in
  * siren_firmware.h.
  *
- * Every function here is proved to give the answers written here, for every argument. Link target/staticlib/libcapi.a (x86-64), which
- * `rt staticlib capi` writes. The functions keep no memory between calls, use no heap, call nothing outside the archive but memcpy and memset, and always
- * return. They may be called from several threads at once.
+ * Every function here is proved to give the answers written here, for every argument. Link libcapi.a (x86-64): lib/libcapi.a of a release, or
+ * outside/build/libcapi.a, which `outside/archives capi` makes of the crate capi_c. The functions keep no memory between calls, use no heap, call
+ * nothing outside the archive but memcpy and memset, and always return. They may be called from several threads at once.
  *
  * Answer.    Each function answers the number of the refusal, 0 if there is none. docs/LEAFLET.md has each number in plain words.
  * out        points to four numbers, which every call writes whole, whatever they held: out[0] is the place of the refusal (the block or site for the

@@ -1,7 +1,8 @@
 /* What the controllers' firmware calls: the check of one lent block of a table of groups, and the mark of one site.
  *
- * Both functions are proved to give the answers written here, for every argument. Link target/staticlib/libfirmware.a (x86-64), which
- * `rt staticlib firmware` writes. They keep no memory between calls, write none, use no heap and always return.
+ * Both functions are proved to give the answers written here, for every argument. Link libfirmware.a (x86-64): lib/libfirmware.a of a release, or
+ * outside/build/libfirmware.a, which `outside/archives firmware` makes of the crate firmware_c. They keep no memory between calls, write none, use no
+ * heap and always return.
  *
  * Stack, on x86-64, for everything below the call:
  *

@@ -1,5 +1,5 @@
 //! The samples, and what each program is run on when it is built: `write ROOT` makes the files under ROOT. `try ROOT` runs
-//! the programs of ROOT/target/bin on all cases and compares.
+//! the programs, from the folder of ROOT that PROGRAMS names (outside/build/bin), on all cases and compares.
 
 mod cases;
 mod expected;

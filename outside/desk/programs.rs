@@ -185,7 +185,7 @@ fn beside(samples: &[File], name: &str) -> Option<String> {
 pub fn try_all(root: &Path, leaflet: &Leaflet, samples: &[File]) {
     let root = root.canonicalize().expect("the repository");
     // the folder that outside/programs prints
-    let programs = root.join(std::env::var("PROGRAMS").unwrap_or("target/bin".into()));
+    let programs = root.join(std::env::var("PROGRAMS").unwrap_or("outside/build/bin".into()));
     let (desk, verdict) = (programs.join("desk"), programs.join("verdict"));
     let folder = std::env::temp_dir().join(format!("siren-desk-{}", std::process::id()));
     let data = folder.join("data");

@@ -17,8 +17,11 @@ ALLOWED = {
     "intact": ({"verdicts", "questions"}, "the public answer is named like the definition that it gives out"),
 }
 
+# Files of proofs/ that are no laws: what the check itself reads of a function's proof, what is stated over every contract, examples, the list of modules.
+PROOFS = {"Proof.antt", "Invariants.antt", "Answers.antt", "Coincide.antt", "Examples.antt", "Lib.antt"}
+
 DECLARED = re.compile(r"( *)(?:abbrev |unfoldable )?pub (record )?([^\s:(]+)")
-WORD = re.compile(r"[^\s(){};,.⌜⌝\"]+")
+WORD = re.compile(r"[^\s(){};,.\"]+")
 
 found = collections.defaultdict(list)
 
@@ -76,14 +79,17 @@ def contracts(files):
         if path.suffix != ".rt":
             continue
         for i, line in enumerate(lines, 1):
-            m = re.match(r"\s*(requires)\b.*?⌜ (.*) ⌝", line)
+            m = re.match(r"\s*(requires)\b[^{]*\{ (.*?) ?\}?,?$", line)
             if m and facts(m[2]) > 1:
                 report(f"`{m[1]}` lines that hold two facts", path, i, f"{facts(m[2])} facts")
 
 
 def edits():
     rule = "wrong versions that do not apply"
+    listed = {words[0] for words in (re.split(r"[ :#]", line) for line in (TOP / "crates.txt").read_text().splitlines()) if words[0]}
     for path in sorted(TOP.glob("crates/*/must-fail/*.edit")):
+        if path.parent.parent.name not in listed:  # its files stand as texts
+            continue
         text, old, pairs, files = None, "", 0, {}
         for i, line in enumerate(path.read_text().split("\n"), 1):
             if "/*" in line or "*/" in line:
@@ -131,7 +137,7 @@ def laws(files):
             words[path].append(here)
             said.update(here)
     for path, lines in files.items():
-        if path.relative_to(TOP).parts[2] != "proofs" or path.name in ("Proof.antt", "Coincide.antt", "Examples.antt", "Lib.antt"):
+        if path.relative_to(TOP).parts[2] != "proofs" or path.name in PROOFS:
             continue
         for i, indent, name in declarations(lines):
             m = re.match(r" *(?:abbrev )?pub \S+ : *(\S*)", lines[i])
@@ -141,7 +147,7 @@ def laws(files):
             while end < len(lines) and not (len(lines[end]) - len(lines[end].lstrip()) <= indent
                                             and re.match(r"\s*(--|use |module |pub |abbrev |unfoldable |infix|[^\s(){}]+ :)", lines[end])):
                 end += 1
-            for part in [p for p in name.split("_") if p]:
+            for part in [p for p in name.split("◌") if p]:
                 if said[part] == sum(here.count(part) for here in words[path][i:end]):
                     report("public laws that nothing uses", path, i + 1, name)
                     break

@@ -7,7 +7,7 @@ import tempfile
 
 import model
 
-DESK = os.path.join(os.path.abspath(os.environ.get("PROGRAMS", "target/bin")), "desk")
+DESK = os.path.join(os.path.abspath(os.environ.get("PROGRAMS", "outside/build/bin")), "desk")
 SEED = int(os.environ.get("SEED", "20261116"))
 rng = random.Random(SEED)
 count = 0

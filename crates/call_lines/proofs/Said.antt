@@ -1,14 +1,14 @@
 -- Laws of a call's line: one for each way out, and how long it is.
-use Prim.Native.Nat.{ℕ, ◌+◌, ◌≤◌, ◌<◌}
+use Prim.Native.Nat.{ℕ, ◌≤◌, ◌<◌}
 use mathlib.Core.Bool.{true, false}
-use mathlib.Core.List.{List, [], ◌∷◌, ◌++◌, append_assoc}
+use mathlib.Core.List.{List, ◌++◌, append_assoc}
 use mathlib.Core.Logic.{⊎_elim}
 use mathlib.Core.Path.{◌≡◌, refl}
 use native.Mathlib.Omega.{arith}
 use lib.Dec.{eqb}
 use lib.ListN.{length, length-append}
 use borrow.Author.Tests.{lt-ltb, le-ltb, eq-eqb, ne_eqb}
-use Rattle.call_lines.specs.CallLine.{worded, kind_name, side_name, call_words, spaced, said_call}
+use Rattle.call_lines.specs.CallLine.{worded, kind_name, side_name, call_words, said_call}
 use Rattle.ground.proofs.Logic.{cases}
 use Rattle.ground.proofs.Numbers.{same?}
 use Rattle.lines.specs.Lines.{newline, line}

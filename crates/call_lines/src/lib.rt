@@ -1,5 +1,6 @@
 // A call as a line: in words, or as four numbers. Each is written from a place on, and the answer is the place behind it.
 #![tactic(auto)]
+
 ghost use Rattle.std.specs.Prelude.{true, false, ◌≡◌, ◌+◌, ◌≤◌, length, ◌++◌};
 ghost use Rattle.call_lines.specs.CallLine.{worded, side_name, said_call};
 ghost use Rattle.lines.specs.Lines.{newline};

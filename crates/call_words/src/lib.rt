@@ -1,5 +1,6 @@
 // A word of a text, and what the words of a line say of a call.
 #![tactic(auto)]
+
 ghost use Rattle.std.specs.Prelude.{◌≡◌};
 ghost use Rattle.call_words.specs.Grammar.{hear, closed};
 ghost use Rattle.call_words.specs.Word.{lower, figure, spells, meant};

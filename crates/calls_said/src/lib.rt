@@ -1,5 +1,6 @@
 // What is said of a text of calls that was read: how many calls there are, or the line that is wrong and what was expected there.
 #![tactic(auto)]
+
 ghost use Rattle.std.specs.Prelude.{◌+◌, ◌≤◌, length};
 ghost use Rattle.calls_said.specs.Faults.{wanted_there, fault_line, made_lines};
 ghost use Rattle.io.specs.Counts.{IsPrefixLen};

@@ -8,45 +8,45 @@ use calls_text::Made;
 use files::Fetched;
 
 // Puts the list of a text on file, and no other bytes.
-fn put_on_file(text: &[u8], list: &[u8], name: usize) -> bool
+fn put_on_file(rt: &HostRuntime, text: &[u8], list: &[u8], name: usize) -> bool
     requires { list.now ≡ (read_text text.now).bytes }
 {
-    filing::put_new(b"desk calls TEXT CALLS", name, list)
+    filing::put_new(rt, b"desk calls TEXT CALLS", name, list)
 }
 
 // Says what became of a text, by the reader's answer. Of a fault in it nothing is printed.
-fn tell(text: &[u8], made: Made)
+fn tell(rt: &HostRuntime, text: &[u8], made: Made)
     requires { made ≡ (read_text text.now).answer }
 {
     let mut room = [0u8; 512];
     let end = calls_said::made(made, &mut room);
-    call_printing::say_made(text, &room[..end]);
+    call_printing::say_made(rt, text, &room[..end]);
 }
 
 // Says on standard error which line of a text is wrong, and what was expected there. A call too many is a refusal, which is printed.
-fn complain_of(number: u64, what: u8) {
+fn complain_of(rt: &HostRuntime, number: u64, what: u8) {
     if what == 4 {
         return;
     }
     let mut room = [0u8; 512];
     let end = calls_said::put_fault(&mut room, 0, number, what);
-    files::complain(&room[..end]);
+    files::complain(rt, &room[..end]);
 }
 
 // Makes the list of a text, under the name that an argument gives.
-fn make_list(text: &[u8], name: usize) {
+fn make_list(rt: &HostRuntime, text: &[u8], name: usize) {
     let mut list = [0u8; 16384];
     let made = calls_text::make(text, &mut list);
     match made {
         Made::Bytes(n) => {
             let list = &list[..n];
-            if put_on_file(text, list, name) {
-                tell(text, made);
+            if put_on_file(rt, text, list, name) {
+                tell(rt, text, made);
             }
         }
         Made::Fault(number, what) => {
-            complain_of(number, what);
-            tell(text, made);
+            complain_of(rt, number, what);
+            tell(rt, text, made);
         }
     }
 }
@@ -57,14 +57,14 @@ fn empty() -> [u8; 524288] {
 }
 
 // desk calls TEXT CALLS, where TEXT and CALLS are the numbers of arguments
-pub fn calls_of(words: usize, name: usize) {
+pub fn calls_of(rt: &HostRuntime, words: usize, name: usize) {
     let mut text = empty();
-    let whole = files::fetch(b"desk calls TEXT CALLS", words, &mut text);
+    let whole = files::fetch(rt, b"desk calls TEXT CALLS", words, &mut text);
     let Fetched::Bytes(n) = whole else {
         return;
     };
     let text = &text[..n];
-    if filing::is_free(b"desk calls TEXT CALLS", name) {
-        make_list(text, name);
+    if filing::is_free(rt, b"desk calls TEXT CALLS", name) {
+        make_list(rt, text, name);
     }
 }

@@ -1,5 +1,6 @@
 // Calls as text, read: a text of any length, line by line, into a lent room for 4,096 calls.
 #![tactic(auto)]
+
 ghost use Rattle.std.specs.Prelude.{◌≡◌, ◌+◌, ◌%◌, ◌≤◌, length, take, drop};
 ghost use Rattle.calls_text.specs.Inner.{hear_piece, line_at, took_of, took_into};
 ghost use Rattle.calls_text.specs.Pieces.{stops, upto, says};

@@ -6,15 +6,20 @@ mod calls;
 mod journals;
 mod tables;
 
+use std::env::{Env, FillError};
+
+// No call has more than four words behind the program's name: a fifth makes it wrong, and any behind that do not change how.
+const MOST: usize = 6;
+
 // A call in n words, by its first word: one subject after the other. Answers whether there is such a call.
-fn asked(word: &[u8], n: usize) -> bool {
-    if tables::asked(word, n) {
+fn asked(rt: &HostRuntime, word: &[u8], n: usize) -> bool {
+    if tables::asked(rt, word, n) {
         return true;
     }
-    if calls::asked(word, n) {
+    if calls::asked(rt, word, n) {
         return true;
     }
-    journals::asked(word, n)
+    journals::asked(rt, word, n)
 }
 
 // Whether the word asks for the usage.
@@ -26,30 +31,43 @@ fn asks_for_help(word: &[u8]) -> bool {
 }
 
 // What is said of n words that are no call.
-fn wrong(word: &[u8], n: usize) {
+fn wrong(rt: &HostRuntime, word: &[u8], n: usize) {
     if n == 1 {
         if asks_for_help(word) {
-            usage::usage();
+            usage::usage(rt);
             return;
         }
     }
-    if !usage::words(word) {
+    if !usage::words(rt, word) {
         files::complain(
+            rt,
             b"desk: no such call; desk alone, without a word behind it, says which there are\n",
         );
     }
 }
 
-fn main() {
-    let arguments = os::arg_count();
+// How many arguments there are, the program's name among them; or as many as are looked for, where there are more.
+fn argument_count(rt: &HostRuntime) -> usize {
+    let mut word = [0u8; 1];
+    for i in 0..MOST {
+        if let Err(FillError::NotPresent) = rt.arg(i, &mut word) {
+            return i;
+        }
+    }
+    MOST
+}
+
+fn main(rt: HostRuntime) {
+    let rt = &rt;
+    let arguments = argument_count(rt);
     if arguments < 2 {
-        usage::usage();
+        usage::usage(rt);
         return;
     }
     let n = arguments - 1;
     let mut word = io::buffer();
-    let k = os::arg(1, &mut word);
-    if !asked(&word[..k], n) {
-        wrong(&word[..k], n);
+    let k = files::argument(rt, 1, &mut word);
+    if !asked(rt, &word[..k], n) {
+        wrong(rt, &word[..k], n);
     }
 }

@@ -1,5 +1,6 @@
 // The faulty sites as a person types them: a mask, or the sites' numbers behind an s.
 #![tactic(auto)]
+
 ghost use Rattle.std.specs.Prelude.{◌≡◌};
 ghost use Rattle.faulty_sites.specs.Faulty.{digit_after, sites_typed, faulty_typed};
 

@@ -1,10 +1,22 @@
 // The files and masks that a call of a program names, the answer on standard output, and what is said on standard error when a call cannot be
 // answered. Nothing here decides anything of the rules.
 #![tactic(auto)]
+ghost use Rattle.std.specs.Prelude.{◌≡◌, IfOk};
 ghost use Rattle.files.specs.Files.{fetched_bytes};
+ghost use Rattle.io.specs.Counts.{IsPrefixLen};
 
-use libc::{STDERR_FILENO, STDOUT_FILENO};
+use std::env::Env;
+use std::fs::File;
+use std::io::{Cursor, Error, Read, Write};
 use text::Typed;
+
+// errno's numbers: of a name that is too long, and of bytes that are no text.
+const NAME_TOO_LONG: i32 = 36;
+
+const NO_TEXT: i32 = 84;
+
+// errno's number where nothing failed.
+const NO_ERROR: i32 = 0;
 
 // How many bytes a file has, or that it cannot be used, which has then been said.
 #[derive(Clone, Copy)]
@@ -14,39 +26,118 @@ pub enum Fetched {
 }
 
 // Writes the answer. One that did not get out whole is no answer, and that is said.
-pub fn answer(text: &[u8]) {
-    if !io::write_all(STDOUT_FILENO, text) {
-        os::fail(b"the answer could not be written whole");
+pub fn answer(rt: &HostRuntime, text: &[u8]) {
+    if let Err(error) = Print::write_all(&rt.stdout(), text) {
+        fail(rt, b"the answer could not be written whole", error);
     }
 }
 
 // Says what is wrong.
-pub fn complain(words: &[u8]) {
-    io::write_all(STDERR_FILENO, words);
+pub fn complain(rt: &HostRuntime, words: &[u8]) {
+    let _ = Print::write_all(&rt.stderr(), words);
+}
+
+// Where the words of an error end: std writes errno's number behind them.
+fn words_end(text: &[u8]) -> usize
+    ensures { IsPrefixLen result text.now }
+{
+    let mut i = 0;
+    while i < text.len() {
+        if text[i] == 0 {
+            break;
+        }
+        if text[i..].starts_with(b" (os error ") {
+            break;
+        }
+        i += 1;
+    }
+    i
+}
+
+// Says on a line what failed, and why: errno's text.
+pub fn fail(rt: &HostRuntime, what: &[u8], error: Error) {
+    let mut said = Cursor::new([0u8; 256]);
+    let _ = write!(said, "{error}");
+    let said = said.into_inner();
+    let end = words_end(&said);
+    complain(rt, what);
+    complain(rt, b": ");
+    complain(rt, &said[..end]);
+    complain(rt, b"\n");
 }
 
 // Says that a file could not be read, and why: errno's text.
-fn unread(call: &[u8], path: &[u8]) {
-    complain(call);
-    complain(b": cannot read ");
-    os::fail(path);
+fn unread(rt: &HostRuntime, call: &[u8], path: &[u8], error: Error) {
+    complain(rt, call);
+    complain(rt, b": cannot read ");
+    fail(rt, path, error);
 }
 
 // Says of a word what is wrong with it.
-pub fn wrong(call: &[u8], word: &[u8], what: &[u8]) {
-    complain(call);
-    complain(b": ");
-    complain(word);
-    complain(what);
+pub fn wrong(rt: &HostRuntime, call: &[u8], word: &[u8], what: &[u8]) {
+    complain(rt, call);
+    complain(rt, b": ");
+    complain(rt, word);
+    complain(rt, what);
+}
+
+// Puts argument k at the start of the room, and answers its length: 0 where it is missing or longer than the room.
+pub fn argument(rt: &HostRuntime, k: usize, room: &mut [u8]) -> usize
+    ensures { IsPrefixLen result room.new }
+{
+    match rt.arg(k, room) {
+        Ok(n) => n,
+        Err(_) => 0,
+    }
+}
+
+// The name of a file, which is text. To bytes that are none no file is known.
+pub fn name_of(path: &[u8]) -> Result<&str, Error>
+    ensures { IfOk result (λ name. name.now ≡ path.now) }
+{
+    match str::from_utf8(path) {
+        Ok(name) => Ok(name),
+        Err(_) => Err(Error::from_raw_os_error(NO_TEXT)),
+    }
+}
+
+// Opens a file to read it.
+fn open(rt: &HostRuntime, path: &[u8]) -> Result<File, Error> {
+    match name_of(path) {
+        Ok(name) => File::open(rt, name),
+        Err(error) => Err(error),
+    }
+}
+
+// Reads until the room is full, the input ends or a read fails, and answers how many bytes stand at the start of the room then.
+pub fn read_full<R: Read>(from: &mut R, room: &mut [u8]) -> usize
+    ensures { IsPrefixLen result room.new }
+{
+    let mut done = 0;
+    while done < room.len() {
+        match from.read(&mut room[done..]) {
+            Ok(0) => break,
+            Ok(n) => done += n,
+            Err(_) => break,
+        }
+    }
+    done
 }
 
 // Reads an open file to its end. A file that fills the room is longer than any table, list of calls or journal.
-fn read_whole(call: &[u8], path: &[u8], fd: i32, room: &mut [u8]) -> Fetched
+fn read_whole(
+    rt: &HostRuntime,
+    call: &[u8],
+    path: &[u8],
+    file: &mut File,
+    room: &mut [u8],
+) -> Fetched
     ensures { fetched_bytes result room.new }
 {
-    let n = io::read_full(fd, room);
+    let n = read_full(file, room);
     if n == room.len() {
         wrong(
+            rt,
             call,
             path,
             b": too long for a table, a list of calls, a journal or a text\n",
@@ -54,40 +145,46 @@ fn read_whole(call: &[u8], path: &[u8], fd: i32, room: &mut [u8]) -> Fetched
         return Fetched::Unused;
     }
     let mut more = [0u8; 1];
-    if libc::read(fd, &mut more) != 0 {
-        unread(call, path);
-        return Fetched::Unused;
+    match file.read(&mut more) {
+        Ok(0) => Fetched::Bytes(n),
+        Ok(_) => {
+            unread(rt, call, path, Error::from_raw_os_error(NO_ERROR));
+            Fetched::Unused
+        }
+        Err(error) => {
+            unread(rt, call, path, error);
+            Fetched::Unused
+        }
     }
-    Fetched::Bytes(n)
 }
 
 // Reads the file that argument k names into the room.
-pub fn fetch(call: &[u8], k: usize, room: &mut [u8]) -> Fetched
+pub fn fetch(rt: &HostRuntime, call: &[u8], k: usize, room: &mut [u8]) -> Fetched
     ensures { fetched_bytes result room.new }
 {
     let mut path = io::buffer();
-    let p = os::arg(k, &mut path);
-    if os::errno() != 0 {
-        unread(call, b"a file with so long a name");
+    let Ok(p) = rt.arg(k, &mut path) else {
+        let error = Error::from_raw_os_error(NAME_TOO_LONG);
+        unread(rt, call, b"a file with so long a name", error);
         return Fetched::Unused;
+    };
+    match open(rt, &path[..p]) {
+        Ok(mut file) => read_whole(rt, call, &path[..p], &mut file, room),
+        Err(error) => {
+            unread(rt, call, &path[..p], error);
+            Fetched::Unused
+        }
     }
-    let fd = os::open_read(&path[..p]);
-    if fd < 0 {
-        unread(call, &path[..p]);
-        return Fetched::Unused;
-    }
-    let whole = read_whole(call, &path[..p], fd, room);
-    libc::close(fd);
-    whole
 }
 
 // The faulty sites that argument k names.
-pub fn faulty(call: &[u8], k: usize) -> Typed {
+pub fn faulty(rt: &HostRuntime, call: &[u8], k: usize) -> Typed {
     let mut word = io::buffer();
-    let n = os::arg(k, &mut word);
+    let n = argument(rt, k, &mut word);
     let typed = faulty_sites::faulty_typed(&word[..n]);
     if let Typed::NoMask = typed {
         wrong(
+            rt,
             call,
             &word[..n],
             b": FAULTY is 1 to 16 hexadecimal digits, or sites below 64 behind an s, each once, as in s3,12\n",

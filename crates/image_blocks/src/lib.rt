@@ -1,5 +1,6 @@
 // All blocks of the table on file: checked, read and written.
 #![tactic(auto)]
+
 ghost use Rattle.std.specs.Prelude.{◌≡◌, ◌++◌, ◌*◌, ◌≤◌, length, drop};
 ghost use Rattle.image_blocks.specs.Image.{loads, stores, blocks_check};
 ghost use Rattle.table.specs.Table.{sites_check};

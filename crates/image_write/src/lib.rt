@@ -1,5 +1,6 @@
 // The table of groups on file: writing a table in memory as an image.
 #![tactic(auto)]
+
 ghost use Rattle.std.specs.Prelude.{◌≡◌, length};
 ghost use Rattle.image_write.specs.Write.{write, write_into};
 

@@ -1,5 +1,6 @@
 // The journal of calls on file: its check, and its list for a run.
 #![tactic(auto)]
+
 ghost use Rattle.std.specs.Prelude.{◌≡◌, ◌*◌, ◌≤◌, length};
 ghost use Rattle.journal.specs.Journal.{call_count, check, listed, list_into};
 ghost use Rattle.journal_blocks.specs.Journal.{journal_blocks_check, list_of};

@@ -1,19 +1,19 @@
 -- Laws of a journal: what was written is read, what was read is written, and how many calls there are.
-use Prim.Native.Nat.{ℕ, zero, suc, ◌+◌, ◌-◌, ◌*◌, ◌/◌, ◌≤◌, ◌<◌}
-use mathlib.Core.Bool.{true, false, not, cond}
-use mathlib.Core.List.{List, [], ◌++◌}
+use Prim.Native.Nat.{ℕ, zero, suc, ◌+◌, ◌*◌, ◌/◌, ◌≤◌, ◌<◌}
+use mathlib.Core.Bool.{true, false, cond}
+use mathlib.Core.List.{List}
 use mathlib.Core.Logic.{⊎_elim}
-use mathlib.Core.Path.{◌≡◌, refl, sym, ap, ap₂, subst, ◌∙◌}
+use mathlib.Core.Path.{◌≡◌, refl, ap, ap₂, subst, ◌∙◌}
 use native.Mathlib.Nat.{eq-or-lt_of_le}
 use native.Mathlib.Omega.{arith}
 use lib.Dec.{eqb}
-use lib.ListN.{length, get_or, take, drop, length-append, length-drop, length-take}
+use lib.ListN.{length, drop, length-append, length-drop, length-take}
 use lib.Seq.{take_all, length-take-le}
 use borrow.Author.Tests.{eq-eqb, ne_eqb, le-ltb}
 use Rattle.ground.proofs.Pieces.{length-cat, length_part, cat-ext, part-cat, cat-parts}
 use Rattle.ground.specs.Pieces.{cat, part}
 use Rattle.journal_block.proofs.Block.{Right, right, count-few, count-full}
-use Rattle.journal_calls.proofs.Store.{block-long, block-calls, block-sound, calls-long, block_back}
+use Rattle.journal_calls.proofs.Store.{block-long, block-calls, block-sound, block_back}
 use Rattle.journal_block.specs.Block.{calls_field, miscounted, journal_block_check, calls_in, journal_block}
 use Rattle.journal_blocks.proofs.Pieces.{front-le, part-piece}
 use Rattle.journal_blocks.specs.Journal.{blocks_in, journal_blocks_check, list_of, blocks_for, journal_of}

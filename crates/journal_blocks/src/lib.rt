@@ -1,5 +1,6 @@
 // The blocks of a journal, one after the other: checked, read and written.
 #![tactic(auto)]
+
 ghost use Rattle.std.specs.Prelude.{◌≡◌, ◌++◌, ◌*◌, ◌-◌, ◌≤◌, length, drop};
 ghost use Rattle.journal_blocks.specs.Journal.{journal_blocks_check, list_of, blocks_for, journal_of};
 

@@ -1,5 +1,6 @@
 // The calls of one block of a journal: read out of it, and a block written that holds them.
 #![tactic(auto)]
+
 ghost use Rattle.std.specs.Prelude.{◌≡◌, ◌++◌, ◌≤◌, length, take, drop};
 ghost use Rattle.journal_block.specs.Block.{call_bytes, journal_block};
 

@@ -7,29 +7,29 @@ ghost use Rattle.replay_text.specs.Replay.{replay_text};
 ghost use Rattle.journal_printing.specs.SaidOfJournals.{SaidOfJournals};
 
 // Prints a text that some bytes have, and no other.
-fn say(text: &[u8])
+fn say(rt: &HostRuntime, text: &[u8])
     requires { SaidOfJournals text.now }
 {
-    files::answer(text);
+    files::answer(rt, text);
 }
 
 // Prints what is said of a list that was kept.
-pub fn say_kept(list: &[u8], kept: &[u8])
+pub fn say_kept(rt: &HostRuntime, list: &[u8], kept: &[u8])
     requires { kept.now ≡ kept_text list.now }
 {
-    say(kept);
+    say(rt, kept);
 }
 
 // Prints the check of a journal.
-pub fn say_journal(journal: &[u8], check: &[u8])
+pub fn say_journal(rt: &HostRuntime, journal: &[u8], check: &[u8])
     requires { check.now ≡ journal_text journal.now }
 {
-    say(check);
+    say(rt, check);
 }
 
 // Prints the run of a journal's list on an image.
-pub fn say_replay(faulty: u64, image: &[u8], journal: &[u8], run: &[u8])
+pub fn say_replay(rt: &HostRuntime, faulty: u64, image: &[u8], journal: &[u8], run: &[u8])
     requires { run.now ≡ replay_text faulty image.now journal.now }
 {
-    say(run);
+    say(rt, run);
 }

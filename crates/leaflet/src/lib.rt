@@ -1,5 +1,6 @@
 // What each refusal means, in the words of the owners' leaflet, which has them by number.
 #![tactic(auto)]
+
 ghost use Rattle.std.specs.Prelude.{◌≡◌, ◌+◌, ◌≤◌, length};
 ghost use Rattle.text.specs.Text.{ascii};
 ghost use Rattle.text.specs.Written.{Writes};

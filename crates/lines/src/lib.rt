@@ -1,5 +1,6 @@
 // The lines that the programs print, each written from a place on: the answer is the place behind it.
 #![tactic(auto)]
+
 ghost use Rattle.std.specs.Prelude.{cond, ◌+◌, ◌≤◌, length};
 ghost use Rattle.text.specs.Text.{ascii, decimal, mask};
 ghost use Rattle.text.specs.Written.{Writes};

@@ -3,33 +3,33 @@
 use files::Fetched;
 
 // desk list CALLS, where CALLS is an argument's number
-pub fn list_of(calls: usize) {
+pub fn list_of(rt: &HostRuntime, calls: usize) {
     let mut list = io::large_buffer();
-    let whole = files::fetch(b"desk list CALLS", calls, &mut list);
+    let whole = files::fetch(rt, b"desk list CALLS", calls, &mut list);
     let Fetched::Bytes(n) = whole else {
         return;
     };
     let list = &list[..n];
     let mut room = [0u8; 344064];
     let end = calls_listed::list(list, &mut room);
-    call_printing::say_list(list, &room[..end]);
+    call_printing::say_list(rt, list, &room[..end]);
 }
 
 // desk same CALLS CALLS, where both are the numbers of arguments
-pub fn same_of(first: usize, second: usize) {
+pub fn same_of(rt: &HostRuntime, first: usize, second: usize) {
     let mut a = io::large_buffer();
-    let whole = files::fetch(b"desk same CALLS CALLS", first, &mut a);
+    let whole = files::fetch(rt, b"desk same CALLS CALLS", first, &mut a);
     let Fetched::Bytes(n) = whole else {
         return;
     };
     let a = &a[..n];
     let mut b = io::large_buffer();
-    let whole = files::fetch(b"desk same CALLS CALLS", second, &mut b);
+    let whole = files::fetch(rt, b"desk same CALLS CALLS", second, &mut b);
     let Fetched::Bytes(m) = whole else {
         return;
     };
     let b = &b[..m];
     let mut room = [0u8; 752640];
     let end = same_text::same(a, b, &mut room);
-    call_printing::say_same(a, b, &room[..end]);
+    call_printing::say_same(rt, a, b, &room[..end]);
 }

@@ -1,5 +1,6 @@
 // A set as its sites, written by their numbers.
 #![tactic(auto)]
+
 ghost use Rattle.std.specs.Prelude.{◌+◌, ◌≤◌, ◌<◌, length};
 ghost use Rattle.lines.specs.Lines.{line};
 ghost use Rattle.text.specs.Written.{Writes};

@@ -4,24 +4,24 @@ use files::Fetched;
 use text::Typed;
 
 // desk missing TABLE FAULTY CALLS
-pub fn missing_of(table: usize, sites: usize, calls: usize) {
+pub fn missing_of(rt: &HostRuntime, table: usize, sites: usize, calls: usize) {
     let mut image = io::large_buffer();
-    let whole = files::fetch(b"desk missing TABLE FAULTY CALLS", table, &mut image);
+    let whole = files::fetch(rt, b"desk missing TABLE FAULTY CALLS", table, &mut image);
     let Fetched::Bytes(n) = whole else {
         return;
     };
     let image = &image[..n];
-    let typed = files::faulty(b"desk missing TABLE FAULTY CALLS", sites);
+    let typed = files::faulty(rt, b"desk missing TABLE FAULTY CALLS", sites);
     let Typed::Mask(faulty) = typed else {
         return;
     };
     let mut list = io::large_buffer();
-    let whole = files::fetch(b"desk missing TABLE FAULTY CALLS", calls, &mut list);
+    let whole = files::fetch(rt, b"desk missing TABLE FAULTY CALLS", calls, &mut list);
     let Fetched::Bytes(m) = whole else {
         return;
     };
     let list = &list[..m];
     let mut room = [0u8; 196608];
     let end = missing_text::missing(faulty, image, list, &mut room);
-    call_printing::say_missing(faulty, image, list, &room[..end]);
+    call_printing::say_missing(rt, faulty, image, list, &room[..end]);
 }

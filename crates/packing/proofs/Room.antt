@@ -31,9 +31,9 @@ module _ {M : Type 1} {𝓤 : Ura M} (𝓛 : Logic 𝓤) where
 
   -- a call that returns nothing, holds the tokens, and says that the room's last bytes are zs
   pub left_at : (tokens : Item 𝓤) {X : Type 0} (L : X → Fml) (last : X → List ℕ) (β : GName) → ((x : X) → ent 𝓤 (sem 𝓛 (L x)) (LeftAt β (last x))) → (zs : List ℕ) (w : Val) →
-      ent 𝓤 (H.⇛ (ex 𝓤 (λ (r : Unit {0}). sep 𝓤 (sep 𝓤 (mean 𝓛 tokens) (sem 𝓛 (Nothing.own r (w ∷ [])))) (ex 𝓤 (λ (x : X). sep 𝓤 (sem 𝓛 (L x)) (fact 𝓤 (last x ≡ zs)))))))
+      ent 𝓤 (H.⇛ (ex 𝓤 (λ (r : Unit {0}). sep 𝓤 (sep 𝓤 (mean 𝓛 tokens) (sem 𝓛 (Nothing.own_val r (w ∷ [])))) (ex 𝓤 (λ (x : X). sep 𝓤 (sem 𝓛 (L x)) (fact 𝓤 (last x ≡ zs)))))))
       (H.⇛ (guard 𝓤 (w ≡ vunit) (sep 𝓤 (mean 𝓛 tokens) (LeftAt β zs))))
   left_at tokens {X} L last β out zs w =
-      qed 𝓛 (later (some (λ (r : Unit {0}). (tokens ⊛ ‵ (Nothing.own r (w ∷ []))) ⊛ some (λ (x : X). ‵ (L x) ⊛ raw (fact 𝓤 (last x ≡ zs))))) ∷ []) ∵ updating ! $ await ! tt $ pick ! (λ r. split ! $
+      qed 𝓛 (later (some (λ (r : Unit {0}). (tokens ⊛ ‵ (Nothing.own_val r (w ∷ []))) ⊛ some (λ (x : X). ‵ (L x) ⊛ raw (fact 𝓤 (last x ≡ zs))))) ∷ []) ∵ updating ! $ await ! tt $ pick ! (λ r. split ! $
       move ! (1 ∷ []) $ pick ! (λ x. split ! $ move ! (1 ∷ []) $ heard ! (last x ≡ zs) (λ e. use1 𝓛 (‵ (fres β (Bytes.coded.code (last x)))) (out x) $
       rewrite ! 0 (λ (y : List ℕ). ‵ (fres β (Bytes.coded.code y))) e refl $ move ! (1 ∷ []) $ split ! $ move ! (1 ∷ []) $ feq_l ! (λ is. at_once ! $ check ! (ap only is) $ done !))))

@@ -1,5 +1,6 @@
 // The lines of a refusal, each written from a place on: the answer is the place behind it.
 #![tactic(auto)]
+
 ghost use Rattle.std.specs.Prelude.{◌+◌, ◌≤◌, length};
 ghost use Rattle.text.specs.Written.{Writes};
 ghost use Rattle.refusal_lines.specs.Refused.{refused, explained};

@@ -1,5 +1,6 @@
 // Each site's line for the register, with what the entry is worth.
 #![tactic(auto)]
+
 ghost use Rattle.std.specs.Prelude.{cond, ◌++◌, ◌≡◌, ◌+◌, ◌*◌, ◌≤◌, ◌<◌, eqb, length};
 ghost use Rattle.ground.specs.Pieces.{cat};
 ghost use Rattle.lines.specs.Lines.{newline};

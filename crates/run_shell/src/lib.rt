@@ -4,25 +4,25 @@ use files::Fetched;
 use text::Typed;
 
 // desk run TABLE FAULTY CALLS
-pub fn run_of(table: usize, sites: usize, calls: usize) {
+pub fn run_of(rt: &HostRuntime, table: usize, sites: usize, calls: usize) {
     let mut image = io::large_buffer();
-    let whole = files::fetch(b"desk run TABLE FAULTY CALLS", table, &mut image);
+    let whole = files::fetch(rt, b"desk run TABLE FAULTY CALLS", table, &mut image);
     let Fetched::Bytes(n) = whole else {
         return;
     };
     let image = &image[..n];
-    let typed = files::faulty(b"desk run TABLE FAULTY CALLS", sites);
+    let typed = files::faulty(rt, b"desk run TABLE FAULTY CALLS", sites);
     let Typed::Mask(faulty) = typed else {
         return;
     };
     let mut list = io::large_buffer();
-    let whole = files::fetch(b"desk run TABLE FAULTY CALLS", calls, &mut list);
+    let whole = files::fetch(rt, b"desk run TABLE FAULTY CALLS", calls, &mut list);
     let Fetched::Bytes(m) = whole else {
         return;
     };
     let list = &list[..m];
     let mut room = [0u8; run_text::ROOM];
     let end = run_text::run(faulty, image, list, &mut room);
-    call_printing::say_run(faulty, image, list, &room[..end]);
-    doubting::doubt(b"desk run TABLE FAULTY CALLS", image, list, room[0]);
+    call_printing::say_run(rt, faulty, image, list, &room[..end]);
+    doubting::doubt(rt, b"desk run TABLE FAULTY CALLS", image, list, room[0]);
 }

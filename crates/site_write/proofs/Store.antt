@@ -1,10 +1,10 @@
 -- Laws of the functions that write a block, part by part.
-use Prim.Native.Nat.{ℕ, ◌+◌, ◌-◌, ◌*◌, ◌≤◌, ◌<◌}
+use Prim.Native.Nat.{ℕ, ◌+◌, ◌*◌, ◌<◌}
 use mathlib.Core.List.{List, [], ◌++◌, append_assoc, append-nil}
 use mathlib.Core.Path.{◌≡◌, refl, sym, ap, ◌∙◌}
 use native.Mathlib.Omega.{arith}
 use lib.ListN.{length, take, drop, length-append, take-append-drop}
-use lib.Seq.{sets, take_at, drop-length, length-take-le}
+use lib.Seq.{sets, take_at, length-take-le}
 use Rattle.block.proofs.Seal.{length-seal}
 use Rattle.block.specs.Block.{seal}
 use Rattle.ground.proofs.Pieces.{cat-more, length-cat, fill-sets}

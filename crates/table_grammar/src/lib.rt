@@ -1,5 +1,6 @@
 // The grammar of a table as text: what is expected, and what each word that is heard there does. The rules are in specs/Grammar.antt.
 #![tactic(auto)]
+
 ghost use Rattle.std.specs.Prelude.{Bool, ◌≡◌, ltb, ◌+◌, ◌^◌, ◌≤◌, ◌<◌};
 ghost use Rattle.table_grammar.specs.Grammar.{at, own, next_line, expected, missed, onward, first_member, member, many, owner};
 ghost use Rattle.table_grammar.specs.Grammar.{numbered, sited, coloned, barred, line_end, spoken, Sane};

@@ -1,5 +1,6 @@
 // A table from a person's text.
 #![tactic(auto)]
+
 ghost use Rattle.std.specs.Prelude.{◌++◌, ◌≡◌, ◌≤◌, length, take, drop};
 ghost use Rattle.table_made.specs.Made.{is_whole, answer_of, numbers, made, leaves};
 

@@ -12,66 +12,66 @@ ghost use Rattle.verdict_text.specs.Verdict.{verdict_text, input_text};
 ghost use Rattle.table_printing.specs.SaidOfTables.{SaidOfTables};
 
 // Prints a text that some bytes have, and no other.
-fn say(text: &[u8])
+fn say(rt: &HostRuntime, text: &[u8])
     requires { SaidOfTables text.now }
 {
-    files::answer(text);
+    files::answer(rt, text);
 }
 
 // Prints what the verdict program answers to its input.
-pub fn say_input(input: &[u8], answer: &[u8])
+pub fn say_input(rt: &HostRuntime, input: &[u8], answer: &[u8])
     requires { answer.now ≡ input_text input.now }
 {
-    say(answer);
+    say(rt, answer);
 }
 
 // Prints the check of an image.
-pub fn say_check(image: &[u8], check: &[u8])
+pub fn say_check(rt: &HostRuntime, image: &[u8], check: &[u8])
     requires { check.now ≡ check_text image.now }
 {
-    say(check);
+    say(rt, check);
 }
 
 // Prints the verdict on an image.
-pub fn say_verdict(faulty: u64, image: &[u8], verdict: &[u8])
+pub fn say_verdict(rt: &HostRuntime, faulty: u64, image: &[u8], verdict: &[u8])
     requires { verdict.now ≡ verdict_text faulty image.now }
 {
-    say(verdict);
+    say(rt, verdict);
 }
 
 // Prints the sets of the verdict on an image, by their sites' numbers.
-pub fn say_sites(faulty: u64, image: &[u8], sites: &[u8])
+pub fn say_sites(rt: &HostRuntime, faulty: u64, image: &[u8], sites: &[u8])
     requires { sites.now ≡ verdict_sites faulty image.now }
 {
-    say(sites);
+    say(rt, sites);
 }
 
 // Prints what is at stake when sites of an image's table break.
-pub fn say_risk(image: &[u8], risk: &[u8])
+pub fn say_risk(rt: &HostRuntime, image: &[u8], risk: &[u8])
     requires { risk.now ≡ risk_text image.now }
 {
-    say(risk);
+    say(rt, risk);
 }
 
 // Prints what is said of a text that is a table, or that has a group that is refused.
-pub fn say_make(table: &[u8], answer: &[u8])
+pub fn say_make(rt: &HostRuntime, table: &[u8], answer: &[u8])
     requires table_value { is_answer (made table.now 4032) ≡ true }
     requires answer_value { answer.now ≡ make_text table.now }
 {
-    say(answer);
+    say(rt, answer);
 }
 
 // Says on standard error what was expected in a text that is none.
-pub fn blame(table: &[u8], fault: &[u8])
+pub fn blame(rt: &HostRuntime, table: &[u8], fault: &[u8])
     requires table_value { is_answer (made table.now 4032) ≡ false }
     requires fault_value { fault.now ≡ make_text table.now }
 {
-    files::complain(fault);
+    files::complain(rt, fault);
 }
 
 // Prints the table that an image holds, as text.
-pub fn say_show(image: &[u8], shown: &[u8])
+pub fn say_show(rt: &HostRuntime, image: &[u8], shown: &[u8])
     requires { shown.now ≡ show_text image.now }
 {
-    say(shown);
+    say(rt, shown);
 }

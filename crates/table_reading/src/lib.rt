@@ -1,5 +1,6 @@
 // The reading of a text: byte after byte, group after group into 64 times 63 numbers. The rules are in specs/Groups.antt and specs/Reading.antt.
 #![tactic(auto)]
+
 ghost use Rattle.std.specs.Prelude.{◌≡◌, ◌+◌, ◌^◌, ◌≤◌, ◌<◌, length};
 ghost use Rattle.table_grammar.specs.Grammar.{Sane};
 ghost use Rattle.table_reading.specs.Groups.{group_check, completes, closes, spot_after, table_after, judged, kept};

@@ -1,5 +1,6 @@
 // A table of groups, written as a person writes it.
 #![tactic(auto)]
+
 ghost use Rattle.std.specs.Prelude.{◌≡◌, cond, [], ◌+◌, ◌*◌, ◌/◌, ◌≤◌, ◌<◌, eqb, length};
 ghost use Rattle.ground.specs.Pieces.{cat};
 ghost use Rattle.refusals.specs.declared.Check.TheVariants.{Sound};

@@ -1,5 +1,6 @@
 // From bytes to words: what is in hand after a byte of a text, the word that ends there, and what the byte says itself. The rules are in specs/Words.antt.
 #![tactic(auto)]
+
 ghost use Rattle.std.specs.Prelude.{◌≡◌};
 ghost use Rattle.table_words.specs.Words.{counts, spelt, opens, word_on, plain, or_line, sign_of, turn, spelled, whole, ended, said, closing, stopped};
 

@@ -1,6 +1,6 @@
 -- What the programs print, as bytes: words, numbers and masks, and a mask that was typed.
 use Prim.Native.Char.{code}
-use Rattle.std.specs.Prelude.{ℕ, zero, suc, ◌+◌, ◌-◌, ◌*◌, ◌^◌, Bool, ◌&&◌, not, cond, List, [] as nothing, ◌∷◌ as ◌then◌, ltb, length, get_or}
+use Rattle.std.specs.Prelude.{ℕ, zero, suc, ◌+◌, ◌-◌, ◌*◌, ◌^◌, ◌&&◌, not, cond, List, [] as nothing, ◌∷◌ as ◌then◌, ltb, length, get_or}
 use Prim.Native.String.{String, [], ◌∷◌}
 use Rattle.ground.specs.Search.{least, every}
 use Rattle.io.specs.Digits.{last_digits}

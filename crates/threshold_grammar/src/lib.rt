@@ -1,5 +1,6 @@
 // The grammar of a table of thresholds as text: what is expected, and what a word does there that needs no set. The rules are in specs/Grammar.antt.
 #![tactic(auto)]
+
 ghost use Rattle.std.specs.Prelude.{◌≡◌, ◌+◌, ◌^◌, ◌≤◌, ◌<◌};
 ghost use Rattle.threshold_grammar.specs.Grammar.{ThresholdSane, doing, spot_at, outside, threshold_own, threshold_next_line, next_member};
 ghost use Rattle.threshold_grammar.specs.Grammar.{threshold_expected, threshold_missed, threshold_onward, threshold_many, threshold_owner};

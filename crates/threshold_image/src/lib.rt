@@ -1,5 +1,6 @@
 // All blocks of a table of thresholds: checked, and read as rows.
 #![tactic(auto)]
+
 ghost use Rattle.std.specs.Prelude.{◌≡◌, ◌++◌, ◌*◌, ◌≤◌, length, drop};
 ghost use Rattle.threshold_image.specs.Image.{threshold_blocks_check, thresholds_check};
 ghost use Rattle.threshold_image.specs.Inner.{rows_of};

@@ -1,5 +1,6 @@
 // The image of a table of thresholds from a person's text.
 #![tactic(auto)]
+
 ghost use Rattle.std.specs.Prelude.{◌++◌, ◌≡◌, ◌*◌, ◌≤◌, length, drop};
 ghost use Rattle.threshold_made.specs.Made.{threshold_is_whole, threshold_answer_of, made_blocks, image_to, threshold_made, threshold_leaves};
 

@@ -1,5 +1,6 @@
 // What a word does where a set is open. The rules are in specs/Nesting.antt.
 #![tactic(auto)]
+
 ghost use Rattle.std.specs.Prelude.{◌≡◌, ◌+◌, ◌^◌, ◌≤◌, ◌<◌};
 ghost use Rattle.threshold_grammar.specs.Grammar.{ThresholdSane};
 ghost use Rattle.threshold_nesting.specs.Nesting.{unreached, threshold_member, set_opened, set_closed, set_completed, threshold_numbered, bracket_opens};

@@ -1,5 +1,5 @@
 -- The code's steps are those of the definition.
-use Prim.Native.Nat.{ℕ, zero, suc, ◌+◌, ◌-◌, ◌*◌, ◌≤◌, ◌<◌}
+use Prim.Native.Nat.{ℕ, zero, suc, ◌+◌, ◌*◌, ◌≤◌, ◌<◌}
 use mathlib.Core.Bool.{Bool, true, false, cond}
 use mathlib.Core.List.{List, [], ◌∷◌}
 use mathlib.Core.Logic.{⊎_elim}
@@ -24,7 +24,7 @@ use Rattle.threshold_grammar.specs.Grammar.{ThresholdSane, threshold_own}
 use Rattle.threshold_grammar.specs.declared.Deed.{Deed}
 use Rattle.threshold_grammar.specs.declared.Deed.TheVariants.{Nothing, Root, Inner, Least, Site}
 use Rattle.threshold_grammar.specs.declared.Spot.{Spot}
-use Rattle.threshold_nesting.proofs.Saneness.{After, begins, ends, opens, told-after}
+use Rattle.threshold_nesting.proofs.Saneness.{begins, ends, opens, told-after}
 use Rattle.threshold_nesting.specs.Nesting.{threshold_spoken}
 use Rattle.threshold_nesting.specs.declared.Held.{Held}
 use Rattle.threshold_reading.specs.Inner.{Few}

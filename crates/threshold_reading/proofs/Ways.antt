@@ -1,7 +1,7 @@
 -- The sets that a word leaves: one law for each way.
 use Prim.Native.Nat.{ℕ, ◌+◌, ◌*◌}
 use mathlib.Core.List.{List}
-use mathlib.Core.Path.{◌≡◌, refl, sym, ap, ◌∙◌}
+use mathlib.Core.Path.{◌≡◌, sym, ap, ◌∙◌}
 use lib.Bits.{bit_or}
 use lib.ListN.{get_or, set}
 use Rattle.threshold_grammar.specs.Grammar.{threshold_own}

@@ -1,5 +1,6 @@
 // The reading of a text: byte after byte, set after set into 64 times 148 numbers. The rules are in specs/Lines.antt and specs/Reading.antt.
 #![tactic(auto)]
+
 ghost use Rattle.std.specs.Prelude.{◌≡◌, ◌+◌, ◌^◌, ◌≤◌, ◌<◌, length, get_or, set, replicate};
 ghost use Rattle.std.specs.Int.Bits.{bit_or};
 ghost use Rattle.threshold_grammar.specs.Grammar.{ThresholdSane};

@@ -1,5 +1,6 @@
 // From bytes to words: what is in hand after a byte of a text, the word that ends there, and what the byte says itself. The rules are in specs/Words.antt.
 #![tactic(auto)]
+
 ghost use Rattle.std.specs.Prelude.{◌≡◌};
 ghost use Rattle.threshold_words.specs.Words.{threshold_counts, threshold_spelt, oh, threshold_opens, threshold_word_on, threshold_plain, threshold_or_line};
 ghost use Rattle.threshold_words.specs.Words.{threshold_sign_of, threshold_turn, threshold_spelled, threshold_whole, threshold_ended, threshold_said};

@@ -2,8 +2,9 @@
 #![tactic(auto)]
 
 // Says it on standard output.
-pub fn usage() {
+pub fn usage(rt: &HostRuntime) {
     files::answer(
+        rt,
         b"desk make TEXT TABLE                makes a table, as a new file, of a text in which a person wrote it
 desk show TABLE                     the table as such a text
 desk check TABLE                    is the table sound?
@@ -24,79 +25,79 @@ or 1 to 16 hexadecimal digits, bit v for site v, 0 for nobody
 }
 
 // The words behind a call's word, of a call on tables, where the word is one.
-fn table_words(word: &[u8]) -> bool {
+fn table_words(rt: &HostRuntime, word: &[u8]) -> bool {
     if check::same(word, b"make") {
-        files::complain(b"desk make TEXT TABLE: these are the words of the call\n");
+        files::complain(rt, b"desk make TEXT TABLE: these are the words of the call\n");
         return true;
     }
     if check::same(word, b"show") {
-        files::complain(b"desk show TABLE: these are the words of the call\n");
+        files::complain(rt, b"desk show TABLE: these are the words of the call\n");
         return true;
     }
     if check::same(word, b"check") {
-        files::complain(b"desk check TABLE: these are the words of the call\n");
+        files::complain(rt, b"desk check TABLE: these are the words of the call\n");
         return true;
     }
     if check::same(word, b"verdict") {
-        files::complain(b"desk verdict TABLE FAULTY: these are the words of the call\n");
+        files::complain(rt, b"desk verdict TABLE FAULTY: these are the words of the call\n");
         return true;
     }
     if check::same(word, b"risk") {
-        files::complain(b"desk risk TABLE: these are the words of the call\n");
+        files::complain(rt, b"desk risk TABLE: these are the words of the call\n");
         return true;
     }
     false
 }
 
 // The same of a call on lists of calls.
-fn call_words(word: &[u8]) -> bool {
+fn call_words(rt: &HostRuntime, word: &[u8]) -> bool {
     if check::same(word, b"calls") {
-        files::complain(b"desk calls TEXT CALLS: these are the words of the call\n");
+        files::complain(rt, b"desk calls TEXT CALLS: these are the words of the call\n");
         return true;
     }
     if check::same(word, b"list") {
-        files::complain(b"desk list CALLS: these are the words of the call\n");
+        files::complain(rt, b"desk list CALLS: these are the words of the call\n");
         return true;
     }
     if check::same(word, b"same") {
-        files::complain(b"desk same CALLS CALLS: these are the words of the call\n");
+        files::complain(rt, b"desk same CALLS CALLS: these are the words of the call\n");
         return true;
     }
     if check::same(word, b"run") {
-        files::complain(b"desk run TABLE FAULTY CALLS: these are the words of the call\n");
+        files::complain(rt, b"desk run TABLE FAULTY CALLS: these are the words of the call\n");
         return true;
     }
     if check::same(word, b"missing") {
-        files::complain(b"desk missing TABLE FAULTY CALLS: these are the words of the call\n");
+        files::complain(rt, b"desk missing TABLE FAULTY CALLS: these are the words of the call\n");
         return true;
     }
     false
 }
 
 // The same of a call on journals.
-fn journal_words(word: &[u8]) -> bool {
+fn journal_words(rt: &HostRuntime, word: &[u8]) -> bool {
     if check::same(word, b"keep") {
-        files::complain(b"desk keep CALLS JOURNAL: these are the words of the call\n");
+        files::complain(rt, b"desk keep CALLS JOURNAL: these are the words of the call\n");
         return true;
     }
     if check::same(word, b"journal") {
-        files::complain(b"desk journal JOURNAL: these are the words of the call\n");
+        files::complain(rt, b"desk journal JOURNAL: these are the words of the call\n");
         return true;
     }
     if check::same(word, b"replay") {
-        files::complain(b"desk replay TABLE FAULTY JOURNAL: these are the words of the call\n");
+        files::complain(rt, b"desk replay TABLE FAULTY JOURNAL: these are the words of the call\n");
         return true;
     }
     false
 }
 
 // Says on standard error which words a call takes that has this word, and too few or too many behind it. Answers whether there is such a call.
-pub fn words(word: &[u8]) -> bool {
-    if table_words(word) {
+pub fn words(rt: &HostRuntime, word: &[u8]) -> bool {
+    if table_words(rt, word) {
         return true;
     }
-    if call_words(word) {
+    if call_words(rt, word) {
         return true;
     }
-    journal_words(word)
+    journal_words(rt, word)
 }

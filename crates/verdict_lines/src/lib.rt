@@ -1,5 +1,6 @@
 // The seven lines of a verdict, written into a lent room.
 #![tactic(auto)]
+
 ghost use Rattle.std.specs.Prelude.{◌≤◌, length};
 ghost use Rattle.text.specs.Written.{Writes};
 ghost use Rattle.verdict_lines.specs.Verdict.{seven_lines};

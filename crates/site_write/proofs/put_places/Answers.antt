@@ -1,5 +1,4 @@
 -- `put_places` meets its contract: after k turns the first k places stand behind byte 7.
-use Prim.Native.Nat.{◌-◌}
 use mathlib.Core.Path.{◌≡◌, ◌∙◌}
 use native.Mathlib.Omega.{arith}
 use Rattle.site_write.proofs.Store.{places-holds, places-again}
@@ -13,7 +12,7 @@ pub loop-j-preserved : goal.loop-j-preserved
 loop-j-preserved c =
     let l = c.loop-j in (
       omega arith,
-      c.put64.auto.0 ∙ c.loop-j.invariant.1,
+      c.put64.auto.b ∙ c.loop-j.invariant.1,
       c.put64.ensures
           ∙ places-again c.loop-j.b c.args.b.now c.args.m.now c.loop-j.j c.requires.b_len c.loop-j-test.true c.loop-j.invariant.2,
     )

@@ -8,7 +8,7 @@ use Rattle.site_write.proofs.put_places.Given as goal
 
 abbrev pub invariant-loop-j : goal.invariant-loop-j
 invariant-loop-j l =
-    (l.j ≤ 62) × (length l.b ≡ 512) × (l.b ≡ (take 8 l.m ++ places l.initial.b l.j) ++ drop (8 + 8 * l.j) l.m)
+    (l.j ≤ 62) × (length l.b ≡ 512) × (l.b ≡ (take 8 l.initial.b ++ places l.m l.j) ++ drop (8 + 8 * l.j) l.initial.b)
 
 abbrev pub decreases-loop-j : goal.decreases-loop-j
 decreases-loop-j l =

@@ -6,5 +6,5 @@ use Rattle.site_write.proofs.store_block.Goals as goal
 pub returns : goal.returns
 returns c =
     let h = c.put_head in c.put_sums.ensures
-    ∙ store-puts c.args.b.now c.args.m.now c.args.n c.args.i _ _ (c.put_head.auto.0 ∙ c.requires.b_len) c.put_head.ensures
+    ∙ store-puts c.args.b.now c.args.m.now c.args.n c.args.i _ _ (c.put_head.auto.b ∙ c.requires.b_len) c.put_head.ensures
     c.put_places.ensures

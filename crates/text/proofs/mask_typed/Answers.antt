@@ -1,12 +1,14 @@
 -- `mask_typed` meets its contract: after i turns the first i bytes are digits, and the number is theirs.
-use Prim.Native.Nat.{◌+◌, ◌-◌}
+use Prim.Native.Nat.{ℕ, ◌+◌, ◌*◌, ◌^◌, ◌≤◌, ◌<◌}
 use mathlib.Core.Bool.{true}
+use mathlib.Core.List.{List}
 use mathlib.Core.Path.{◌≡◌, sym, ap, ◌∙◌}
 use native.Mathlib.Omega.{arith}
 use lib.ListN.{length, get_or}
 use borrow.Author.Tests.{lt-ltb}
+use Rattle.ground.specs.Search.{every}
 use Rattle.ground.proofs.Every.{every-none, every_more}
-use Rattle.text.specs.Text.{worth}
+use Rattle.text.specs.Text.{worth, value}
 use Rattle.text.specs.declared.Typed.TheVariants.{Mask}
 use Rattle.text.proofs.Digits.{digit, value_none, value-more, value-fits, too_few, too_many, no_digit, all_digits}
 use Rattle.text.proofs.mask_typed.Goals as goal
@@ -29,13 +31,21 @@ returns-then-d-ge16 c =
     (no_digit c.args.word.now c.loop-i.i (omega arith) (omega arith) c.loop-i-test.true
     (rw c.worth-d.ensures at c.if-d-ge16.true))
 
+-- the digit is one of the mask's, and the mask with it is a 64-bit number
+fits : (w : List ℕ) (i m r : ℕ) → i < length w → length w ≤ 16 → m ≡ value w i → every i (digit w) ≡ true → r ≡ worth (get_or w i 0) → r < 16
+    → 16 * m + r < 2 ^ 64
+fits w i m r l n e d v h =
+    rw (e, v, ← value-more w i) (value-fits w (i + 1) (omega arith) (every_more i (digit w) d (lt-ltb (worth (get_or w i 0)) 16 (rw v at h))))
+
 pub overflow_mul-m : goal.overflow_mul-m
-overflow_mul-m c =
-    record { fits = omega (arith, (add-m c).ranges) }
+overflow_mul-m c = record {
+  fits = omega (arith, fits c.args.word.now c.loop-i.i c.loop-i.m c.worth-d.result c.loop-i-test.true (omega arith) c.loop-i.invariant.1 c.loop-i.invariant.2 c.worth-d.ensures c.if-d-ge16.false);
+}
 
 pub overflow_add-m : goal.overflow_add-m
-overflow_add-m c =
-    let i = c.loop-i.i in let w = c.args.word.now in record { fits = omega (arith, (loop-again c).1, value-fits w (i + 1) (omega arith) (loop-again c).2) }
+overflow_add-m c = record {
+  fits = fits c.args.word.now c.loop-i.i c.loop-i.m c.worth-d.result (omega arith) (omega arith) c.loop-i.invariant.1 c.loop-i.invariant.2 c.worth-d.ensures c.if-d-ge16.false;
+}
 
 pub loop-i-preserved : goal.loop-i-preserved
 loop-i-preserved c =

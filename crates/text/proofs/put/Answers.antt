@@ -1,5 +1,4 @@
 -- `put` meets its contract: after i turns the first i bytes stand in the room.
-use Prim.Native.Nat.{◌-◌}
 use mathlib.Core.Path.{◌≡◌, refl, ◌∙◌}
 use native.Mathlib.Omega.{arith}
 use lib.ListN.{length, length-set}

@@ -6,6 +6,6 @@ use Rattle.text.proofs.put_decimal.Goals as goal
 
 pub returns : goal.returns
 returns c =
-    let d = c.decimal-k in subst (λ l. Writes l c.args.room.now c.args.at c.put.result c.put.new.0)
-    (decimal-spelt c.args.x c.decimal-k.result _ c.ranges.x.fits c.decimal-k.ensures.len (?!d.ensures.1.1!))
+    subst (λ l. Writes l c.args.room.now c.args.at c.put.result c.put.new.room)
+    (decimal-spelt c.args.x c.decimal-k.result _ c.ranges.x.fits c.decimal-k.ensures.len c.decimal-k.ensures.digits)
     c.put.ensures

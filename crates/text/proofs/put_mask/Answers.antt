@@ -6,6 +6,6 @@ use Rattle.text.proofs.put_mask.Goals as goal
 
 pub returns : goal.returns
 returns c =
-    let d = c.hex-k in subst (λ l. Writes l c.args.room.now c.args.at c.put.result c.put.new.0)
-    (mask-spelt c.args.m c.hex-k.result _ c.ranges.m.fits c.hex-k.ensures.len (?!d.ensures.1.1!))
+    subst (λ l. Writes l c.args.room.now c.args.at c.put.result c.put.new.room)
+    (mask-spelt c.args.m c.hex-k.result _ c.ranges.m.fits c.hex-k.ensures.len c.hex-k.ensures.digits)
     c.put.ensures

@@ -8,7 +8,7 @@ use Rattle.threshold_row.proofs.load_row.Goals as goal
 
 pub loop-k-init : goal.loop-k-init
 loop-k-init c =
-    let a = c.args in let loaded = c.load_masks in (omega arith, c.load_masks.auto.1.0 ∙ c.requires.m_len, c.load_masks.auto.1.0 ∙ c.requires.m_len, pairs-hold a.b.now _ a.m.now c.load_masks.ensures)
+    let a = c.args in let loaded = c.load_masks in (omega arith, c.load_masks.auto.m ∙ c.requires.m_len, c.load_masks.auto.m ∙ c.requires.m_len, pairs-hold a.b.now _ a.m.now c.load_masks.ensures)
 
 pub loop-k-preserved : goal.loop-k-preserved
 loop-k-preserved c =

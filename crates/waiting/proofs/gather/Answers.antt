@@ -13,5 +13,5 @@ loop-i-preserved c =
       listed-turn b c.loop-i.invariant.0 (omega (arith, c.loop-i.invariant.1, c.loop-i.invariant.3, p.answers_in_bounds, h)) refl c.keep-count.ensures.many c.keep-count.ensures.memory,
       kept-few b c.keep-count.ensures.many c.loop-i.invariant.1,
       omega (arith, h),
-      c.keep-count.auto.0 ∙ c.loop-i.invariant.3,
+      c.keep-count.auto.waiting ∙ c.loop-i.invariant.3,
     )

@@ -1,0 +1,16 @@
+-- `check_blocks` meets its contract: the blocks before the place are sound, and a refusal is the first.
+use Prim.Native.Nat.{◌-◌, ◌≤◌}
+use mathlib.Core.Path.{◌≡◌}
+use Rattle.refusals.specs.declared.Check.TheVariants.{Sound}
+use Rattle.ground.specs.Pieces.{part}
+use Rattle.site_block.specs.Block.{block_check}
+use Rattle.refusals.specs.First.{first}
+use Rattle.image_blocks.proofs.check_blocks.Given as goal
+
+abbrev pub invariant-loop-place : goal.invariant-loop-place
+invariant-loop-place l =
+    (l.place ≤ l.n) × (first (λ j. block_check l.n j j (part 512 j l.image)) l.place ≡ Sound)
+
+abbrev pub decreases-loop-place : goal.decreases-loop-place
+decreases-loop-place l =
+    l.n - l.place

@@ -1,0 +1,41 @@
+-- One case an arm.
+use mathlib.Core.Path.{sym, ap, ◌∙◌}
+use Rattle.threshold_nesting.specs.Nesting.{threshold_numbered}
+use Rattle.threshold_grammar.specs.declared.Phase.{Phase}
+use Rattle.threshold_nesting.proofs.numbered.Goals as goal
+
+pub returns-in-Head : goal.returns-in-Head
+returns-in-Head c =
+    c.missed.ensures ∙ sym (ap (λ (z : Phase). threshold_numbered z c.args.s c.args.h c.args.x) c.in-Head.is)
+
+pub returns-in-Count : goal.returns-in-Count
+returns-in-Count c =
+    c.many.ensures ∙ sym (ap (λ (z : Phase). threshold_numbered z c.args.s c.args.h c.args.x) c.in-Count.is)
+
+pub returns-in-Tail : goal.returns-in-Tail
+returns-in-Tail c =
+    c.missed-in-Tail.ensures ∙ sym (ap (λ (z : Phase). threshold_numbered z c.args.s c.args.h c.args.x) c.in-Tail.is)
+
+pub returns-in-Owner : goal.returns-in-Owner
+returns-in-Owner c =
+    c.owner.ensures ∙ sym (ap (λ (z : Phase). threshold_numbered z c.args.s c.args.h c.args.x) c.in-Owner.is)
+
+pub returns-in-Mark : goal.returns-in-Mark
+returns-in-Mark c =
+    c.missed-in-Mark.ensures ∙ sym (ap (λ (z : Phase). threshold_numbered z c.args.s c.args.h c.args.x) c.in-Mark.is)
+
+pub returns-in-Threshold : goal.returns-in-Threshold
+returns-in-Threshold c =
+    c.doing.ensures ∙ sym (ap (λ (z : Phase). threshold_numbered z c.args.s c.args.h c.args.x) c.in-Threshold.is)
+
+pub returns-in-Of : goal.returns-in-Of
+returns-in-Of c =
+    c.missed-in-Of.ensures ∙ sym (ap (λ (z : Phase). threshold_numbered z c.args.s c.args.h c.args.x) c.in-Of.is)
+
+pub returns-in-Members : goal.returns-in-Members
+returns-in-Members c =
+    c.member.ensures ∙ sym (ap (λ (z : Phase). threshold_numbered z c.args.s c.args.h c.args.x) c.in-Members.is)
+
+pub returns-in-Wrong : goal.returns-in-Wrong
+returns-in-Wrong c =
+    c.missed-in-Wrong.ensures ∙ sym (ap (λ (z : Phase). threshold_numbered z c.args.s c.args.h c.args.x) c.in-Wrong.is)
