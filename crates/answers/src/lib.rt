@@ -1,5 +1,6 @@
 // The answer of a call: 11, 13, 12, 14, 15, or taken.
 #![tactic(auto)]
+
 ghost use Rattle.std.specs.Prelude.{◌≡◌, cond, ◌<◌, ◌≤◌, eqb, length};
 ghost use Rattle.masks.specs.Mask.{has};
 ghost use Rattle.rules.specs.State.{voted, accepted, width, get};

@@ -1,6 +1,7 @@
 // Two quorums without a common site, searched for in 64 sets at a time. With a set b: of the table with the sites of b deleted, whose quorums are looked for
 // together with b.
 #![tactic(auto)]
+
 ghost use Rattle.std.specs.Prelude.{◌≡◌, ◌&&◌, not, ◌<◌, ◌≤◌, ◌^◌, eqb, length};
 ghost use Rattle.masks.specs.Mask.{within};
 ghost use Rattle.sets.specs.Inner.Rows.{Rows, rules_of};

@@ -1,15 +1,13 @@
 -- Laws of what is said of a text: one for each way out, and how long it is.
-use Prim.Native.Nat.{ℕ, ◌≤◌, ◌/◌}
-use mathlib.Core.Bool.{true, false}
-use mathlib.Core.List.{List, [], ◌++◌}
+use Prim.Native.Nat.{ℕ, ◌≤◌}
+use mathlib.Core.List.{[], ◌++◌}
 use mathlib.Core.Logic.{⊎_elim}
-use mathlib.Core.Path.{◌≡◌, refl, ap, sym, ◌∙◌}
+use mathlib.Core.Path.{◌≡◌, refl}
 use native.Mathlib.Omega.{arith}
-use lib.Dec.{eqb}
 use lib.ListN.{length}
 use borrow.Author.Tests.{eq-eqb, ne_eqb}
 use Rattle.calls_said.specs.Faults.{wanted_there, fault_line, made_lines}
-use Rattle.calls_text.specs.declared.Made.TheVariants.{Bytes, Fault}
+use Rattle.calls_text.specs.declared.Made.TheVariants.{Fault}
 use Rattle.ground.proofs.Numbers.{same?}
 use Rattle.leaflet.proofs.Lengths.{length-meaning}
 use Rattle.leaflet.specs.Leaflet.{meaning}

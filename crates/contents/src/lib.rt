@@ -1,6 +1,7 @@
 // Of each of 12 sites the sets that do not contain it or have a slice of it inside, as words, kept for all: from them the sets in which each member outside a
 // set has a slice.
 #![tactic(auto)]
+
 ghost use Rattle.std.specs.Prelude.{◌≡◌, ◌&&◌, ◌<◌, ◌≤◌, ◌+◌, length};
 ghost use Rattle.sets.specs.Inner.Rows.{Rows, rules_of};
 ghost use Rattle.set_words.specs.Inner.{Says, Above, in_family};

@@ -1,5 +1,6 @@
 // Which sets of the first six sites are quorums, without a list of all sets: one word has a bit for each of these 64 sets.
 #![tactic(auto)]
+
 ghost use Rattle.std.specs.Prelude.{◌≡◌, ◌<◌, ◌*◌, length};
 ghost use Rattle.ground.specs.Search.{least};
 ghost use Rattle.sets.specs.Quorum.{quorum};

@@ -1,7 +1,9 @@
 // The files and masks that a call of a program names, the answer on standard output, and what is said on standard error when a call cannot be
 // answered. Nothing here decides anything of the rules.
 #![tactic(auto)]
-ghost use Rattle.std.specs.Prelude.{◌≡◌, IfOk};
+
+ghost use Rattle.std.specs.Prelude.{◌≡◌, take, IfOk};
+ghost use Rattle.std.specs.Io.KnownBytes.{Consumes};
 ghost use Rattle.files.specs.Files.{fetched_bytes};
 ghost use Rattle.io.specs.Counts.{IsPrefixLen};
 
@@ -109,9 +111,10 @@ fn open(rt: &HostRuntime, path: &[u8]) -> Result<File, Error> {
     }
 }
 
-// Reads until the room is full, the input ends or a read fails, and answers how many bytes stand at the start of the room then.
+// Reads until the room is full, the input ends or a read fails, and answers how many bytes stand at the start of the room then: those that were read.
 pub fn read_full<R: Read>(from: &mut R, room: &mut [u8]) -> usize
-    ensures { IsPrefixLen result room.new }
+    ensures count { IsPrefixLen result room.new }
+    ensures bytes { Consumes (R.remaining from.old) (R.remaining from.new) (take result room.new) }
 {
     let mut done = 0;
     while done < room.len() {

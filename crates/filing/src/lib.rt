@@ -1,5 +1,6 @@
 // A new file under the name that an argument gives: whole, or not at all. Nothing here decides anything of the rules.
 #![tactic(auto)]
+
 ghost use Rattle.std.specs.Prelude.{◌≤◌, length};
 
 use std::fs;
@@ -40,7 +41,10 @@ pub fn is_free(rt: &HostRuntime, call: &[u8], k: usize) -> bool {
 // Makes an empty file, open for writing. It fails where the name is taken.
 fn create(rt: &HostRuntime, path: &[u8]) -> Result<File, Error> {
     match files::name_of(path) {
-        Ok(name) => OpenOptions::new().write(true).create_new(true).open(rt, name),
+        Ok(name) => OpenOptions::new()
+            .write(true)
+            .create_new(true)
+            .open(rt, name),
         Err(error) => Err(error),
     }
 }

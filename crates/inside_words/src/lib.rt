@@ -1,5 +1,6 @@
 // Which sets have a slice of a site inside, of all sets of at most 12 sites, as words; and in which sets each member has one.
 #![tactic(auto)]
+
 ghost use Rattle.std.specs.Prelude.{◌≡◌, true, ◌&&◌, ◌||◌, not, cond, ◌<◌, ◌≤◌, ◌+◌, ◌*◌, eqb, length};
 ghost use Rattle.masks.specs.Mask.{has, gather};
 ghost use Rattle.table.specs.Table.{count_of};

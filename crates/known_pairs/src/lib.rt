@@ -2,6 +2,7 @@
 // of both is left; so a larger set is not dispensable. The last 16 are kept: of pair k the deleted set, the first and the second at 3 k, and at 48 which place
 // comes next.
 #![tactic(auto)]
+
 ghost use Rattle.std.specs.Prelude.{◌≡◌, true, false};
 ghost use Rattle.masks.specs.Mask.{minus, all_below};
 ghost use Rattle.sets.specs.Inner.Rows.{Rows, rules_of};

@@ -1,4 +1,6 @@
 // The mark of a site for the siren register.
+#![tactic(auto)]
+
 ghost use Rattle.std.specs.Prelude.{◌≡◌};
 ghost use Rattle.mark.specs.Mark.{mark};
 

@@ -1,5 +1,6 @@
 // One round of the search for the largest quorum: the members of a set that have a slice inside it. And one sweep, which drops at once who has none.
 #![tactic(auto)]
+
 ghost use Rattle.std.specs.Prelude.{◌≡◌, true, cond, ◌<◌, length};
 ghost use Rattle.masks.specs.Mask.{single, minus, within, ◌∈◌};
 ghost use Rattle.table.specs.Table.{count_of, slice_of};

@@ -1,5 +1,6 @@
 // The places of a state, by name, and the one way in which a state is added to.
 #![tactic(auto)]
+
 ghost use Rattle.std.specs.Prelude.{◌≡◌, ◌+◌, ◌-◌, ◌*◌, ◌<◌, ◌≤◌, length};
 ghost use Rattle.rules.specs.State.{votes, accepts, voted, accepted, confirmed, width, add};
 

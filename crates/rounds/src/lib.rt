@@ -1,5 +1,6 @@
 // The largest quorum inside a set of sites of a checked table, round by round; and where its rounds are not asked for, sweep by sweep.
 #![tactic(auto)]
+
 ghost use Rattle.std.specs.Prelude.{◌≡◌, ◌<◌};
 ghost use Rattle.masks.specs.Mask.{has};
 ghost use Rattle.sets.specs.Quorum.{largest, rounds};

@@ -1,4 +1,6 @@
 // One site's slices, one by one, wherever they are kept; and one site's 63 numbers of a table in memory: their check.
+#![tactic(auto)]
+
 ghost use Rattle.std.specs.Prelude.{true, ◌&&◌, ◌≡◌, ℕ, ◌≤◌, ◌<◌, ltb, length};
 ghost use Rattle.std.specs.Int.Bits.{bit_and, bit_or};
 ghost use Rattle.masks.specs.Mask.{has, within, all_below};

@@ -82,8 +82,8 @@ module _ {t : List ℕ} {n : ℕ} (rows : Rows t n) where
   pub sets-site : (v : ℕ) → of_sets t v ≡ true → v < n
   sets-site v s = row-site rows v (ltb-true 62 (count_of t v) s)
 
-  sets_of : (v : ℕ) → of_sets t v ≡ true → SoundSets n (sets_of (site_of t v))
-  sets_of v s = rows.sets v (sets-site v s) s
+  sets-of : (v : ℕ) → of_sets t v ≡ true → SoundSets n (sets_of (site_of t v))
+  sets-of v s = rows.sets v (sets-site v s) s
 
   -- lists
 
@@ -129,11 +129,11 @@ module _ {t : List ℕ} {n : ℕ} (rows : Rows t n) where
       let h = sym (sets-inside t v s u) ∙ e in
       sets-inside t v s (bit_and u (all_below n))
       ∙ and_i (∈-and (mem (and_l (has u v) (root_met (sets_of (site_of t v)) u) h)) (in_all (sets-site v s))).holds
-      (met-of-sites (sets_of (site_of t v)) (sets_of v s).some-set n (sets_of v s).below u ∙ and_r (has u v) (root_met (sets_of (site_of t v)) u) h)
+      (met-of-sites (sets_of (site_of t v)) (sets-of v s).some-set n (sets-of v s).below u ∙ and_r (has u v) (root_met (sets_of (site_of t v)) u) h)
 
   sets-all : (v : ℕ) → of_sets t v ≡ true → (rules_of t).inside v (all_below n) ≡ true
   sets-all v s =
-      sets-inside t v s (all_below n) ∙ and_i (in_all (sets-site v s)).holds (all_meet (sets_of v s) (all_below n) (sets_of v s).below)
+      sets-inside t v s (all_below n) ∙ and_i (in_all (sets-site v s)).holds (all_meet (sets-of v s) (all_below n) (sets-of v s).below)
 
   -- whichever
 

@@ -1,5 +1,6 @@
 // Set questions over the rows of a checked table, and the check of a set of its sites.
 #![tactic(auto)]
+
 ghost use Rattle.std.specs.Prelude.{◌≡◌, true, false, ℕ, ◌<◌, ◌≤◌};
 ghost use Rattle.masks.specs.Mask.{within};
 ghost use Rattle.table.specs.Table.{site_of, count_of, slice_of};

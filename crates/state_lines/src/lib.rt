@@ -1,5 +1,6 @@
 // The lines of a state: its masks, and each site's line for the register.
 #![tactic(auto)]
+
 ghost use Rattle.std.specs.Prelude.{◌≡◌, ◌+◌, ◌*◌, ◌≤◌, length};
 ghost use Rattle.rules.specs.State.{width};
 ghost use Rattle.text.specs.Written.{Writes};

@@ -1,4 +1,6 @@
 // The table of groups in memory: its check.
+#![tactic(auto)]
+
 ghost use Rattle.std.specs.Prelude.{◌≡◌, ◌*◌, ◌≤◌, length};
 ghost use Rattle.table.specs.Table.{sites_check, check};
 

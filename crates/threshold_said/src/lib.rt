@@ -1,5 +1,6 @@
 // What `desk make` says of a text, as bytes in a lent room, and whether it is an answer. What writes answers the length of what it wrote.
 #![tactic(auto)]
+
 ghost use Rattle.std.specs.Prelude.{◌≡◌, ◌≤◌, length};
 ghost use Rattle.io.specs.Counts.{IsPrefixLen};
 ghost use Rattle.threshold_made.specs.Made.{threshold_made};

@@ -1,11 +1,14 @@
--- `read_full` ends, since each turn leaves less to fill.
+-- `read_full` ends, since each turn leaves less to fill; and what stands in the room so far is what was read.
 use mathlib.Core.Path.{◌≡◌}
 use Prim.Native.Nat.{◌-◌, ◌^◌, ◌≤◌, ◌<◌}
-use lib.ListN.{length}
+use lib.ListN.{length, take}
+use Rattle.std.specs.Io.KnownBytes.{Consumes}
 use Rattle.files.proofs.read_full.Given as goal
 
 abbrev pub invariant-loop-done : goal.invariant-loop-done
-invariant-loop-done g l = (length l.room ≡ length l.initial.room) × (l.done ≤ length l.room) × (length l.room < 2 ^ 64)
+invariant-loop-done g l =
+    (length l.room ≡ length l.initial.room) × (l.done ≤ length l.room) × (length l.room < 2 ^ 64)
+    × Consumes (g.R.Read.remaining l.initial.from) (g.R.Read.remaining l.from) (take l.done l.room)
 
 abbrev pub decreases-loop-done : goal.decreases-loop-done
 decreases-loop-done g l = length l.room - l.done
