@@ -1,5 +1,6 @@
 // What the receiver of a call accepts: it is asked only what has changed since the rules were last asked of it.
 #![tactic(auto)]
+
 ghost use Rattle.std.specs.Prelude.{◌≡◌, ◌<◌, length};
 ghost use Rattle.rules.specs.State.{width};
 ghost use Rattle.rules.specs.Rules.{only, now_accepts};

@@ -1,5 +1,6 @@
 // The questions that the voting asks of a checked table, the receiver first.
 #![tactic(auto)]
+
 ghost use Rattle.std.specs.Prelude.{◌≡◌, ◌<◌, length};
 ghost use Rattle.asking.specs.Inner.{Asked, Known, bounded_by, hopeless};
 ghost use Rattle.sets.specs.Inner.Rows.{Rows, row_questions};

@@ -1,5 +1,6 @@
 // The receiver's questions, asked only of what is new since the rules were last asked of it.
 #![tactic(auto)]
+
 ghost use Rattle.std.specs.Prelude.{◌≡◌, false, ◌<◌};
 ghost use Rattle.rules.specs.Rules.{accepting};
 ghost use Rattle.rules.specs.Inner.{New};

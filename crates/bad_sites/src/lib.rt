@@ -1,5 +1,6 @@
 // Number 18, site by site: what the rules do not explain of a site, on one side or the other.
 #![tactic(auto)]
+
 ghost use Rattle.std.specs.Prelude.{◌≡◌, ◌<◌, ◌≤◌, length};
 ghost use Rattle.ground.specs.Search.{some};
 ghost use Rattle.rules.specs.State.{width};

@@ -1,5 +1,6 @@
 // What `desk check` prints, as bytes in a lent room: the check of an image.
 #![tactic(auto)]
+
 ghost use Rattle.io.specs.Counts.{IsPrefixLen};
 ghost use Rattle.text.specs.Written.{Writes};
 ghost use Rattle.check_text.specs.Table.{check_text};

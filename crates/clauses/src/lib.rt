@@ -1,5 +1,6 @@
 // The clauses of 18 for one site and one side: the votes and accepts that it heard, and the masks voted, accepted and confirmed of that side.
 #![tactic(auto)]
+
 ghost use Rattle.std.specs.Prelude.{◌≡◌, ◌<◌};
 ghost use Rattle.rules.specs.Rules.{accepting};
 ghost use Rattle.rules.specs.Sound.{differ, not_zero, not_own, not_rule, not_sent};

@@ -1,5 +1,6 @@
 // What the receiver of a call confirms: it is asked only what has changed since the rules were last asked of it.
 #![tactic(auto)]
+
 ghost use Rattle.std.specs.Prelude.{◌≡◌, true, ◌<◌, length};
 ghost use Rattle.masks.specs.Mask.{◌∈◌};
 ghost use Rattle.rules.specs.State.{accepts, confirmed, width, get};

@@ -1,5 +1,6 @@
 // The table of groups on file: reading an image into a table in memory.
 #![tactic(auto)]
+
 ghost use Rattle.std.specs.Prelude.{◌≡◌, length};
 ghost use Rattle.image.specs.Read.{read, read_into};
 

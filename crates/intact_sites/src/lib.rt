@@ -1,5 +1,6 @@
 // Intact sites of a checked table of at most 12 sites.
 #![tactic(auto)]
+
 ghost use Rattle.std.specs.Prelude.{◌≡◌, ◌≤◌};
 ghost use Rattle.verdicts.specs.Verdicts.{intact};
 ghost use Rattle.sets.specs.Inner.Rows.{Rows, rules_of};

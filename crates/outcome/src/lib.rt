@@ -1,5 +1,6 @@
 // The lines of a run: its passes, the state it ends in, and each call with its answer.
 #![tactic(auto)]
+
 ghost use Rattle.std.specs.Prelude.{◌≡◌, ◌+◌, ◌*◌, ◌≤◌, length};
 ghost use Rattle.outcome.specs.Outcome.{call_line, call_lines, EndsIn};
 ghost use Rattle.rules.specs.State.{width};

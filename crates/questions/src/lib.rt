@@ -1,6 +1,7 @@
 // The set questions as public calls, but for the two verdicts: each checks table, set and site itself, in the order table, 10, 11. Of each the table is
 // checked first; the rest is asked of its rows. The answers of all.
 #![tactic(auto)]
+
 ghost use Rattle.std.specs.Prelude.{◌≡◌, not, ltb};
 ghost use Rattle.refusals.specs.First.{or_else, refuse};
 ghost use Rattle.refusals.specs.declared.Refusal as Refused;

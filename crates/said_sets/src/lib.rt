@@ -1,5 +1,6 @@
 // An answer to a question about sets as a call says it: its number is answered, and its place and values are written to the four numbers of `out`.
 #![tactic(auto)]
+
 ghost use Rattle.std.specs.Prelude.{◌≡◌};
 ghost use Rattle.said_sets.specs.Said.{of_holds, of_greatest, of_sharing, of_standing};
 

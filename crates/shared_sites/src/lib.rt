@@ -1,5 +1,6 @@
 // Two quorums without a common site, of a checked table of at most 12 sites.
 #![tactic(auto)]
+
 ghost use Rattle.std.specs.Prelude.{◌≡◌, cond, ◌≤◌, eqb};
 ghost use Rattle.verdicts.specs.Verdicts.{beside, first_apart};
 ghost use Rattle.shared_sites.specs.Inner.{beside_first};

@@ -1,5 +1,6 @@
 // What `desk show` prints of an image, as bytes in a lent room. Answers the length of what it wrote.
 #![tactic(auto)]
+
 ghost use Rattle.io.specs.Counts.{IsPrefixLen};
 ghost use Rattle.text.specs.Written.{Writes};
 ghost use Rattle.table_text.specs.ShowText.{show_text};

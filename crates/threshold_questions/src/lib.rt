@@ -1,6 +1,7 @@
 // The set questions of a table of thresholds as public calls, but for the two verdicts: each checks image, set and site itself, in the order image, 10, 11.
 // The image is checked first; the rest is asked of its rows.
 #![tactic(auto)]
+
 ghost use Rattle.std.specs.Prelude.{◌≡◌};
 ghost use Rattle.sets.specs.Groups.{thresholds};
 ghost use Rattle.questions.specs.Answers.{quorum, largest, blocks};

@@ -1,5 +1,6 @@
 // Votes that a receiver hears in vain: by what is known of the sets asked before, it belongs to no quorum inside all that it heard.
 #![tactic(auto)]
+
 ghost use Rattle.std.specs.Prelude.{◌≡◌, ◌<◌, ◌≤◌, length};
 ghost use Rattle.asking.specs.Inner.{Known};
 ghost use Rattle.rules.specs.State.{width};

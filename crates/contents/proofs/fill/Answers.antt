@@ -1,5 +1,5 @@
 -- `fill` meets its contract: the sites below v are kept.
-use Prim.Native.Nat.{ℕ, ◌-◌}
+use Prim.Native.Nat.{ℕ}
 use mathlib.Core.Path.{◌≡◌, subst}
 use native.Mathlib.Omega.{arith}
 use borrow.Author.Rules.{rules}
@@ -14,7 +14,7 @@ loop-v-init c =
 
 pub keep_site-requires : goal.keep_site-requires
 keep_site-requires c =
-    let p = c.requires in record { rows = p.rows ; n_bound = p.n_bound ; v_bound = c.loop-v-test.true ; above = p.above ; contents = c.loop-v.invariant.1 }
+    let p = c.requires in record { rows = p.rows; n_bound = p.n_bound; v_bound = c.loop-v-test.true; above = p.above; contents = c.loop-v.invariant.1 }
 
 pub loop-v-preserved : goal.loop-v-preserved
 loop-v-preserved c =
