@@ -31,8 +31,10 @@ circular =
     ∷ 0 ∷ 0 ∷ 7 ∷ 7 ∷ 7 ∷ 7 ∷ []
 
 unfoldable pub premises_needed : List Bool
-unfolding some every least has within minus gather quorum round left dropping largest slices_of questions_of beside apart first_apart meets dispensable is_intact
-    intact accepting confirming now_accepts now_confirms hears taken out_of_range crooked against unsent answer fresh add passes run run_of not_zero not_own not_rule
+unfolding some every least has within minus gather quorum round left dropping largest slices_of questions_of beside apart first_apart meets
+    dispensable is_intact
+    intact accepting confirming now_accepts now_confirms hears taken out_of_range crooked against unsent answer fresh add passes run run_of not_zero
+    not_own not_rule
     not_sent bad_side bad_site unsound
 premises_needed =
     let parted = (run_of (vote_of table_apart 0) (paired 0 1 0 ++ paired 2 3 1)).state in

@@ -1,6 +1,7 @@
 // What the programs print of calls and of runs. Of these standard output is written by `say` alone, which has the text in hand and nothing else; it is called
 // by the functions behind it, and each of these is lent the bytes that were read.
 #![tactic(auto)]
+
 ghost use Rattle.std.specs.Prelude.{◌≡◌};
 ghost use Rattle.calls_listed.specs.Listed.{list_text};
 ghost use Rattle.calls_said.specs.Faults.{made_text};

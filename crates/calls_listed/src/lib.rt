@@ -1,5 +1,6 @@
 // A list of calls as text, in a lent room: a line a call, or the refusal.
 #![tactic(auto)]
+
 ghost use Rattle.std.specs.Prelude.{◌≡◌, ◌+◌, ◌*◌, ◌/◌, ◌≤◌, length};
 ghost use Rattle.calls_listed.specs.Listed.{list_lines, list_text};
 ghost use Rattle.io.specs.Counts.{IsPrefixLen};

@@ -1,6 +1,7 @@
 // What the desk does with a text of calls: read, have the list made, put it on file, print. Nothing here decides anything of the rules. A file
 // is written by `put_on_file` alone, which is lent the text that was read and its list.
 #![tactic(auto)]
+
 ghost use Rattle.std.specs.Prelude.{◌≡◌};
 ghost use Rattle.calls_text.specs.Reading.{read_text};
 

@@ -1,5 +1,6 @@
 // Every public call of the library for C and Rust, but for the two of the firmware. The header is include/siren.h.
 #![tactic(auto)]
+
 ghost use Rattle.std.specs.Prelude.{◌≡◌, length};
 ghost use Rattle.said_votes.specs.Run.{run_says, run_state, run_answers};
 ghost use Rattle.image.specs.Read.{read, read_into};
@@ -21,7 +22,7 @@ ghost use Rattle.votes.specs.Call.{call};
 
 use packing::Call;
 
-mod thresholds;
+pub mod thresholds;
 
 // The check of a table in memory.
 #[unsafe(no_mangle)]

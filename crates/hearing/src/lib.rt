@@ -1,5 +1,6 @@
 // A taken call: what the receiver hears, and the state after it.
 #![tactic(auto)]
+
 ghost use Rattle.std.specs.Prelude.{◌≡◌, ◌<◌, ◌≤◌, length};
 ghost use Rattle.rules.specs.State.{votes, accepts, width, get};
 ghost use Rattle.rules.specs.Rules.{hears, taken};

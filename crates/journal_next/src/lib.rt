@@ -1,5 +1,6 @@
 // The call at a place of a journal.
 #![tactic(auto)]
+
 ghost use Rattle.std.specs.Prelude.{◌≡◌};
 ghost use Rattle.journal_next.specs.Next.{next};
 

@@ -1,6 +1,7 @@
 // What the programs print of journals. Of these standard output is written by `say` alone, which has the text in hand and nothing else; it is called by
 // the functions behind it, and each of these is lent the bytes that were read.
 #![tactic(auto)]
+
 ghost use Rattle.std.specs.Prelude.{◌≡◌};
 ghost use Rattle.journal_text.specs.JournalText.{journal_text, kept_text};
 ghost use Rattle.replay_text.specs.Replay.{replay_text};

@@ -1,5 +1,6 @@
 // What the desk does with journals: read, have the text made, print it. Nothing here decides anything of the rules.
 #![tactic(auto)]
+
 use files::Fetched;
 use text::Typed;
 
@@ -37,5 +38,11 @@ pub fn replay_of(rt: &HostRuntime, table: usize, sites: usize, kept: usize) {
     let mut room = [0u8; run_text::ROOM];
     let end = replay_text::replay(faulty, image, journal, &mut room);
     journal_printing::say_replay(rt, faulty, image, journal, &room[..end]);
-    doubting::doubt_kept(rt, b"desk replay TABLE FAULTY JOURNAL", image, journal, room[0]);
+    doubting::doubt_kept(
+        rt,
+        b"desk replay TABLE FAULTY JOURNAL",
+        image,
+        journal,
+        room[0],
+    );
 }

@@ -1,5 +1,6 @@
 // What the desk prints of a journal, as bytes in a lent room: its check, and what is said of a list that is kept.
 #![tactic(auto)]
+
 ghost use Rattle.std.specs.Prelude.{◌≡◌, ◌≤◌, length};
 ghost use Rattle.io.specs.Counts.{IsPrefixLen};
 ghost use Rattle.journal_write.specs.Keep.{keep};

@@ -1,5 +1,6 @@
 // The writer of the journal of calls on file.
 #![tactic(auto)]
+
 ghost use Rattle.std.specs.Prelude.{◌≡◌, length};
 ghost use Rattle.journal_write.specs.Keep.{keep, keep_into};
 

@@ -1,5 +1,6 @@
 // What the verdict program prints of a table in memory, as bytes in a lent room: the seven lines of a verdict, or the line of a refusal.
 #![tactic(auto)]
+
 ghost use Rattle.std.specs.Prelude.{◌≡◌, ◌*◌, ◌≤◌, length};
 ghost use Rattle.text.specs.Written.{Writes};
 ghost use Rattle.judged_text.specs.Inner.{met};

@@ -14,7 +14,8 @@ pub record Pair (r : Slices) (n deleted p q : ℕ) : Type 0 where
 -- 16 of them, or none where the second is empty
 pub record Pairs (r : Slices) (n : ℕ) (pairs : List ℕ) : Type 0 where
   pub long : length pairs ≡ 49
-  pub each : (k : ℕ) → k < 16 → (get_or pairs (3 * k + 2) 0 ≡ 0 → ⊥) → Pair r n (get_or pairs (3 * k) 0) (get_or pairs (3 * k + 1) 0) (get_or pairs (3 * k + 2) 0)
+  pub each : (k : ℕ) → k < 16 → (get_or pairs (3 * k + 2) 0 ≡ 0 → ⊥) →
+      Pair r n (get_or pairs (3 * k) 0) (get_or pairs (3 * k + 1) 0) (get_or pairs (3 * k + 2) 0)
 
 -- the deleted set is inside gone, and something of both is in rest
 pub record Left (rest gone deleted p q : ℕ) (answer : Bool) : Type 0 where

@@ -1,5 +1,6 @@
 // What the desk does to show a list of calls, and to compare two: read, have the text made, print it. Nothing here decides anything of the rules.
 #![tactic(auto)]
+
 use files::Fetched;
 
 // desk list CALLS, where CALLS is an argument's number

@@ -59,8 +59,10 @@ pair u v = bytes 0 u u 0 ++ bytes 0 v v 0 ++ bytes 1 u v 0 ++ bytes 1 v u 0
 
 -- What the other premises are for.
 unfoldable pub edges : List Bool
-unfolding some every least has within minus gather quorum round left dropping largest slices_of questions_of beside apart first_apart meets dispensable is_intact
-    intact accepting confirming now_accepts now_confirms hears taken out_of_range crooked against unsent answer fresh add passes run run_of is_call has_call lacks
+unfolding some every least has within minus gather quorum round left dropping largest slices_of questions_of beside apart first_apart meets
+    dispensable is_intact
+    intact accepting confirming now_accepts now_confirms hears taken out_of_range crooked against unsent answer fresh add passes run run_of is_call
+    has_call lacks
     is_complete
 edges =
     let apart = pair 0 1 ++ bytes 2 0 1 0 ++ bytes 2 0 2 0 ++ bytes 2 0 3 0 ++ bytes 2 1 0 0 ++ bytes 2 1 2 0 ++ bytes 2 1 3 0 in

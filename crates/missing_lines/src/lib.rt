@@ -1,5 +1,6 @@
 // The accept calls between intact sites that a list lacks, as lines in a lent room. Each is written from a place on, and the answer is the place behind it.
 #![tactic(auto)]
+
 ghost use Rattle.std.specs.Prelude.{◌++◌, ◌≡◌, ◌+◌, ◌*◌, ◌≤◌, ◌<◌, length};
 ghost use Rattle.call_lines.specs.CallLine.{side_name};
 ghost use Rattle.lines.specs.Lines.{line};

@@ -1,5 +1,6 @@
 // What the desk does to say what a list of calls lacks: read, have the text made, print it. Nothing here decides anything of the rules.
 #![tactic(auto)]
+
 use files::Fetched;
 use text::Typed;
 

@@ -1,5 +1,6 @@
 // What `desk missing` prints, as bytes in a lent room: the accept calls between intact sites that a list of calls lacks.
 #![tactic(auto)]
+
 ghost use Rattle.std.specs.Prelude.{◌≡◌, ◌*◌, ◌≤◌, length};
 ghost use Rattle.io.specs.Counts.{IsPrefixLen};
 ghost use Rattle.missing_text.specs.Inner.{table_text};

@@ -1,5 +1,6 @@
 // One pass over a list of calls, given as bytes.
 #![tactic(auto)]
+
 ghost use Rattle.std.specs.Prelude.{◌≡◌, ◌+◌, ◌*◌, ◌<◌, length};
 ghost use Rattle.rules.specs.Inner.{row_vote};
 ghost use Rattle.pass.specs.Calls.{calls, call_at};

@@ -1,5 +1,6 @@
 // A later pass over a list of calls, which looks at the calls that wait alone.
 #![tactic(auto)]
+
 ghost use Rattle.std.specs.Prelude.{◌≡◌, ◌+◌, ◌*◌, ◌<◌, length, get_or};
 ghost use Rattle.rules.specs.Inner.{row_vote};
 ghost use Rattle.pass.specs.Calls.{calls, call_at};

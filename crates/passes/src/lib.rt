@@ -1,5 +1,6 @@
 // Passes over a list of calls, from a fresh state, until one changes nothing.
 #![tactic(auto)]
+
 ghost use Rattle.std.specs.Prelude.{◌≡◌, ◌*◌, ◌≤◌, length, replicate};
 ghost use Rattle.rules.specs.Inner.{row_vote};
 ghost use Rattle.pass.specs.Calls.{calls};

@@ -1,5 +1,6 @@
 // A reader that holds the journal and its place, and gives one call at a time. The work is done by `journal_next::next_at`, on a slice and a number.
 #![tactic(auto)]
+
 ghost use Rattle.std.specs.Prelude.{◌≡◌};
 ghost use Rattle.journal_next.specs.Next.{next};
 ghost use Rattle.reader.specs.Reader.{sound_part};

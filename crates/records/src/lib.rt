@@ -1,5 +1,6 @@
 // The run of a list of calls given as records: the same run, over a lent slice of call structs.
 #![tactic(auto)]
+
 ghost use Rattle.std.specs.Prelude.{◌≡◌, length};
 ghost use Rattle.run.specs.Run.{ran, state_into, answers_into};
 ghost use Rattle.records.specs.Inner.{RowEnded, TableEnded};

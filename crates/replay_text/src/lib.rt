@@ -1,5 +1,6 @@
 // What `desk replay` prints, as bytes in a lent room: the run of a journal's list on an image.
 #![tactic(auto)]
+
 ghost use Rattle.std.specs.Prelude.{◌≡◌};
 ghost use Rattle.io.specs.Counts.{IsPrefixLen};
 ghost use Rattle.text.specs.Written.{Writes};

@@ -1,5 +1,6 @@
 // What is at stake when sites break, of a checked table of at most 12 sites.
 #![tactic(auto)]
+
 ghost use Rattle.std.specs.Prelude.{◌≡◌, ◌&&◌, ◌≤◌, ◌<◌, ltb};
 ghost use Rattle.masks.specs.Mask.{size};
 ghost use Rattle.risk.specs.Risk.{taken_along, ruinous, first_ruin};

@@ -1,5 +1,6 @@
 // What `desk risk` prints, as bytes in a lent room: what is at stake when sites of the table on an image break.
 #![tactic(auto)]
+
 ghost use Rattle.std.specs.Prelude.{◌+◌, ◌*◌, ◌≤◌, ◌<◌, length};
 ghost use Rattle.ground.specs.Pieces.{cat};
 ghost use Rattle.io.specs.Counts.{IsPrefixLen};

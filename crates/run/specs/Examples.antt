@@ -45,7 +45,8 @@ all (b ∷ l) = b && all l
 
 unfoldable pub examples : List Bool
 unfolding some every least those has within minus gather quorum round left dropping largest rounds slices_of questions_of beside apart first_apart meets
-    dispensable is_intact intact mark accepting confirming now_accepts now_confirms hears taken out_of_range crooked against unsent answer fresh add passes run run_of
+    dispensable is_intact intact mark accepting confirming now_accepts now_confirms hears taken out_of_range crooked against unsent answer fresh add
+    passes run run_of
 examples =
     let A = slices_in table_a in
     let B = slices_in table_b in

@@ -1,6 +1,7 @@
 // The run of a list of calls, given as bytes: passes from first to last until a pass changes nothing. The table is checked first;
 // the rest is asked of its rows.
 #![tactic(auto)]
+
 ghost use Rattle.std.specs.Prelude.{◌≡◌, length, ◌≤◌};
 ghost use Rattle.sets.specs.Groups.{lists};
 ghost use Rattle.sets.specs.Inner.Rows.{Rows};

@@ -23,6 +23,7 @@ use Rattle.refusals.specs.declared.Refusal.TheVariants.{Large}
 use Rattle.outcome.proofs.Lengths.{end-above-twelve}
 use Rattle.outcome.specs.Outcome.{end_lines}
 use Rattle.check_text.proofs.Ways.{image-sound, image-refused}
+use Rattle.check_text.specs.Table.{unless}
 use Rattle.questions.specs.Answers.{to_standing, verdict_check}
 use Rattle.questions.specs.Answers as Answers
 use Rattle.refusals.proofs.First.{or_else-sound}
@@ -53,11 +54,21 @@ in-front result room left k h e l =
 judged : (t : Groups) (F : ℕ) → set_check t F ≡ Sound → ltb 12 (sites_of t) ≡ false → verdict_check t (set_check t F) ≡ Sound
 judged t F c l = ap (λ (x : Check). verdict_check t x) c ∙ ap (λ (b : Bool). refuse b Large) l
 
+-- equal parts give equal lines
+same_lines : (F n n' w w' p p' : ℕ) (s s' list a a' : List ℕ) → n ≡ n' → w ≡ w' → p ≡ p' → s ≡ s' → a ≡ a' → end_lines F n w p s list a ≡ end_lines F n' w' p' s' list a'
+same_lines F n n' w w' p p' s s' list a a' en ew ep es ea = cc
+
 -- on a table that is read
 module _ (t : Groups) (F : ℕ) (list : List ℕ) where
   pub ran-refused : (r : Refusal) → Ran.Refused r ≡ ran t F list 262 4096 → explained r ≡ ran_text F t list
   unfolding ran_text ran
   ran-refused r h = rw (ran-stopped (run_check t F (length list) 262 4096) (the_run t F list).passes r h) refl
+
+  given-lines : run_check t F (length list) 262 4096 ≡ Sound
+      → end_lines F (sites_of t) (Verdicts.intact (slices_in t) (sites_of t) F) (the_run t F list).passes (the_run t F list).state list (the_run t F list).answers ≡ ran_text F t list
+  unfolding ran_text
+  given-lines c =
+      sym (ap (λ (x : Check). unless x explained (end_lines F (sites_of t) (Verdicts.intact (slices_in t) (sites_of t) F) (the_run t F list).passes (the_run t F list).state list (the_run t F list).answers)) c)
 
   module _ (p : ℕ) (h : Ran.Passes p ≡ ran t F list 262 4096) where
     pub whole : (run_check t F (length list) 262 4096 ≡ Sound) × (p ≡ (the_run t F list).passes)
@@ -90,11 +101,15 @@ module _ (t : Groups) (F : ℕ) (list : List ℕ) where
         → length s ≡ 262 → length a ≡ 4096
         → s ≡ state_into (Ran.Passes p) t F list states → a ≡ answers_into (Ran.Passes p) t F list answers
         → end_lines F n w p (take k s) list (take (length list / 4) a) ≡ ran_text F t list
-    unfolding ran_text answers_into
+    unfolding answers_into
     ran-ended n w k states answers s a en ew ek ls la ks ka es ea =
         let f = fitting in
-        let y = in-front (the_run t F list).answers answers a (length list / 4) (omega (arith, f.many)) ea (ka ∙ sym la) in
-        rw (ek, en, whole.0, whole.1, ended-state states s ls ks es, y, ew) (known-lines (the_run t F list).passes (the_run t F list).state (the_run t F list).answers)
+        let x : take k s ≡ (the_run t F list).state = ap (λ (i : ℕ). take i s) (ek ∙ ap width en) ∙ ended-state states s ls ks es in
+        let y : take (length list / 4) a ≡ (the_run t F list).answers = in-front (the_run t F list).answers answers a (length list / 4) (omega (arith, f.many)) ea (ka ∙ sym la) in
+        same_lines F n (sites_of t) w (whole_of (Answers.intact t F)) p (the_run t F list).passes (take k s) (the_run t F list).state list (take (length list / 4) a) (the_run t F list).answers
+        en ew whole.1 x y
+        ∙ known-lines (the_run t F list).passes (the_run t F list).state (the_run t F list).answers
+        ∙ given-lines whole.0
 
 -- on an image
 module _ (F : ℕ) (image list : List ℕ) where

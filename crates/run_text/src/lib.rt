@@ -1,5 +1,6 @@
 // What `desk run` prints, as bytes in a lent room: the run of a list of calls on an image.
 #![tactic(auto)]
+
 ghost use Rattle.std.specs.Prelude.{◌≡◌, ◌*◌, ◌≤◌, length};
 ghost use Rattle.io.specs.Counts.{IsPrefixLen};
 ghost use Rattle.text.specs.Written.{Writes};

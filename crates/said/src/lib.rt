@@ -1,5 +1,6 @@
 // An answer about tables and images as a call says it, or of a check: its number is answered, and its place and values are written to `out`.
 #![tactic(auto)]
+
 ghost use Rattle.std.specs.Prelude.{◌≡◌};
 ghost use Rattle.said.specs.Said.{of_check, of_reading, of_writing};
 

@@ -1,5 +1,6 @@
 // An answer about a journal as a call says it: its number is answered, and its place and values are written to the four numbers of `out`.
 #![tactic(auto)]
+
 ghost use Rattle.std.specs.Prelude.{◌≡◌, ◌+◌, ◌*◌};
 ghost use Rattle.said_journal.specs.Said.{of_checked, of_kept, of_listed, of_next, of_taken};
 

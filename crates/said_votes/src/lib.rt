@@ -1,5 +1,6 @@
 // An answer about votes and runs as a call says it: its number is answered, and its place and values are written to `out`.
 #![tactic(auto)]
+
 ghost use Rattle.std.specs.Prelude.{◌≡◌};
 ghost use Rattle.said_votes.specs.Said.{of_stepped, of_ran};
 

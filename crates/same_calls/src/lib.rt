@@ -1,5 +1,6 @@
 // Two lists of calls beside each other: which calls a list has, and whether two lists have the same.
 #![tactic(auto)]
+
 ghost use Rattle.std.specs.Prelude.{◌≡◌, ◌+◌, ◌*◌, ◌≤◌, length};
 ghost use Rattle.run.specs.Run.{list_misshapen};
 ghost use Rattle.same_calls.specs.Same.{is_call, has_call, covers, same_lists, proposed};

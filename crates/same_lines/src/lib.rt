@@ -1,5 +1,6 @@
 // The lines that the desk prints of two lists of calls: the calls that only one of them has, and the sites proposed both sides.
 #![tactic(auto)]
+
 ghost use Rattle.std.specs.Prelude.{◌+◌, ◌*◌, ◌/◌, ◌≤◌, length};
 ghost use Rattle.ground.specs.Pieces.{cat};
 ghost use Rattle.same_lines.specs.SameLines.{lack_line, lack_lines, both_line};

@@ -1,5 +1,6 @@
 // What the desk prints of two lists of calls: whether they are the same, or the calls that only one of them has; and the sites proposed both sides.
 #![tactic(auto)]
+
 ghost use Rattle.std.specs.Prelude.{◌≤◌, length};
 ghost use Rattle.io.specs.Counts.{IsPrefixLen};
 ghost use Rattle.same_text.specs.SameText.{answer_lines, refused_list, same_text};

@@ -1,5 +1,6 @@
 // What the two programs do with tables and lists: read, have the text made, print it. Nothing here decides anything of the rules.
 #![tactic(auto)]
+
 use files::Fetched;
 use text::Typed;
 

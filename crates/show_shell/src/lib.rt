@@ -1,5 +1,6 @@
 // What the desk does to show a table, and what is at stake on it: read, have the text made, print it. Nothing here decides anything of the rules.
 #![tactic(auto)]
+
 use files::Fetched;
 
 // desk show TABLE, where TABLE is an argument's number

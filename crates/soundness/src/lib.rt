@@ -1,5 +1,6 @@
 // Number 18: a state that the rules do not explain, as a whole.
 #![tactic(auto)]
+
 ghost use Rattle.std.specs.Prelude.{◌≡◌, ℕ, not, length};
 ghost use Rattle.ground.specs.Search.{some};
 ghost use Rattle.masks.specs.Mask.{within};

@@ -1,5 +1,6 @@
 // Whether most calls of a list name a site, kind or side that there is not: such bytes may be no list of calls.
 #![tactic(auto)]
+
 ghost use Rattle.std.specs.Prelude.{cond, ◌≡◌};
 ghost use Rattle.rules.specs.Rules.{out_of_range};
 ghost use Rattle.strange_calls.specs.Strange.{strange_calls, mostly_strange};

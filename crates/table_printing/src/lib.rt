@@ -1,6 +1,7 @@
 // What the programs print of tables. Of these standard output is written by `say` alone, which has the text in hand and nothing else; it is called by
 // the functions behind it, and each of these is lent the bytes that were read.
 #![tactic(auto)]
+
 ghost use Rattle.std.specs.Prelude.{true, false, ◌≡◌};
 ghost use Rattle.check_text.specs.Table.{check_text};
 ghost use Rattle.verdict_sites.specs.Sites.{verdict_sites};

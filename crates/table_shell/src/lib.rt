@@ -1,6 +1,7 @@
 // What the desk does with a table's text: read, have the table made, put it on file, print. Nothing here decides anything of the rules. A file is
 // written by `put_on_file` alone, which is lent the text that was read and the image of its table.
 #![tactic(auto)]
+
 ghost use Rattle.std.specs.Prelude.{◌≡◌};
 ghost use Rattle.table_made.specs.Made.{made};
 ghost use Rattle.table_shell.specs.Filed.{image_in};
@@ -41,7 +42,10 @@ fn make_table(rt: &HostRuntime, text: &[u8], name: usize) {
     let mut image = [0u8; 32768];
     let written = image_write::write(&table[..end], &mut image);
     let Writing::Sites(k) = written else {
-        files::complain(rt, b"desk make TEXT TABLE: the table is not sound, and nothing was written\n");
+        files::complain(
+            rt,
+            b"desk make TEXT TABLE: the table is not sound, and nothing was written\n",
+        );
         return;
     };
     let end = 512 * (k as usize);

@@ -1,5 +1,6 @@
 // A call on a sound state: its answer, and whether the state changed.
 #![tactic(auto)]
+
 ghost use Rattle.std.specs.Prelude.{◌≡◌};
 ghost use Rattle.asking.specs.Inner.{Known};
 ghost use Rattle.refusals.specs.declared.Check as Answer;

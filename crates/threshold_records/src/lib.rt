@@ -1,5 +1,6 @@
 // The run of a list of calls given as records, over a table of thresholds.
 #![tactic(auto)]
+
 ghost use Rattle.std.specs.Prelude.{◌≡◌, length};
 ghost use Rattle.packing.specs.Pack.{bytes_of};
 ghost use Rattle.records.specs.Inner.{TableEnded};

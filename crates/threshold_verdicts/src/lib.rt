@@ -1,6 +1,7 @@
 // The two verdicts of a table of thresholds as public calls: each checks image and set itself, in the order image, 10, 16. The image is checked first; the
 // rest is asked of its rows.
 #![tactic(auto)]
+
 ghost use Rattle.std.specs.Prelude.{◌≡◌};
 ghost use Rattle.sets.specs.Groups.{thresholds};
 ghost use Rattle.questions.specs.Answers.{shared, intact};

@@ -1,5 +1,6 @@
 // The voting and the run over a table of thresholds as public calls: the image is checked first; the rest is asked of its rows.
 #![tactic(auto)]
+
 ghost use Rattle.std.specs.Prelude.{◌≡◌, length};
 ghost use Rattle.run.specs.Run.{ran, state_into, answers_into};
 ghost use Rattle.sets.specs.Groups.{thresholds};

@@ -27,7 +27,10 @@ or 1 to 16 hexadecimal digits, bit v for site v, 0 for nobody
 // The words behind a call's word, of a call on tables, where the word is one.
 fn table_words(rt: &HostRuntime, word: &[u8]) -> bool {
     if check::same(word, b"make") {
-        files::complain(rt, b"desk make TEXT TABLE: these are the words of the call\n");
+        files::complain(
+            rt,
+            b"desk make TEXT TABLE: these are the words of the call\n",
+        );
         return true;
     }
     if check::same(word, b"show") {
@@ -39,7 +42,10 @@ fn table_words(rt: &HostRuntime, word: &[u8]) -> bool {
         return true;
     }
     if check::same(word, b"verdict") {
-        files::complain(rt, b"desk verdict TABLE FAULTY: these are the words of the call\n");
+        files::complain(
+            rt,
+            b"desk verdict TABLE FAULTY: these are the words of the call\n",
+        );
         return true;
     }
     if check::same(word, b"risk") {
@@ -52,7 +58,10 @@ fn table_words(rt: &HostRuntime, word: &[u8]) -> bool {
 // The same of a call on lists of calls.
 fn call_words(rt: &HostRuntime, word: &[u8]) -> bool {
     if check::same(word, b"calls") {
-        files::complain(rt, b"desk calls TEXT CALLS: these are the words of the call\n");
+        files::complain(
+            rt,
+            b"desk calls TEXT CALLS: these are the words of the call\n",
+        );
         return true;
     }
     if check::same(word, b"list") {
@@ -60,15 +69,24 @@ fn call_words(rt: &HostRuntime, word: &[u8]) -> bool {
         return true;
     }
     if check::same(word, b"same") {
-        files::complain(rt, b"desk same CALLS CALLS: these are the words of the call\n");
+        files::complain(
+            rt,
+            b"desk same CALLS CALLS: these are the words of the call\n",
+        );
         return true;
     }
     if check::same(word, b"run") {
-        files::complain(rt, b"desk run TABLE FAULTY CALLS: these are the words of the call\n");
+        files::complain(
+            rt,
+            b"desk run TABLE FAULTY CALLS: these are the words of the call\n",
+        );
         return true;
     }
     if check::same(word, b"missing") {
-        files::complain(rt, b"desk missing TABLE FAULTY CALLS: these are the words of the call\n");
+        files::complain(
+            rt,
+            b"desk missing TABLE FAULTY CALLS: these are the words of the call\n",
+        );
         return true;
     }
     false
@@ -77,15 +95,24 @@ fn call_words(rt: &HostRuntime, word: &[u8]) -> bool {
 // The same of a call on journals.
 fn journal_words(rt: &HostRuntime, word: &[u8]) -> bool {
     if check::same(word, b"keep") {
-        files::complain(rt, b"desk keep CALLS JOURNAL: these are the words of the call\n");
+        files::complain(
+            rt,
+            b"desk keep CALLS JOURNAL: these are the words of the call\n",
+        );
         return true;
     }
     if check::same(word, b"journal") {
-        files::complain(rt, b"desk journal JOURNAL: these are the words of the call\n");
+        files::complain(
+            rt,
+            b"desk journal JOURNAL: these are the words of the call\n",
+        );
         return true;
     }
     if check::same(word, b"replay") {
-        files::complain(rt, b"desk replay TABLE FAULTY JOURNAL: these are the words of the call\n");
+        files::complain(
+            rt,
+            b"desk replay TABLE FAULTY JOURNAL: these are the words of the call\n",
+        );
         return true;
     }
     false

@@ -1,6 +1,7 @@
 // The two verdicts as public calls: each checks table and set itself, in the order table, 10, 16. Of each the table is checked first; the rest is asked of
 // its rows.
 #![tactic(auto)]
+
 ghost use Rattle.std.specs.Prelude.{◌≡◌, ltb};
 ghost use Rattle.refusals.specs.First.{or_else, refuse};
 ghost use Rattle.refusals.specs.declared.Refusal as Refused;

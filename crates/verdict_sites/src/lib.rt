@@ -1,5 +1,6 @@
 // What `desk verdict` prints behind the seven lines of a verdict: its sets by their sites' numbers, and two quorums with no common site where there are such.
 #![tactic(auto)]
+
 ghost use Rattle.std.specs.Prelude.{◌≡◌, ◌+◌, ◌*◌, ◌≤◌, ◌++◌, length};
 ghost use Rattle.io.specs.Counts.{IsPrefixLen};
 ghost use Rattle.sets.specs.Groups.{lists};

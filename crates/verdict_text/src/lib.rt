@@ -1,5 +1,6 @@
 // What the verdict program prints, as bytes in a lent room: the seven lines of a verdict, or the line of a refusal.
 #![tactic(auto)]
+
 ghost use Rattle.io.specs.Counts.{IsPrefixLen};
 ghost use Rattle.text.specs.Written.{Writes};
 ghost use Rattle.verdict_text.specs.Verdict.{verdict_text, input_text};

@@ -1,5 +1,6 @@
 // The public calls of the voting: the soundness of a state, and the step. Of each the table is checked first; the rest is asked of its rows.
 #![tactic(auto)]
+
 ghost use Rattle.std.specs.Prelude.{◌≡◌};
 ghost use Rattle.sets.specs.Groups.{lists};
 ghost use Rattle.sets.specs.Inner.Rows.{Rows};

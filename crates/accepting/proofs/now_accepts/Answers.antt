@@ -11,7 +11,15 @@ returns-then-has c =
 
 pub now_accepting-accepts_now-requires : goal.now_accepting-accepts_now-requires
 now_accepting-accepts_now-requires c =
-    let s = c.args.state.now in let p = c.requires in let S = p.since in let e = unaccepted S c.has.ensures c.if-has.false c.accepted.ensures in record { rows = p.rows; sender_lt_n = p.sender_lt_n; receiver_lt_n = p.receiver_lt_n; accepts_before_value = e; new = new-read s c.votes.ensures S.new-votes; new_2 = new-read s c.accepts.ensures S.new-accepts }
+    let s = c.args.state.now in let p = c.requires in let S = p.since in let e = unaccepted S c.has.ensures c.if-has.false c.accepted.ensures in record {
+      rows = p.rows;
+      sender_lt_n = p.sender_lt_n;
+      receiver_lt_n = p.receiver_lt_n;
+      accepts_before_value = e;
+      new = new-read s c.votes.ensures S.new-votes;
+      new_2 = new-read s c.accepts.ensures
+          S.new-accepts;
+    }
 
 pub returns : goal.returns
 returns c =

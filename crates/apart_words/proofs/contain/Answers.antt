@@ -21,7 +21,11 @@ loop-w-init c =
 
 pub loop-w-preserved : goal.loop-w-preserved
 loop-w-preserved c =
-    let a = c.args in let l = c.loop-w in let k = c.loop-w-test.true in (search rules, written-more (left a.sets.now a.b) c.loop-w.w _ k (contained a.b c.loop-w.w a.sets.now a.above.now (c.loop-w.invariant.1.above c.loop-w.w (le_refl c.loop-w.w)) c.requires.above c.chosen.ensures) c.loop-w.invariant.1)
+    let a = c.args in let l = c.loop-w in let k = c.loop-w-test.true in (
+      search rules,
+      written-more (left a.sets.now a.b) c.loop-w.w _ k
+          (contained a.b c.loop-w.w a.sets.now a.above.now (c.loop-w.invariant.1.above c.loop-w.w (le_refl c.loop-w.w)) c.requires.above c.chosen.ensures) c.loop-w.invariant.1,
+    )
 
 pub returns : goal.returns
 returns c =

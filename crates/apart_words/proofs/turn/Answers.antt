@@ -16,7 +16,11 @@ loop-w-init c =
 
 pub loop-w-preserved : goal.loop-w-preserved
 loop-w-preserved c =
-    let a = c.args in let l = c.loop-w in let k = c.loop-w-test.true in (search rules, written-more (turned_at a.x a.words.now) c.loop-w.w _ k (λ j lj. turn-said a.x c.loop-w.w c.requires.x_bound lj a.words.now (c.loop-w.invariant.1.above c.loop-w.w (le_refl c.loop-w.w)) c.turn_word.ensures) c.loop-w.invariant.1)
+    let a = c.args in let l = c.loop-w in let k = c.loop-w-test.true in (
+      search rules,
+      written-more (turned_at a.x a.words.now) c.loop-w.w _ k
+          (λ j lj. turn-said a.x c.loop-w.w c.requires.x_bound lj a.words.now (c.loop-w.invariant.1.above c.loop-w.w (le_refl c.loop-w.w)) c.turn_word.ensures) c.loop-w.invariant.1,
+    )
 
 pub returns : goal.returns
 returns c =

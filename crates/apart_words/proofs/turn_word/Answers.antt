@@ -18,5 +18,7 @@ overflow_shl-result c =
 
 pub returns : goal.returns
 returns c =
-    let a = c.args in let w = c.without-rest in subst (λ (k : ℕ). Turn a.x a.word (bit_or (bit_or (bit_and a.word c.without-rest.result) (bit_and (a.word / 2 ^ k) c.without-rest.result)) (bit_and a.word c.without-rest.result * 2 ^ k % 2 ^ 64))) (sym c.single-by.ensures)
+    let a = c.args in let w = c.without-rest in subst
+    (λ (k : ℕ). Turn a.x a.word (bit_or (bit_or (bit_and a.word c.without-rest.result) (bit_and (a.word / 2 ^ k) c.without-rest.result)) (bit_and a.word c.without-rest.result * 2 ^ k % 2 ^ 64)))
+    (sym c.single-by.ensures)
     (turn_is a.x a.word c.without-rest.result c.requires c.without-rest.ensures)

@@ -31,4 +31,5 @@ pub returns : goal.returns
 returns c =
     let a = c.args in let Q = row_questions a.table.now a.n in
     let A = c.bound.ensures in let left = c.bounded in let e = c.largest_set-l.ensures in let found : (v : ℕ) → has c.largest_set-l.result v ≡ Q.in_quorum v a.w =
-    λ v. ap (λ (x : ℕ). has x v) c.largest_set-l.ensures ∙ quorum-asked a.table.now a.n v c.bounded.result ∙ ap (Q.in_quorum v) c.bounded.ensures ∙ sym (left-same A.bounds v a.w) in record { value = c.has-2.ensures ∙ found a.receiver; asked_2 = asked-now c.bound.ensures a.w _ (λ v h. found v) }
+    λ v. ap (λ (x : ℕ). has x v) c.largest_set-l.ensures ∙ quorum-asked a.table.now a.n v c.bounded.result ∙ ap (Q.in_quorum v) c.bounded.ensures ∙ sym (left-same A.bounds v a.w) in record
+    { value = c.has-2.ensures ∙ found a.receiver; asked_2 = asked-now c.bound.ensures a.w _ (λ v h. found v) }

@@ -16,7 +16,15 @@ returns-then-now_blocked c =
 
 pub now_in_quorum-requires : goal.now_in_quorum-requires
 now_in_quorum-requires c =
-    let a = c.args in let p = c.requires in let own = c.single-own in let before = c.minus-before.ensures in let e = no-quorum-then (row_questions a.table.now a.n) a.receiver a.votes_before a.accepts_before p.accepts_before_value c.single-own.ensures c.minus-before.ensures in record { rows = p.rows; sender_lt_n = p.sender_lt_n; receiver_lt_n = p.receiver_lt_n; before_value = e; new = new-either p.new p.new_2 c.single-own.result c.minus-before.ensures c.minus-others.ensures }
+    let a = c.args in let p = c.requires in let own = c.single-own in let before = c.minus-before.ensures in let e = no-quorum-then (row_questions a.table.now a.n) a.receiver a.votes_before
+    a.accepts_before p.accepts_before_value c.single-own.ensures c.minus-before.ensures in record {
+      rows = p.rows;
+      sender_lt_n = p.sender_lt_n;
+      receiver_lt_n = p.receiver_lt_n;
+      before_value = e;
+      new = new-either p.new p.new_2 c.single-own.result c.minus-before.ensures
+          c.minus-others.ensures;
+    }
 
 pub returns : goal.returns
 returns c =

@@ -14,16 +14,25 @@ read p q x y z = record { at-votes = p; at-accepts = q; at-voted = x; at-accepte
 
 pub returns-then-not-is_not_zero : goal.returns-then-not-is_not_zero
 returns-then-not-is_not_zero c =
-    let a = c.args in let z = zero-read a.n a.state.now a.v a.side (read c.votes.ensures c.accepts.ensures c.voted.ensures c.accepted.ensures c.confirmed.ensures) ∙ sym c.is_not_zero.ensures ∙ c.if-not-is_not_zero.true in record { value = sym (silent (rows-rests c.requires.rows) a.faulty a.state.now a.v a.side c.requires.v_lt_n z); asked_2 = c.requires.asked }
+    let a = c.args in let z = zero-read a.n a.state.now a.v a.side (read c.votes.ensures c.accepts.ensures c.voted.ensures c.accepted.ensures c.confirmed.ensures) ∙ sym c.is_not_zero.ensures ∙
+    c.if-not-is_not_zero.true in record { value = sym (silent (rows-rests c.requires.rows) a.faulty a.state.now a.v a.side c.requires.v_lt_n z); asked_2 = c.requires.asked }
 
 pub returns-then-has : goal.returns-then-has
 returns-then-has c =
     let a = c.args in let Q = row_questions a.table.now a.n in
-    let zero = c.is_not_zero in record { value = sym (c.if-not-is_not_zero.false) ∙ side-faulty Q a.n a.faulty a.state.now a.v a.side (read c.votes.ensures c.accepts.ensures c.voted.ensures c.accepted.ensures c.confirmed.ensures) c.has.ensures c.if-has.true c.is_not_zero.ensures; asked_2 = c.requires.asked }
+    let zero = c.is_not_zero in record {
+      value = sym (c.if-not-is_not_zero.false) ∙ side-faulty Q a.n a.faulty a.state.now a.v a.side
+          (read c.votes.ensures c.accepts.ensures c.voted.ensures c.accepted.ensures c.confirmed.ensures) c.has.ensures c.if-has.true c.is_not_zero.ensures;
+      asked_2 = c.requires.asked;
+    }
 
 pub returns-then-is_not_own : goal.returns-then-is_not_own
 returns-then-is_not_own c =
-    let a = c.args in let Q = row_questions a.table.now a.n in record { value = side-own Q a.n a.faulty a.state.now a.v a.side (read c.votes.ensures c.accepts.ensures c.voted.ensures c.accepted.ensures c.confirmed.ensures) c.has.ensures c.if-has.false c.is_not_own.ensures c.if-is_not_own.true; asked_2 = c.requires.asked }
+    let a = c.args in let Q = row_questions a.table.now a.n in record {
+      value = side-own Q a.n a.faulty a.state.now a.v a.side (read c.votes.ensures c.accepts.ensures c.voted.ensures c.accepted.ensures c.confirmed.ensures) c.has.ensures c.if-has.false
+          c.is_not_own.ensures c.if-is_not_own.true;
+      asked_2 = c.requires.asked;
+    }
 
 pub returns-then-is_not_sent : goal.returns-then-is_not_sent
 returns-then-is_not_sent c =

@@ -27,11 +27,13 @@ is_bad_side-requires c =
 
 pub returns-then-is_bad_side : goal.returns-then-is_bad_side
 returns-then-is_bad_side c =
-    let a = c.args in let r = c.is_bad_side.ensures in record { value = sides-bad (row_questions a.table.now a.n) a.n a.faulty a.state.now a.v r.value c.loop-side.invariant.1 c.loop-side-test.true c.if-is_bad_side.true; asked_2 = r.asked_2 }
+    let a = c.args in let r = c.is_bad_side.ensures in record
+    { value = sides-bad (row_questions a.table.now a.n) a.n a.faulty a.state.now a.v r.value c.loop-side.invariant.1 c.loop-side-test.true c.if-is_bad_side.true; asked_2 = r.asked_2 }
 
 pub loop-side-preserved : goal.loop-side-preserved
 loop-side-preserved c =
-    let a = c.args in let r = c.is_bad_side.ensures in (search rules, some_more c.loop-side.side (bad_side (row_questions a.table.now a.n) a.n a.faulty a.state.now a.v) c.loop-side.invariant.1 (sym r.value ∙ c.if-is_bad_side.false), r.asked_2)
+    let a = c.args in let r = c.is_bad_side.ensures in
+    (search rules, some_more c.loop-side.side (bad_side (row_questions a.table.now a.n) a.n a.faulty a.state.now a.v) c.loop-side.invariant.1 (sym r.value ∙ c.if-is_bad_side.false), r.asked_2)
 
 pub returns : goal.returns
 returns c =

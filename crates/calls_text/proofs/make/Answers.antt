@@ -46,10 +46,12 @@ loop-at-preserved c =
 
 pub returns-in-Not : goal.returns-in-Not
 returns-in-Not c =
-    let t = c.take-took in let l = c.loop-at in let a = c.args in let inv = c.loop-at.invariant in let r = after-fault a.text.now a.room.now c.loop-at.room c.take-took.new.room c.loop-at.number c.loop-at.at c.loop-at.n c.upto-end.result c.line_at-line.result
+    let t = c.take-took in let l = c.loop-at in let a = c.args in let inv = c.loop-at.invariant in let r = after-fault a.text.now a.room.now c.loop-at.room c.take-took.new.room c.loop-at.number
+    c.loop-at.at c.loop-at.n c.upto-end.result c.line_at-line.result
     (omega arith) inv.4 c.upto-end.ensures c.line_at-line.ensures inv.6
     c.in-Not.what inv.5 (sym c.take-took.ensures.answer ∙ c.in-Not.is) c.take-took.ensures.memory in record { answer = r.0; memory = r.1 }
 
 pub returns : goal.returns
 returns c =
-    let l = c.loop-at in let a = c.args in let r = after-all a.text.now a.room.now c.loop-at.room c.loop-at.number c.loop-at.at c.loop-at.n c.loop-at-test.false c.loop-at.invariant.4 c.loop-at.invariant.5 c.loop-at.invariant.6 in record { answer = r.0; memory = r.1 }
+    let l = c.loop-at in let a = c.args in let r = after-all a.text.now a.room.now c.loop-at.room c.loop-at.number c.loop-at.at c.loop-at.n c.loop-at-test.false c.loop-at.invariant.4
+    c.loop-at.invariant.5 c.loop-at.invariant.6 in record { answer = r.0; memory = r.1 }

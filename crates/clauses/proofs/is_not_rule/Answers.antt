@@ -5,7 +5,8 @@ use Rattle.clauses.proofs.is_not_rule.Goals as goal
 
 pub returns-then-differ : goal.returns-then-differ
 returns-then-differ c =
-    let a = c.args in let r = c.is_accepting.ensures in record { value = rule-accepted (row_questions a.table.now a.n) a.v a.votes a.accepts a.accepted a.confirmed c.has.ensures r.value c.differ.ensures c.if-differ.true; asked_2 = r.asked_2 }
+    let a = c.args in let r = c.is_accepting.ensures in record
+    { value = rule-accepted (row_questions a.table.now a.n) a.v a.votes a.accepts a.accepted a.confirmed c.has.ensures r.value c.differ.ensures c.if-differ.true; asked_2 = r.asked_2 }
 
 pub returns : goal.returns
 returns c =

@@ -55,4 +55,5 @@ pub returns : goal.returns
 unfolding read_into
 returns c =
     let a = c.args in let b = a.image.now in
-    let e = whole-blocks (length b) c.if-n-eq0.false c.if-image-ne0.false c.if-n-gt64.false in record { answer = sym (read-sites b (length a.room.now) e c.if-room-n.false (sym c.check_blocks-q.ensures ∙ c.in_default.is)); memory = c.load_blocks.ensures }
+    let e = whole-blocks (length b) c.if-n-eq0.false c.if-image-ne0.false c.if-n-gt64.false in record
+    { answer = sym (read-sites b (length a.room.now) e c.if-room-n.false (sym c.check_blocks-q.ensures ∙ c.in_default.is)); memory = c.load_blocks.ensures }

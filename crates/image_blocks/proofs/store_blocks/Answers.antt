@@ -16,7 +16,8 @@ loop-i-init c =
 
 pub store_block-requires : goal.store_block-requires
 store_block-requires c =
-    let t = c.args.table.now in let l = c.loop-i in let p = c.requires in let sound = checked-sites t c.args.n p.table_len (omega arith) p.n_bound p.table_value in record { m_len = search rules; b_len = search rules; m_bound = rw (part_cut 63 c.loop-i.i t) (sound.few-slices c.loop-i.i c.loop-i-test.true); i_bound = omega arith; n_bound = omega arith }
+    let t = c.args.table.now in let l = c.loop-i in let p = c.requires in let sound = checked-sites t c.args.n p.table_len (omega arith) p.n_bound p.table_value in record
+    { m_len = search rules; b_len = search rules; m_bound = rw (part_cut 63 c.loop-i.i t) (sound.few-slices c.loop-i.i c.loop-i-test.true); i_bound = omega arith; n_bound = omega arith }
 
 pub loop-i-preserved : goal.loop-i-preserved
 loop-i-preserved c =

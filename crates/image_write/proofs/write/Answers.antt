@@ -42,4 +42,5 @@ pub returns : goal.returns
 unfolding write_into
 returns c =
     let a = c.args in let t = a.table.now in
-    let e = well-shaped (length t) c.if-table-ne0.false c.if-n-eq0.false c.if-n-gt64.false in record { answer = sym (write-sites t (length a.room.now) e c.if-room-n.false _ (sym c.check_sites-q.ensures ∙ c.in_default.is)); memory = c.store_blocks.ensures }
+    let e = well-shaped (length t) c.if-table-ne0.false c.if-n-eq0.false c.if-n-gt64.false in record
+    { answer = sym (write-sites t (length a.room.now) e c.if-room-n.false _ (sym c.check_sites-q.ensures ∙ c.in_default.is)); memory = c.store_blocks.ensures }

@@ -17,7 +17,8 @@ inside_met-requires c =
 
 pub inside_listed-requires : goal.inside_listed-requires
 inside_listed-requires c =
-    let p = c.requires in let l = c.if-n-v.false in let o = sym c.of_sets.ensures ∙ c.if-of_sets.false in record { table_len = p.rows.long; listed_row = p.rows.listed c.args.v l o; n_bound = p.n_bound; v_lt_n = l; above = p.above; empty = p.empty }
+    let p = c.requires in let l = c.if-n-v.false in let o = sym c.of_sets.ensures ∙ c.if-of_sets.false in record
+    { table_len = p.rows.long; listed_row = p.rows.listed c.args.v l o; n_bound = p.n_bound; v_lt_n = l; above = p.above; empty = p.empty }
 
 pub returns : goal.returns
 returns c =

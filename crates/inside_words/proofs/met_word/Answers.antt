@@ -23,7 +23,8 @@ loop-j-preserved c =
     let h = c.has_met.ensures in (
       search rules,
       (elim c.if-has_met.branch [
-        | then-has_met w ↦ w.word-is ∙ ap (bit_or c.loop-j.word) w.single-word.ensures ∙ ap (λ (m : ℕ). bit_or m (2 ^ c.loop-j.j)) c.loop-j.invariant.1 ∙ sym (gather-in c.loop-j.j p (sym c.has_met.ensures ∙ w.if-has_met.true)) ∙ ap (λ (k : ℕ). gather k p) (sym (add-one c.loop-j.j))
+        | then-has_met w ↦ w.word-is ∙ ap (bit_or c.loop-j.word) w.single-word.ensures ∙ ap (λ (m : ℕ). bit_or m (2 ^ c.loop-j.j)) c.loop-j.invariant.1 ∙ sym
+            (gather-in c.loop-j.j p (sym c.has_met.ensures ∙ w.if-has_met.true)) ∙ ap (λ (k : ℕ). gather k p) (sym (add-one c.loop-j.j))
         | else-has_met w ↦ w.word-is ∙ c.loop-j.invariant.1 ∙ sym (gather-out c.loop-j.j p (sym c.has_met.ensures ∙ w.if-has_met.false)) ∙ ap (λ (k : ℕ). gather k p) (sym (add-one c.loop-j.j))
       ]),
     )

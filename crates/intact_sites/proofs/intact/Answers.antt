@@ -35,7 +35,12 @@ returns-then-left-eq0 c =
 pub intact-requires : goal.intact-requires
 intact-requires c =
     let a = c.args in let i = (rules_of a.table.now).inside in
-    let b = c.beside-left in record { rows = c.requires.rows; n_bound = c.requires.n_bound; left_value = subst (λ (x : ℕ). quorum i a.n x ≡ true) (sym c.beside-left.ensures) (left-quorum i a.n a.f (λ z. c.if-left-eq0.false (c.beside-left.ensures ∙ z))) }
+    let b = c.beside-left in record {
+      rows = c.requires.rows;
+      n_bound = c.requires.n_bound;
+      left_value = subst (λ (x : ℕ). quorum i a.n x ≡ true) (sym c.beside-left.ensures)
+          (left-quorum i a.n a.f (λ z. c.if-left-eq0.false (c.beside-left.ensures ∙ z)));
+    }
 
 pub returns : goal.returns
 returns c =

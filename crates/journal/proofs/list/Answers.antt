@@ -32,4 +32,8 @@ returns-in-Refused c =
 pub returns-else-room-bytes : goal.returns-else-room-bytes
 unfolding list_into
 returns-else-room-bytes c =
-    let j = c.args.journal.now in let room = c.args.room.now in let w = whole j _ _ (sym c.check-q.ensures ∙ c.in-Sound.is) in record { answer = sym (list_read j (length room) w.passed (omega (arith, w.bytes, c.if-room-bytes.false)) ∙ ap Listed.Bytes w.bytes); memory = c.list_blocks.ensures ∙ ap (λ (x : ℕ). list_of j ++ drop x room) w.bytes }
+    let j = c.args.journal.now in let room = c.args.room.now in let w = whole j _ _ (sym c.check-q.ensures ∙ c.in-Sound.is) in record {
+      answer = sym (list_read j (length room) w.passed (omega (arith, w.bytes, c.if-room-bytes.false)) ∙ ap Listed.Bytes w.bytes);
+      memory = c.list_blocks.ensures ∙ ap
+          (λ (x : ℕ). list_of j ++ drop x room) w.bytes;
+    }

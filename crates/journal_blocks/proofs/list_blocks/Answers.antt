@@ -44,7 +44,11 @@ slice_bounds-copy_calls-end-in-loop-i c =
 pub copy_calls-requires : goal.copy_calls-requires
 copy_calls-requires c =
     let l = c.loop-i in let j = c.args.journal.now in let n = count-read j c.loop-i.i _ c.calls_in.ensures in
-    let size = c.loop-i.at + 4 * c.calls_in.result - c.loop-i.at in record { b_len = search rules; room_len_bound = omega (arith, n, few j c.args.k c.requires.journal_len c.requires.journal_value c.loop-i.i c.loop-i-test.true, length-take size (drop c.loop-i.at c.loop-i.room)) }
+    let size = c.loop-i.at + 4 * c.calls_in.result - c.loop-i.at in record {
+      b_len = search rules;
+      room_len_bound = omega
+          (arith, n, few j c.args.k c.requires.journal_len c.requires.journal_value c.loop-i.i c.loop-i-test.true, length-take size (drop c.loop-i.at c.loop-i.room));
+    }
 
 pub loop-i-preserved : goal.loop-i-preserved
 loop-i-preserved c =

@@ -1,13 +1,17 @@
 -- `put_calls` meets its contract: after j turns the first j of the 500 bytes stand in the block.
 use Prim.Native.Nat.{ℕ, ◌-◌, ◌≤◌}
 use mathlib.Core.List.{List, ◌++◌}
-use mathlib.Core.Path.{◌≡◌, ap, ap₂, ◌∙◌}
+use mathlib.Core.Path.{◌≡◌, refl, sym, ap, ap₂, ◌∙◌}
 use native.Mathlib.Omega.{arith}
 use lib.ListN.{length, take, drop, length-set}
-use lib.Seq.{paste, take_all}
+use lib.Seq.{paste, paste-zero, take_all}
 use Rattle.journal_block.specs.Block.{call_bytes}
-use Rattle.journal_calls.proofs.Copying.{turn, paste-head, paste-rest, call-bytes-long, call-byte, filler-byte}
+use Rattle.journal_calls.proofs.Copying.{turn, paste-head, paste-rest, paste-again, call-bytes-long, call-byte, filler-byte}
 use Rattle.journal_calls.proofs.put_calls.Goals as goal
+
+pub loop-j-init : goal.loop-j-init
+loop-j-init c =
+    (omega arith, refl, paste-zero c.args.b.now 4 (call_bytes c.args.calls.now))
 
 pub loop-j-preserved : goal.loop-j-preserved
 loop-j-preserved c =
@@ -16,6 +20,16 @@ loop-j-preserved c =
       simp length-set c.loop-j.invariant.1,
       turn c.args.b.now c.loop-j.b (call_bytes calls) 4 c.loop-j.j _ c.loop-j.invariant.2 (omega arith) (omega (arith, call-bytes-long calls c.requires.calls_len_bound))
           (call-byte calls c.requires.calls_len_bound c.loop-j.j c.loop-j-test.true),
+    )
+
+pub loop-j-2-init : goal.loop-j-2-init
+loop-j-2-init c =
+    let calls = c.args.calls.now in let i = c.loop-j.invariant in (
+      omega arith,
+      omega (arith, i.0, c.requires.calls_len_bound),
+      refl,
+      i.2 ∙ paste-again c.args.b.now (call_bytes calls) c.loop-j.j (omega (arith, c.requires.b_len)) (omega (arith, call-bytes-long calls c.requires.calls_len_bound, i.0, c.requires.calls_len_bound))
+          ∙ ap (λ (x : List ℕ). paste x 4 (call_bytes calls) c.loop-j.j) (sym i.2),
     )
 
 pub loop-j-2-preserved : goal.loop-j-2-preserved

@@ -47,4 +47,9 @@ pub returns : goal.returns
 returns c =
     let a = c.args in let t = a.table.now in
     let k = c.next_inside-i in let l : count_of t a.v ≤ c.next_inside-i.result = subst (λ (x : ℕ). x ≤ c.next_inside-i.result) (sym (count_at t a.v)) c.if-i-table.false in
-    let before = c.requires.places.at a.v c.requires.v_lt_n c.requires.v (listed-so c.requires.listed_row) in record { value = sym (row-missed c.requires.listed_row a.w (λ i m. passed_to t before c.next_inside-i.ensures.by_index i (lt_of_lt_of_le m l))); places_2 = c.requires.places; slices_held_2 = c.requires.slices_held }
+    let before = c.requires.places.at a.v c.requires.v_lt_n c.requires.v (listed-so c.requires.listed_row) in record {
+      value = sym (row-missed c.requires.listed_row a.w (λ i m. passed_to t before c.next_inside-i.ensures.by_index i (lt_of_lt_of_le m l)));
+      places_2 = c.requires.places;
+      slices_held_2 =
+          c.requires.slices_held;
+    }

@@ -25,7 +25,13 @@ loop-rest-init c =
 
 pub stays_held-requires : goal.stays_held-requires
 stays_held-requires c =
-    let a = c.args in let l = c.loop-rest in let v = c.first_member-v in let m = asked-member c.first_member-v.ensures.1 c.loop-rest.invariant.0 in record { rows = c.requires.rows; v_lt_n = is-site a.n a.w m; v = (and-⊆-l a.w (all_below a.n)).each c.first_member-v.result m; places = c.loop-rest.invariant.1; slices_held = c.loop-rest.invariant.2 }
+    let a = c.args in let l = c.loop-rest in let v = c.first_member-v in let m = asked-member c.first_member-v.ensures.1 c.loop-rest.invariant.0 in record {
+      rows = c.requires.rows;
+      v_lt_n = is-site a.n a.w m;
+      v = (and-⊆-l a.w (all_below a.n)).each c.first_member-v.result m;
+      places = c.loop-rest.invariant.1;
+      slices_held = c.loop-rest.invariant.2;
+    }
 
 pub single-requires : goal.single-requires
 single-requires c =
@@ -54,4 +60,9 @@ loop-rest-preserved c =
 pub returns : goal.returns
 returns c =
     let a = c.args in let t = a.table.now in
-    let l = c.loop-rest in let part = ⊆-trans c.loop-rest.invariant.0.part (and-⊆-l a.w (all_below a.n)) in record { value = ⊆-antisym (asked-all c.loop-rest-test.false c.loop-rest.invariant.0) c.loop-rest.invariant.0.keeps; places_2 = places-less t a.n part c.loop-rest.invariant.1; slices_held_2 = held-less t a.n part c.loop-rest.invariant.2 }
+    let l = c.loop-rest in let part = ⊆-trans c.loop-rest.invariant.0.part (and-⊆-l a.w (all_below a.n)) in record {
+      value = ⊆-antisym (asked-all c.loop-rest-test.false c.loop-rest.invariant.0) c.loop-rest.invariant.0.keeps;
+      places_2 = places-less t a.n part c.loop-rest.invariant.1;
+      slices_held_2 =
+          held-less t a.n part c.loop-rest.invariant.2;
+    }

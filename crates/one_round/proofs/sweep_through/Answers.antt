@@ -28,7 +28,13 @@ loop-rest-init c =
 
 pub stays-requires : goal.stays-requires
 stays-requires c =
-    let l = c.loop-rest in let v = c.first_member-v in record { rows = c.requires.rows; v_lt_n = is-site c.args.n c.args.w (asked-member c.first_member-v.ensures.1 c.loop-rest.invariant.0); v = c.loop-rest.invariant.0.to-ask.each c.first_member-v.result c.first_member-v.ensures.1; places = c.loop-rest.invariant.1 }
+    let l = c.loop-rest in let v = c.first_member-v in record {
+      rows = c.requires.rows;
+      v_lt_n = is-site c.args.n c.args.w (asked-member c.first_member-v.ensures.1 c.loop-rest.invariant.0);
+      v = c.loop-rest.invariant.0.to-ask.each c.first_member-v.result
+          c.first_member-v.ensures.1;
+      places = c.loop-rest.invariant.1;
+    }
 
 pub single-requires : goal.single-requires
 single-requires c =

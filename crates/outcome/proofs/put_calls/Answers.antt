@@ -28,7 +28,12 @@ put_call-end-requires c =
 
 pub loop-i-preserved : goal.loop-i-preserved
 loop-i-preserved c =
-    let l = c.loop-i in let p = c.put_call-end in (omega arith, c.put_call-end.auto.room ∙ c.loop-i.invariant.1, row_more (row c.args.list.now c.args.answers.now) c.loop-i.i c.loop-i.invariant.2 c.put_call-end.ensures (omega (arith, c.requires.answers_in_bounds)))
+    let l = c.loop-i in let p = c.put_call-end in (
+      omega arith,
+      c.put_call-end.auto.room ∙ c.loop-i.invariant.1,
+      row_more (row c.args.list.now c.args.answers.now) c.loop-i.i c.loop-i.invariant.2 c.put_call-end.ensures
+          (omega (arith, c.requires.answers_in_bounds)),
+    )
 
 pub shape_of-room : goal.shape_of-room
 shape_of-room c =

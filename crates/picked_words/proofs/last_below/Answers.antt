@@ -25,7 +25,8 @@ pub returns-then-word-ne0 : goal.returns-then-word-ne0
 returns-then-word-ne0 c =
     let a = c.args in let w = a.end / 64 in
     let word = get_or a.sets.now w 0 in
-    let b = c.all_below in let e = c.last.ensures in found_in a.sets.now w (a.end % 64) a.end (bit_and word c.all_below.result) c.last.result (omega arith) (omega arith) (λ y l. cut word (a.end % 64) c.all_below.result y c.all_below.ensures l)
+    let b = c.all_below in let e = c.last.ensures in found_in a.sets.now w (a.end % 64) a.end (bit_and word c.all_below.result) c.last.result (omega arith) (omega arith)
+    (λ y l. cut word (a.end % 64) c.all_below.result y c.all_below.ensures l)
     (few word (a.end % 64) c.all_below.result c.last.result c.all_below.ensures e.member) (λ u p q. absurd (none a.end p q)) c.last.ensures
   where
     none : (end : ℕ) {u : ℕ} → end / 64 * 64 + end % 64 ≤ u → u < end → ⊥

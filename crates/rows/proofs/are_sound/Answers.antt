@@ -5,8 +5,12 @@ use native.Mathlib.Omega.{arith}
 use lib.ListN.{get_or}
 use borrow.Author.Rules.{rules}
 use Rattle.rows.specs.Site.{slice}
-use Rattle.rows.proofs.Row.{gathers-more, gathers-sound}
+use Rattle.rows.proofs.Row.{gathers-first, gathers-more, gathers-sound}
 use Rattle.rows.proofs.are_sound.Goals as goal
+
+pub loop-k-init : goal.loop-k-init
+loop-k-init c =
+    let e = c.gather_first-g.ensures in (search rules, gathers-first (slice c.args.m.now) _ _ _ e.0 e.1)
 
 pub loop-k-preserved : goal.loop-k-preserved
 loop-k-preserved c =

@@ -17,7 +17,12 @@ is_met-requires c =
     let S = c.requires.rows.sets a.v c.requires.v_lt_n c.requires.v_value in
     let some : 1 ≤ count_of t a.v - 64 = S.some-set in
     let few : count_of t a.v - 64 ≤ 49 = S.few-sets in
-    let long = c.requires.rows.long in record { m_len = subst (λ (m : List ℕ). length m ≡ 63) e (length_part 63 a.v a.n t c.requires.v_lt_n (omega arith)); bound = subst (λ (m : List ℕ). 65 ≤ get_or m 0 0) e (omega arith); m_bound = subst (λ (m : List ℕ). get_or m 0 0 ≤ 113) e (omega arith) }
+    let long = c.requires.rows.long in record {
+      m_len = subst (λ (m : List ℕ). length m ≡ 63) e (length_part 63 a.v a.n t c.requires.v_lt_n (omega arith));
+      bound = subst (λ (m : List ℕ). 65 ≤ get_or m 0 0) e (omega arith);
+      m_bound = subst
+          (λ (m : List ℕ). get_or m 0 0 ≤ 113) e (omega arith);
+    }
 
 pub returns : goal.returns
 returns c =

@@ -18,7 +18,13 @@ pub returns-then-within : goal.returns-then-within
 returns-then-within c =
     let a = c.args in let t = a.table.now in
     let l = c.loop-i in let few : c.loop-i.i < 62 = omega arith in
-    let e = count_at t a.v in record { upper_bound = omega arith; u_value = λ h. ap (λ (q : ℕ). within q a.u) (slice_at t a.v c.loop-i.i few) ∙ sym c.within.ensures ∙ c.if-within.true; by_index = λ k m h. c.loop-i.invariant.1 k h m; lower_bound = λ h. c.loop-i.invariant.2 }
+    let e = count_at t a.v in record {
+      upper_bound = omega arith;
+      u_value = λ h. ap (λ (q : ℕ). within q a.u) (slice_at t a.v c.loop-i.i few) ∙ sym c.within.ensures ∙ c.if-within.true;
+      by_index = λ k
+          m h. c.loop-i.invariant.1 k h m;
+      lower_bound = λ h. c.loop-i.invariant.2;
+    }
 
 pub loop-i-preserved : goal.loop-i-preserved
 loop-i-preserved c =
@@ -29,4 +35,10 @@ loop-i-preserved c =
 pub returns : goal.returns
 returns c =
     let a = c.args in let l = c.loop-i in let e = count_at a.table.now a.v in
-    let beyond = lt_irrefl (count_of a.table.now a.v) in record { upper_bound = omega arith; u_value = λ h. absurd (beyond (subst (λ (k : ℕ). k < count_of a.table.now a.v) (sym e) h)); by_index = λ k m h. c.loop-i.invariant.1 k (lt_of_lt_of_le h c.loop-i-test.false) m; lower_bound = λ h. absurd (beyond (subst (λ (k : ℕ). k < count_of a.table.now a.v) (sym e) h)) }
+    let beyond = lt_irrefl (count_of a.table.now a.v) in record {
+      upper_bound = omega arith;
+      u_value = λ h. absurd (beyond (subst (λ (k : ℕ). k < count_of a.table.now a.v) (sym e) h));
+      by_index = λ k m h. c.loop-i.invariant.1 k
+          (lt_of_lt_of_le h c.loop-i-test.false) m;
+      lower_bound = λ h. absurd (beyond (subst (λ (k : ℕ). k < count_of a.table.now a.v) (sym e) h));
+    }

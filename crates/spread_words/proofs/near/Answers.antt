@@ -9,4 +9,8 @@ use Rattle.spread_words.proofs.near.Goals as goal
 
 pub loop-k-preserved : goal.loop-k-preserved
 loop-k-preserved c =
-    let old = c.args.words.now in let l = c.loop-k in (search rules, subst (λ (w : List ℕ). Joined near_place old (c.loop-k.k + 1) w) (sym c.join.ensures) (joined-more near_place near-inside near-alone c.loop-k.k c.loop-k-test.true c.loop-k.invariant.1))
+    let old = c.args.words.now in let l = c.loop-k in (
+      search rules,
+      subst (λ (w : List ℕ). Joined near_place old (c.loop-k.k + 1) w) (sym c.join.ensures)
+          (joined-more near_place near-inside near-alone c.loop-k.k c.loop-k-test.true c.loop-k.invariant.1),
+    )

@@ -15,7 +15,8 @@ line_sides-at-requires-2 c =
 
 pub line_sides-at-requires-3 : goal.line_sides-at-requires-3
 line_sides-at-requires-3 c =
-    let a = c.args in let b = c.voted-base.result in omega (arith, length-sides (ascii "voted ") (get_or a.state.now b 0) (get_or a.state.now (b + 1) 0), length-sides (ascii "accepted ") (get_or a.state.now (b + 2) 0) (get_or a.state.now (b + 3) 0))
+    let a = c.args in let b = c.voted-base.result in omega
+    (arith, length-sides (ascii "voted ") (get_or a.state.now b 0) (get_or a.state.now (b + 1) 0), length-sides (ascii "accepted ") (get_or a.state.now (b + 2) 0) (get_or a.state.now (b + 3) 0))
 
 pub put_sites-requires : goal.put_sites-requires
 put_sites-requires c =

@@ -24,7 +24,8 @@ loop-v-init c = (
 pub put_row-end-requires : goal.put_row-end-requires
 put_row-end-requires c =
     let a = c.args in let T = c.requires.table in let l = c.loop-v in let h : l.v < a.n = c.loop-v-test.true in let z : 63 * a.n ≤ length a.table.now = omega (arith, T.long) in
-    let e = part_cut 63 c.loop-v.v a.table.now in record { m_len = rw e (length_part 63 c.loop-v.v a.n a.table.now h z); m_bound = rw e (T.few-slices c.loop-v.v h); v_bound = omega (arith, T.few-sites); at_in_bounds = omega (arith, T.few-sites) }
+    let e = part_cut 63 c.loop-v.v a.table.now in record
+    { m_len = rw e (length_part 63 c.loop-v.v a.n a.table.now h z); m_bound = rw e (T.few-slices c.loop-v.v h); v_bound = omega (arith, T.few-sites); at_in_bounds = omega (arith, T.few-sites) }
 
 pub loop-v-preserved : goal.loop-v-preserved
 loop-v-preserved c =

@@ -25,7 +25,8 @@ slice_bounds-show-end-in-Sites c =
 
 pub show-requires : goal.show-requires
 show-requires c =
-    let a = c.args in let h = sym c.read-q.ensures.answer ∙ c.in-Sites.is in record { table_value = ap check (in-front a.image.now _ h _ _ (c.read-q.ensures.memory ∙ ap (λ x. read_into x a.image.now _) c.in-Sites.is)) ∙ loaded a.image.now _ h; in_bounds = search rules }
+    let a = c.args in let h = sym c.read-q.ensures.answer ∙ c.in-Sites.is in record
+    { table_value = ap check (in-front a.image.now _ h _ _ (c.read-q.ensures.memory ∙ ap (λ x. read_into x a.image.now _) c.in-Sites.is)) ∙ loaded a.image.now _ h; in_bounds = search rules }
 
 pub returns-in-Sites : goal.returns-in-Sites
 returns-in-Sites c =

@@ -14,7 +14,8 @@ returns-then-many-gt49 c =
 
 pub returns-in_default : goal.returns-in_default
 returns-in_default c =
-    let a = c.args in let many = c.get16-many.ensures in let e = c.in_default.is in e ∙ sym (set-refused a.n a.place a.b.now (λ z. omega (arith, c.get16-many.ensures)) (omega (arith, c.get16-many.ensures)) c.get16-many.ensures c.check_sets-q.ensures _ e)
+    let a = c.args in let many = c.get16-many.ensures in let e = c.in_default.is in e ∙ sym
+    (set-refused a.n a.place a.b.now (λ z. omega (arith, c.get16-many.ensures)) (omega (arith, c.get16-many.ensures)) c.get16-many.ensures c.check_sets-q.ensures _ e)
 
 pub returns-then-is_unfilled : goal.returns-then-is_unfilled
 returns-then-is_unfilled c =

@@ -28,7 +28,13 @@ pub enter-depth-requires : goal.enter-depth-requires
 enter-depth-requires c =
     let l = c.loop-i in let a = c.args in let S = sets_in a.b.now in
     let d = kept-depth S c.loop-i.i c.loop-i.levels c.loop-i.depth c.loop-i.invariant.2 in
-    let s = set-sound a.n a.place S c.loop-i.i (sym c.check_set-q.ensures ∙ c.in-Sound.is) in record { levels_len = c.loop-i.invariant.1; le_depth = omega (arith, d, s.own-in-root); depth_bound = omega (arith, d, s.own-level); bound = innermost-owes S c.loop-i.i c.loop-i.levels c.loop-i.depth c.loop-i.invariant.2 (omega (arith, d, s.own-in-root)) }
+    let s = set-sound a.n a.place S c.loop-i.i (sym c.check_set-q.ensures ∙ c.in-Sound.is) in record {
+      levels_len = c.loop-i.invariant.1;
+      le_depth = omega (arith, d, s.own-in-root);
+      depth_bound = omega (arith, d, s.own-level);
+      bound = innermost-owes S c.loop-i.i c.loop-i.levels c.loop-i.depth
+          c.loop-i.invariant.2 (omega (arith, d, s.own-in-root));
+    }
 
 pub loop-i-preserved : goal.loop-i-preserved
 loop-i-preserved c =

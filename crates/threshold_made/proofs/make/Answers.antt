@@ -19,7 +19,12 @@ returns-then-room-k c =
 
 pub store_all-requires : goal.store_all-requires
 store_all-requires c =
-    let w = c.walk-s in let a = c.args in let h = few a.text.now c.walk-s.result c.answer_of-m.result c.walk-s.ensures.0 c.answer_of-m.ensures in record { t_len = ap length c.walk-s.ensures.1 ∙ (text-length a.text.now (replicate 9472 0) ∙ length-replicate {A = ℕ} 9472 0); n_bound = omega (arith, h, c.blocks_in-k.ensures); n_in_bounds = omega arith }
+    let w = c.walk-s in let a = c.args in let h = few a.text.now c.walk-s.result c.answer_of-m.result c.walk-s.ensures.0 c.answer_of-m.ensures in record {
+      t_len = ap length c.walk-s.ensures.1 ∙ (text-length a.text.now (replicate 9472 0) ∙ length-replicate {A = ℕ} 9472 0);
+      n_bound = omega (arith, h, c.blocks_in-k.ensures);
+      n_in_bounds = omega
+          arith;
+    }
 
 pub returns : goal.returns
 returns c =

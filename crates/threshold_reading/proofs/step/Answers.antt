@@ -9,7 +9,8 @@ use Rattle.threshold_reading.proofs.step.Goals as goal
 
 pub spoken-r-requires : goal.spoken-r-requires
 spoken-r-requires c =
-    let p = c.requires in let s = c.args.s in let h = p.few (threshold_own s.v) s.set p.threshold_sane.2 in record { threshold_sane = p.threshold_sane; line_bound = p.line_bound; inner_bound = omega (arith, h, ap (λ (z : Held). z.inner) c.hold-h.ensures) }
+    let p = c.requires in let s = c.args.s in let h = p.few (threshold_own s.v) s.set p.threshold_sane.2 in record
+    { threshold_sane = p.threshold_sane; line_bound = p.line_bound; inner_bound = omega (arith, h, ap (λ (z : Held). z.inner) c.hold-h.ensures) }
 
 pub enact-requires : goal.enact-requires
 enact-requires c =

@@ -25,7 +25,13 @@ loop-i-init c =
 
 pub hear-s-requires : goal.hear-s-requires
 hear-s-requires c =
-    let l = c.loop-i in let a = c.args in record { t_len = c.loop-i.invariant.1 ∙ (ap length c.requires ∙ length-replicate {A = ℕ} 9472 0); threshold_sane = c.loop-i.invariant.3; line_bound = omega arith; few = (λ u i h. let g = c.loop-i.invariant.4 u i h in omega (arith, g)) }
+    let l = c.loop-i in let a = c.args in record {
+      t_len = c.loop-i.invariant.1 ∙ (ap length c.requires ∙ length-replicate {A = ℕ} 9472 0);
+      threshold_sane = c.loop-i.invariant.3;
+      line_bound = omega arith;
+      few =
+          (λ u i h. let g = c.loop-i.invariant.4 u i h in omega (arith, g));
+    }
 
 pub loop-i-preserved : goal.loop-i-preserved
 loop-i-preserved c =
@@ -42,7 +48,13 @@ loop-i-preserved c =
 
 pub hear-requires : goal.hear-requires
 hear-requires c =
-    let l = c.loop-i in let a = c.args in record { t_len = c.loop-i.invariant.1 ∙ (ap length c.requires ∙ length-replicate {A = ℕ} 9472 0); threshold_sane = c.loop-i.invariant.3; line_bound = omega arith; few = (λ u i h. let g = c.loop-i.invariant.4 u i h in omega (arith, g)) }
+    let l = c.loop-i in let a = c.args in record {
+      t_len = c.loop-i.invariant.1 ∙ (ap length c.requires ∙ length-replicate {A = ℕ} 9472 0);
+      threshold_sane = c.loop-i.invariant.3;
+      line_bound = omega arith;
+      few =
+          (λ u i h. let g = c.loop-i.invariant.4 u i h in omega (arith, g));
+    }
 
 pub returns : goal.returns
 returns c =

@@ -3,7 +3,7 @@ use Prim.Native.Nat.{ℕ, ◌+◌, ◌-◌}
 use mathlib.Core.Path.{ap}
 use native.Mathlib.Omega.{arith}
 use lib.ListN.{set, length-set}
-use Rattle.threshold_row.proofs.Load.{masks-hold, masks-again}
+use Rattle.threshold_row.proofs.Load.{masks-hold, masks-again, masks-done}
 use Rattle.threshold_row.proofs.load_masks.Goals as goal
 
 pub loop-i-init : goal.loop-i-init
@@ -24,3 +24,7 @@ loop-i-preserved c =
       masks-again a.b.now c.loop-i.m (set a.m.now 0 (64 + c.get16.result)) c.loop-i.i c.get64.result
           (rw c.loop-i.invariant.1 (omega arith)) c.loop-i.invariant.3 c.get64.ensures,
     )
+
+pub returns : goal.returns
+returns c =
+    let l = c.loop-i in let a = c.args in masks-done a.b.now c.loop-i.m a.m.now c.loop-i.i (64 + c.get16.result) (omega arith) c.loop-i.invariant.3

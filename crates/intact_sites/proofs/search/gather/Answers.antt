@@ -35,12 +35,20 @@ loop-rest-init c =
 
 pub spared-set-requires : goal.spared-set-requires
 spared-set-requires c =
-    let a = c.args in let p = c.requires in let l = c.loop-rest in let k = c.loop-rest.invariant.3 c.loop-rest-test.true in record { rows = p.rows; n_bound = p.n_bound; rest_value = k.0; above = p.above; contents = contents-fewer (rules_of a.table.now) (outside-larger a.n k.1) p.contents; pairs_2 = c.loop-rest.invariant.1 }
+    let a = c.args in let p = c.requires in let l = c.loop-rest in let k = c.loop-rest.invariant.3 c.loop-rest-test.true in record {
+      rows = p.rows;
+      n_bound = p.n_bound;
+      rest_value = k.0;
+      above = p.above;
+      contents = contents-fewer (rules_of a.table.now) (outside-larger a.n k.1) p.contents;
+      pairs_2 = c.loop-rest.invariant.1;
+    }
 
 pub returns-then-set-left : goal.returns-then-set-left
 returns-then-set-left c =
     let a = c.args in let p = c.requires in let l = c.loop-rest in let k = c.loop-rest.invariant.3 c.loop-rest-test.true in
-    let x = c.spared-set in gathered-whole a.table.now a.n a.left p.rows p.n_bound p.left_value a.quorums.now p.says c.loop-rest.rest c.loop-rest.set c.spared-set.result k.0 k.1 c.spared-set.ensures.spared c.loop-rest.invariant.2 c.if-set-left.true
+    let x = c.spared-set in gathered-whole a.table.now a.n a.left p.rows p.n_bound p.left_value a.quorums.now p.says c.loop-rest.rest c.loop-rest.set c.spared-set.result k.0 k.1
+    c.spared-set.ensures.spared c.loop-rest.invariant.2 c.if-set-left.true
 
 pub last_below-rest-requires : goal.last_below-rest-requires
 last_below-rest-requires c =

@@ -31,7 +31,8 @@ fitting-requires c =
 
 pub lack-requires : goal.lack-requires
 lack-requires c =
-    let a = c.args in let m = c.minus-f in let e : c.minus-f.result ≡ minus (all_below a.n) a.left = c.minus-f.ensures ∙ ap (λ (x : ℕ). minus x a.left) c.all_below.ensures in record { m_bound = subst (λ (x : ℕ). x < 4096) (sym e) (lt_of_lt_of_le (minus-lt a.n (all_below a.n) a.left (ones_lt a.n)) (pow_mono c.requires.n_bound)); sets_len = c.fitting.ensures.long }
+    let a = c.args in let m = c.minus-f in let e : c.minus-f.result ≡ minus (all_below a.n) a.left = c.minus-f.ensures ∙ ap (λ (x : ℕ). minus x a.left) c.all_below.ensures in record
+    { m_bound = subst (λ (x : ℕ). x < 4096) (sym e) (lt_of_lt_of_le (minus-lt a.n (all_below a.n) a.left (ones_lt a.n)) (pow_mono c.requires.n_bound)); sets_len = c.fitting.ensures.long }
 
 pub gather-requires : goal.gather-requires
 gather-requires c =

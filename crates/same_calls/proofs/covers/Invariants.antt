@@ -1,0 +1,16 @@
+-- `covers` meets its contract: every call so far is one of the second list.
+use Prim.Native.Nat.{◌-◌, ◌/◌, ◌≤◌}
+use mathlib.Core.Bool.{true}
+use mathlib.Core.Path.{◌≡◌}
+use lib.ListN.{length}
+use Rattle.ground.specs.Search.{every}
+use Rattle.same_calls.specs.Same.{has_that}
+use Rattle.same_calls.proofs.covers.Given as goal
+
+abbrev pub invariant-loop-i : goal.invariant-loop-i
+invariant-loop-i l =
+    (l.i ≤ length l.a / 4) × (every l.i (has_that (length l.b / 4) l.b l.a) ≡ true)
+
+abbrev pub decreases-loop-i : goal.decreases-loop-i
+decreases-loop-i l =
+    length l.a / 4 - l.i
