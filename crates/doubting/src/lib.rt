@@ -1,5 +1,6 @@
 // What the desk says on standard error of a list of calls that may be none.
 #![tactic(auto)]
+
 ghost use Rattle.std.specs.Prelude.{true, ◌≡◌};
 ghost use Rattle.strange_calls.specs.Strange.{mostly_strange};
 

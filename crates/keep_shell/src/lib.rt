@@ -1,6 +1,7 @@
 // What the desk does to keep a list of calls: read it, have the journal made, put it on file, print. Nothing here decides anything of the rules. A file is
 // written by `put_on_file` alone, which is lent the list that was read and its journal.
 #![tactic(auto)]
+
 ghost use Rattle.std.specs.Prelude.{◌≡◌};
 ghost use Rattle.journal_write.specs.Keep.{keep};
 ghost use Rattle.journal_blocks.specs.Journal.{journal_of};

@@ -4,11 +4,16 @@ use mathlib.Core.List.{List}
 use mathlib.Core.Path.{◌≡◌, ap, subst, ◌∙◌}
 use native.Mathlib.Omega.{arith}
 use lib.ListN.{length, take}
+use Rattle.packing.proofs.Packing.{bytes_of-length, packed, packable-all}
+use Rattle.packing.specs.Inner.{pack_to, packable}
+use Rattle.packing.specs.Pack.{bytes_of}
+use Rattle.packing.specs.declared.Call.{Call}
 use Rattle.records.specs.Inner.{RowEnded, TableEnded}
 use Rattle.refusals.specs.declared.Check.TheVariants.{Sound, Refused}
 use Rattle.refusals.specs.declared.Refusal as Refusal
 use Rattle.run.proofs.RunWays.{long-alike, fits, row-refused, check-refused, ran-refused, ran-rows, states-rows, answers-rows}
 use Rattle.run.specs.Inner.{row_run_check, row_ran, row_state_into, row_answers_into}
+use Rattle.run.specs.Run.{ran, state_into, answers_into}
 use Rattle.run.specs.declared.Ran.{Ran}
 use Rattle.sets.specs.Groups.{Groups, sites_of, groups_check}
 use Rattle.sets.specs.Inner.AsRows.{AsRows}
@@ -56,3 +61,16 @@ table-ends a F bytes n state answers {r} E = record {
   states = λ list h w. E.states list h w ∙ states-rows a F list r state;
   answered = λ list h w. E.answered list h w ∙ answers-rows a F list r answers;
 }
+
+-- of a list of calls, put into a room: its bytes run
+
+module _ (b : List ℕ) (cs : List Call) (room : List ℕ) (long : length b ≡ 16384) (put : room ≡ pack_to b cs (packable (length cs))) where
+  held-bytes : length cs ≤ 4096 → take (4 * length cs) room ≡ bytes_of cs
+  held-bytes h = ap (take (4 * length cs)) (put ∙ ap (pack_to b cs) (packable-all (length cs) h)) ∙ packed b long cs h
+
+  pub calls-end : (t : Groups) (F : ℕ) (state answers : List ℕ) (r : Ran) (state' answers' : List ℕ) →
+      TableEnded t F room (length cs) state answers r state' answers' →
+      (r ≡ ran t F (bytes_of cs) (length state) (length answers)) × (state' ≡ state_into r t F (bytes_of cs) state)
+      × (answers' ≡ answers_into r t F (bytes_of cs) answers)
+  calls-end t F state answers r state' answers' E =
+      let n = bytes_of-length cs in (E.answer (bytes_of cs) n held-bytes, E.states (bytes_of cs) n held-bytes, E.answered (bytes_of cs) n held-bytes)

@@ -1,5 +1,4 @@
 -- `put_all` meets its contract: after u turns the lines of the first u senders stand in the room.
-use Prim.Native.Nat.{◌-◌}
 use mathlib.Core.Path.{◌≡◌, refl, ◌∙◌}
 use native.Mathlib.Omega.{arith}
 use Rattle.missing_lines.proofs.Missing.{length-senders}

@@ -1,5 +1,4 @@
 -- `put_from` meets its contract: after v turns the lines to the first v receivers stand in the room.
-use Prim.Native.Nat.{◌-◌}
 use mathlib.Core.Path.{◌≡◌, refl, ◌∙◌}
 use native.Mathlib.Omega.{arith}
 use Rattle.missing_lines.proofs.Missing.{length_to}
