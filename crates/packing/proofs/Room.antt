@@ -30,7 +30,7 @@ module _ {M : Type 1} {𝓤 : Ura M} (𝓛 : Logic 𝓤) where
   LeftAt β zs = A.res β (Bytes.coded.code zs)
 
   -- a call that returns nothing, holds the tokens, and says that the room's last bytes are zs
-  pub left_at : (tokens : Item 𝓤) {X : Type 0} (L : X → Fml) (last : X → List ℕ) (β : GName) → ((x : X) → ent 𝓤 (sem 𝓛 (L x)) (LeftAt β (last x))) → (zs : List ℕ) (w : Val) →
+  left_at : (tokens : Item 𝓤) {X : Type 0} (L : X → Fml) (last : X → List ℕ) (β : GName) → ((x : X) → ent 𝓤 (sem 𝓛 (L x)) (LeftAt β (last x))) → (zs : List ℕ) (w : Val) →
       ent 𝓤 (H.⇛ (ex 𝓤 (λ (r : Unit {0}). sep 𝓤 (sep 𝓤 (mean 𝓛 tokens) (sem 𝓛 (Nothing.own_val r (w ∷ [])))) (ex 𝓤 (λ (x : X). sep 𝓤 (sem 𝓛 (L x)) (fact 𝓤 (last x ≡ zs)))))))
       (H.⇛ (guard 𝓤 (w ≡ vunit) (sep 𝓤 (mean 𝓛 tokens) (LeftAt β zs))))
   left_at tokens {X} L last β out zs w =

@@ -12,7 +12,12 @@ loop-u-init c =
 
 pub put_from-end-requires : goal.put_from-end-requires
 put_from-end-requires c =
-    let a = c.args in let l = c.loop-u in record { n_bound = c.requires.n_bound; u_bound = omega arith; at_in_bounds = omega (arith, c.requires.n_bound, c.requires.at_in_bounds, c.loop-u.invariant.2.place, length-senders a.among a.side a.list.now a.accepters a.n c.loop-u.u c.requires.n_bound) }
+    let a = c.args in let l = c.loop-u in record {
+      n_bound = c.requires.n_bound;
+      u_bound = omega arith;
+      at_in_bounds = omega
+          (arith, c.requires.n_bound, c.requires.at_in_bounds, c.loop-u.invariant.2.place, length-senders a.among a.side a.list.now a.accepters a.n c.loop-u.u c.requires.n_bound);
+    }
 
 pub loop-u-preserved : goal.loop-u-preserved
 loop-u-preserved c =

@@ -12,7 +12,12 @@ loop-v-init c =
 
 pub put_missing-end-requires : goal.put_missing-end-requires
 put_missing-end-requires c =
-    let a = c.args in let l = c.loop-v in record { at_in_bounds = omega (arith, c.requires.n_bound, c.requires.at_in_bounds, c.loop-v.invariant.2.place, length_to a.among a.side a.list.now a.accepters a.u c.loop-v.v); u_bound = c.requires.u_bound; v_bound = omega arith }
+    let a = c.args in let l = c.loop-v in record {
+      at_in_bounds = omega (arith, c.requires.n_bound, c.requires.at_in_bounds, c.loop-v.invariant.2.place, length_to a.among a.side a.list.now a.accepters a.u c.loop-v.v);
+      u_bound =
+          c.requires.u_bound;
+      v_bound = omega arith;
+    }
 
 pub loop-v-preserved : goal.loop-v-preserved
 loop-v-preserved c =
