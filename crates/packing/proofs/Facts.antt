@@ -9,7 +9,7 @@ module _ {M : Type 1} (𝓤 : Ura M) where
   shown {φ} x = fact_i 𝓤 φ (emp 𝓤) x
 
   -- a fact that is shown, put in front of what is shown
-  pub and-shown : {φ : Type 0} {Q : SProp 𝓤} → φ → ent 𝓤 (emp 𝓤) Q → ent 𝓤 (emp 𝓤) (sep 𝓤 (fact 𝓤 φ) Q)
+  and-shown : {φ : Type 0} {Q : SProp 𝓤} → φ → ent 𝓤 (emp 𝓤) Q → ent 𝓤 (emp 𝓤) (sep 𝓤 (fact 𝓤 φ) Q)
   and-shown {φ} {Q} x q = via 𝓤 Q q (via 𝓤 (sep 𝓤 (emp 𝓤) Q) (emp∗ 𝓤 Q) (mono_l 𝓤 Q (shown x)))
 
   -- what is shown stands beside anything

@@ -7,4 +7,5 @@ use Rattle.capi.proofs.siren_image_read.Goals as goal
 
 pub returns : goal.returns
 returns c =
-    let a = c.args in let e = c.read.ensures in let p = said of_reading e.answer (c.reading.ensures.answer, c.reading.ensures.memory) in record { answer = p.0; told = p.1; memory = e.memory ∙ ap (λ r. read_into r a.image.now a.room.now) e.answer }
+    let a = c.args in let e = c.read.ensures in let p = said of_reading e.answer (c.reading.ensures.answer, c.reading.ensures.memory) in record
+    { answer = p.0; told = p.1; memory = e.memory ∙ ap (λ r. read_into r a.image.now a.room.now) e.answer }

@@ -7,4 +7,5 @@ use Rattle.capi.proofs.siren_image_write.Goals as goal
 
 pub returns : goal.returns
 returns c =
-    let a = c.args in let e = c.write.ensures in let p = said of_writing e.answer (c.writing.ensures.answer, c.writing.ensures.memory) in record { answer = p.0; told = p.1; memory = e.memory ∙ ap (λ r. write_into r a.table.now a.room.now) e.answer }
+    let a = c.args in let e = c.write.ensures in let p = said of_writing e.answer (c.writing.ensures.answer, c.writing.ensures.memory) in record
+    { answer = p.0; told = p.1; memory = e.memory ∙ ap (λ r. write_into r a.table.now a.room.now) e.answer }

@@ -7,4 +7,5 @@ use Rattle.capi.proofs.siren_journal_list.Goals as goal
 
 pub returns : goal.returns
 returns c =
-    let a = c.args in let e = c.list.ensures in let p = said of_listed e.answer (c.listed.ensures.answer, c.listed.ensures.memory) in record { answer = p.0; told = p.1; memory = e.memory ∙ ap (λ r. list_into r a.journal.now a.room.now) e.answer }
+    let a = c.args in let e = c.list.ensures in let p = said of_listed e.answer (c.listed.ensures.answer, c.listed.ensures.memory) in record
+    { answer = p.0; told = p.1; memory = e.memory ∙ ap (λ r. list_into r a.journal.now a.room.now) e.answer }

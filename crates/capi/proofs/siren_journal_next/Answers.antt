@@ -8,4 +8,5 @@ use Rattle.capi.proofs.siren_journal_next.Goals as goal
 
 pub returns : goal.returns
 returns c =
-    let q = c.check in let x = c.next_at in let j = c.args.journal.now in let r = said (λ (n : Next). of_taken (check j) n) c.next_at.ensures (said (λ (k : Checked). of_taken k c.next_at.result) c.check.ensures (c.taken.ensures.answer, c.taken.ensures.memory)) in record { answer = r.0; told = r.1 }
+    let q = c.check in let x = c.next_at in let j = c.args.journal.now in let r = said (λ (n : Next). of_taken (check j) n) c.next_at.ensures
+    (said (λ (k : Checked). of_taken k c.next_at.result) c.check.ensures (c.taken.ensures.answer, c.taken.ensures.memory)) in record { answer = r.0; told = r.1 }
