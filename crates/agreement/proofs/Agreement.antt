@@ -1,4 +1,6 @@
 -- The union's promise, of the public step and of the public run.
+use Rattle.refusals.specs.Check.{Check}
+use Rattle.std.specs.Prelude.{Ok, Err}
 use Prim.Native.Nat.{ℕ}
 use mathlib.Core.List.{List, [], ◌∷◌}
 use mathlib.Core.Path.{◌≡◌, refl, sym, subst}
@@ -6,8 +8,6 @@ use Rattle.agreement.proofs.Backed.{Good, good-fresh, good-step, good-agreed}
 use Rattle.agreement.specs.Agreement.{Premises, Agreed, steps_into, StepsAgree, RunAgrees}
 use Rattle.pass.proofs.Lawful.{table-vote}
 use Rattle.pass.specs.Calls.{calls}
-use Rattle.refusals.specs.declared.Check.{Check}
-use Rattle.refusals.specs.declared.Check.TheVariants.{Sound, Refused}
 use Rattle.refusals.specs.declared.Refusal.{Refusal}
 use Rattle.rules.proofs.State.{fresh-none}
 use Rattle.rules.proofs.WorkWays.{table-rests}
@@ -40,7 +40,7 @@ module _ (t : Groups) (F : ℕ) (P : Premises (fbqs_in t) F) where
   n = sites_of t
 
   -- the public step leaves what the step of the rules leaves, or the state as it was
-  module _ (e : set_check t F ≡ Sound) where
+  module _ (e : set_check t F ≡ Ok tt) where
     R : Rests (λ v. fbqs_in t) (questions t) n
     R = table-rests t (set-checked t F e)
 
@@ -49,8 +49,8 @@ module _ (t : Groups) (F : ℕ) (P : Premises (fbqs_in t) F) where
     into-good c s g = go (sound_check t F s)
       where
         go : (q : Check) → Good R F P (if_taken q (step (vote_of t F) c s) s)
-        go Sound = good-step R F P c s g
-        go (Refused r) = g
+        go (Ok _) = good-step R F P c s g
+        go (Err r) = g
 
     steps-good : (l : List Call) (s : List ℕ) → Good R F P s → Good R F P (steps_into t F l s)
     steps-good [] s g = g
@@ -60,17 +60,17 @@ module _ (t : Groups) (F : ℕ) (P : Premises (fbqs_in t) F) where
     steps-checked l = good-agreed R F P (steps-good l (fresh (width n)) (good-fresh R F P))
 
   -- a table or a faulty set that is refused leaves each state as it was
-  into-refused : {r : Refusal} → set_check t F ≡ Refused r → (c : Call) (s : List ℕ) → step_into t F c s ≡ s
+  into-refused : {r : Refusal} → set_check t F ≡ Err r → (c : Call) (s : List ℕ) → step_into t F c s ≡ s
   unfolding step_into sound_check
   into-refused e c s = rw e refl
 
-  steps-refused : {r : Refusal} → set_check t F ≡ Refused r → (l : List Call) (s : List ℕ) → steps_into t F l s ≡ s
+  steps-refused : {r : Refusal} → set_check t F ≡ Err r → (l : List Call) (s : List ℕ) → steps_into t F l s ≡ s
   steps-refused e [] s = refl
   steps-refused e (c ∷ l) s = subst (λ (x : List ℕ). steps_into t F l x ≡ s) (sym (into-refused e c s)) (steps-refused e l s)
 
   either : (q : Check) → set_check t F ≡ q → (l : List Call) → Agreed n F (steps_into t F l (fresh (width n)))
-  either Sound e l = steps-checked e l
-  either (Refused r) e l = subst (Agreed n F) (sym (steps-refused e l (fresh (width n)))) (fresh-agreed n F)
+  either (Ok _) e l = steps-checked e l
+  either (Err r) e l = subst (Agreed n F) (sym (steps-refused e l (fresh (width n)))) (fresh-agreed n F)
 
 pub steps-agree : StepsAgree
 steps-agree t F l P = either t F P (set_check t F) refl l

@@ -8,45 +8,33 @@ ghost use Rattle.rules.specs.Rules.{out_of_range, crooked, against, unsent, answ
 ghost use Rattle.rules.specs.Inner.{InRange, heard};
 ghost use Rattle.votes.specs.Call.{call};
 
-use refusals::{Check, Refusal};
+use refusals::Refusal;
 
 // A site at or above n, a kind over 2, a side over 1.
+#[tactic(auto, unfolding(rules::specs::Rules::out_of_range))]
 fn is_out_of_range(n: usize, kind: usize, from: usize, to: usize, side: usize) -> bool
     ensures { result ≡ out_of_range n (call kind from to side) }
 {
-    if n <= from {
-        return true;
-    }
-    if n <= to {
-        return true;
-    }
-    if 2 < kind {
-        return true;
-    }
-    1 < side
+    n <= from || n <= to || kind > 2 || side > 1
 }
 
 // A proposal whose from and to differ.
+#[tactic(auto, unfolding(rules::specs::Rules::crooked))]
 fn is_crooked(kind: usize, from: usize, to: usize, side: usize) -> bool
     ensures { result ≡ crooked (call kind from to side) }
 {
-    if kind == 0 {
-        return from != to;
-    }
-    false
+    kind == 0 && from != to
 }
 
 // A proposal to a site that has voted for the other side.
+#[tactic(auto, unfolding(rules::specs::Rules::against))]
 fn is_against(n: usize, state: &[u64], kind: usize, from: usize, to: usize, side: usize) -> bool
     requires state_len { length state.now ≡ width n }
     requires n_bound { n ≤ 64 }
     requires in_range { InRange n (call kind from to side) }
     ensures { result ≡ against n (call kind from to side) state.now }
 {
-    if kind == 0 {
-        return masks::has(state[places::voted(n, 1 - side)], to as u64);
-    }
-    false
+    kind == 0 && masks::has(state[places::voted(n, 1 - side)], to as u64)
 }
 
 // The sender has voted for the side, if the call is a vote, or accepted it.
@@ -93,27 +81,27 @@ pub fn answer(
     from: usize,
     to: usize,
     side: usize,
-) -> Check
+) -> Result<(), Refusal>
     requires state_len { length state.now ≡ width n }
     requires n_bound { n ≤ 64 }
     ensures { result ≡ answer n faulty (call kind from to side) state.now }
 {
     if is_out_of_range(n, kind, from, to, side) {
-        return Check::Refused(Refusal::Range(0));
+        return Err(Refusal::Range(0));
     }
     if is_crooked(kind, from, to, side) {
-        return Check::Refused(Refusal::Proposal);
+        return Err(Refusal::Proposal);
     }
     if masks::has(faulty, to as u64) {
-        return Check::Refused(Refusal::Receiver);
+        return Err(Refusal::Receiver);
     }
     if is_against(n, state, kind, from, to, side) {
-        return Check::Refused(Refusal::Voted);
+        return Err(Refusal::Voted);
     }
     if is_unsent(n, faulty, state, kind, from, to, side) {
-        return Check::Refused(Refusal::Unsent);
+        return Err(Refusal::Unsent);
     }
-    Check::Sound
+    Ok(())
 }
 
 // The bit that a call sets is set already.
@@ -124,7 +112,8 @@ pub fn is_heard(n: usize, state: &[u64], kind: usize, from: usize, to: usize, si
     ensures { result ≡ heard n (call kind from to side) state.now }
 {
     if kind == 0 {
-        return masks::has(state[places::voted(n, side)], to as u64);
+        masks::has(state[places::voted(n, side)], to as u64)
+    } else {
+        masks::has(state[places::heard_at(kind, side, to)], from as u64)
     }
-    masks::has(state[places::heard_at(kind, side, to)], from as u64)
 }

@@ -369,7 +369,7 @@ module _ (b x : ℕ) (few : x < 6) {old words new : List ℕ} (t : Turned b x ol
 
 -- all turned and handed on: what is beside a set
 
-module _ (b : ℕ) (sets : List ℕ) {copy turned words : List ℕ} (c : Says (in_family sets) copy) (t : Turned b 6 copy turned) (s : Spread turned words) where
+module _ (b : ℕ) (sets : List ℕ) {turned words : List ℕ} (t : Turned b 6 sets turned) (s : Spread turned words) where
   high-b : (x : ℕ) → has (b / 64) x ≡ has b (6 + x)
   high-b x = has-shr b 6 x
 
@@ -393,7 +393,7 @@ module _ (b : ℕ) (sets : List ℕ) {copy turned words : List ℕ} (c : Says (i
           let y = r.0 in
           let ly = le-lt (⊆-le r.1) l in
           let f = t.right (y * 64 + j) (omega (arith, ly)) (said_at turned y j lj ∙ r.2.holds) in
-          (f.0, f.1, each-site 6 w lj (λ z. z ∈ f.0 → (z ∈ b → ⊥) → z ∈ w * 64 + j → ⊥) (at_low y f.2) (at_high y r.1 f.2), sym (says_at c f.0 f.1) ∙ f.3)
+          (f.0, f.1, each-site 6 w lj (λ z. z ∈ f.0 → (z ∈ b → ⊥) → z ∈ w * 64 + j → ⊥) (at_low y f.2) (at_high y r.1 f.2), f.3)
         where
           le-lt : {a b c : ℕ} → a ≤ b → b < c → a < c
           le-lt p q = omega arith
@@ -422,7 +422,7 @@ module _ (b : ℕ) (sets : List ℕ) {copy turned words : List ℕ} (c : Says (i
           → j ∈ get_or words (bit_or (63 - w) (b / 64)) 0
       full w j q lw lj sub lq bq apart h =
           (s.full y (bit_or (63 - w) (b / 64)) (place w lw (few-b lw lj sub)) (record { each = below })).each j
-          (mem (sym (said_at turned y j lj) ∙ t.full q (y * 64 + j) lq (set-few y ly lj) faces (says_at c q lq ∙ h)))
+          (mem (sym (said_at turned y j lj) ∙ t.full q (y * 64 + j) lq (set-few y ly lj) faces h))
         where
           y : ℕ
           y = q / 64

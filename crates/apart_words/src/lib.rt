@@ -14,10 +14,7 @@ ghost use Rattle.apart_words.specs.Inner.{Containing, Turn, turned_at, turned_un
 fn chosen(high: u64, w: u64, low: u64) -> u64
     ensures { Containing high w low result }
 {
-    if masks::within(high, w) {
-        return low;
-    }
-    0
+    if masks::within(high, w) { low } else { 0 }
 }
 
 // Of the sets those that contain b.
@@ -29,10 +26,8 @@ fn contain(b: u64, above: &[u64; 64], sets: &mut [u64; 64])
 {
     let high = b / 64;
     let low = above[(b % 64) as usize];
-    let mut w: usize = 0;
-    while w < 64 {
-        sets[w] = sets[w] & chosen(high, w as u64, low);
-        w += 1;
+    for (w, word) in sets.iter_mut().enumerate() {
+        *word &= chosen(high, w as u64, low);
     }
 }
 
@@ -56,7 +51,7 @@ fn turn_word(x: usize, word: u64) -> u64
     let rest = set_words::without(x);
     let by = masks::single(x as u64);
     let low = word & rest;
-    (low | ((word >> by) & rest)) | (low << by)
+    low | ((word >> by) & rest) | (low << by)
 }
 
 // The same word by word.
@@ -65,10 +60,8 @@ fn turn(x: usize, words: &mut [u64; 64])
     requires words_len { length words.old ≡ 64 }
     ensures { Says (turned_at x words.old) words.new }
 {
-    let mut w: usize = 0;
-    while w < 64 {
-        words[w] = turn_word(x, words[w]);
-        w += 1;
+    for word in words.iter_mut() {
+        *word = turn_word(x, *word);
     }
 }
 
@@ -78,10 +71,9 @@ fn turn_unless(b: u64, x: usize, words: &mut [u64; 64])
     requires words_len { length words.old ≡ 64 }
     ensures { Says (turned_unless b x words.old) words.new }
 {
-    if masks::has(b, x as u64) {
-        return;
+    if !masks::has(b, x as u64) {
+        turn(x, words);
     }
-    turn(x, words);
 }
 
 // The first six sites but those of b are turned, one after the other.
@@ -89,21 +81,8 @@ fn turn_all(b: u64, words: &mut [u64; 64])
     requires { length words.old ≡ 64 }
     ensures { Turned b 6 words.old words.new }
 {
-    let mut x: usize = 0;
-    while x < 6 {
+    for x in 0..6 {
         turn_unless(b, x, words);
-        x += 1;
-    }
-}
-
-fn copy(sets: &[u64; 64], words: &mut [u64; 64])
-    requires { length words.old ≡ 64 }
-    ensures { Says (in_family sets.now) words.new }
-{
-    let mut w: usize = 0;
-    while w < 64 {
-        words[w] = sets[w];
-        w += 1;
     }
 }
 
@@ -112,7 +91,7 @@ fn beside(b: u64, sets: &[u64; 64], words: &mut [u64; 64])
     requires { length words.old ≡ 64 }
     ensures { Beside b sets.now words.new }
 {
-    copy(sets, words);
+    *words = *sets;
     turn_all(b, words);
     spread_words::spread(words);
 }
@@ -127,13 +106,11 @@ fn search(table: &[u64], n: usize, b: u64, sets: &[u64; 64], words: &[u64; 64]) 
     ensures { result ≡ first_apart ((rules_of table.now).deleted b) n }
 {
     let high = (b / 64) as usize;
-    let mut w: usize = 0;
-    while w < 64 {
-        let both = sets[w] & words[(63 - w) | high];
+    for (w, word) in sets.iter().enumerate() {
+        let both = *word & words[(63 - w) | high];
         if both != 0 {
-            return masks::minus((w as u64) * 64 + set_words::first(both), b);
+            return masks::minus(w as u64 * 64 + set_words::first(both), b);
         }
-        w += 1;
     }
     masks::single(n as u64)
 }

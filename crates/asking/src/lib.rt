@@ -33,13 +33,15 @@ pub fn has_slice(table: &[u64], n: usize, receiver: usize, u: usize, w: u64) -> 
 }
 
 // What is left of w: if w is inside the larger set, what it has in common with that set's bound.
+#[tactic(auto, unfolding(crate::specs::Inner::bounded_by))]
 fn bounded(w: u64, larger: u64, bound: u64) -> u64
     ensures { result ≡ bounded_by larger bound w }
 {
     if masks::within(w, larger) {
-        return w & bound;
+        w & bound
+    } else {
+        w
     }
-    w
 }
 
 // Before a second search the largest quorum inside the larger set is searched for: it bounds all others. If it is the larger set itself, it bounds nothing, and
@@ -49,11 +51,8 @@ fn bound(table: &[u64], n: usize, asked: &mut [u64; 4])
     requires asked { Asked (row_questions table.now n) n asked.old }
     ensures { Asked (row_questions table.now n) n asked.new }
 {
-    if asked[0] == 0 {
-        return;
-    }
     let larger = asked[2];
-    if larger != asked[3] {
+    if asked[0] == 0 || larger != asked[3] {
         return;
     }
     let l = rounds::largest_set(table, n, larger);
@@ -72,10 +71,7 @@ pub fn belongs(table: &[u64], n: usize, receiver: usize, w: u64, asked: &mut [u6
     ensures asked_2 { Asked (row_questions table.now n) n asked.new }
 {
     let left = bounded(w, asked[2], asked[3]);
-    if !masks::has(left, receiver as u64) {
-        return false;
-    }
-    if !sets::has_slice(table, n, receiver, left) {
+    if !masks::has(left, receiver as u64) || !sets::has_slice(table, n, receiver, left) {
         return false;
     }
     bound(table, n, asked);

@@ -1,13 +1,13 @@
 -- A site that has heard nothing of either side, and is in none of the six masks: no clause of 18 is against it; and a site by its sides.
 use Prim.Native.Nat.{ℕ, ◌<◌}
-use mathlib.Core.Bool.{Bool, true, false, ◌&&◌, not}
+use mathlib.Core.Bool.{Bool, true, false, not}
 use mathlib.Core.List.{List}
 use mathlib.Core.Logic.{⊎_elim}
 use mathlib.Core.Path.{◌≡◌, refl, sym, ap, ◌∙◌, subst}
 use native.Mathlib.Omega.{arith}
 use lib.Bits.{bit_or}
 use lib.Dec.{eqb}
-use borrow.Author.Tests.{eqb-true, eq-eqb, ne_eqb}
+use borrow.Author.Tests.{eqb-true, eq-eqb}
 use Rattle.ground.proofs.Logic.{and_l, and_r, is_false, clash, not_t}
 use Rattle.ground.proofs.Numbers.{same?}
 use Rattle.ground.proofs.Some.{none_each}
@@ -23,26 +23,11 @@ use Rattle.sets.specs.Paper.{Fbqs}
 use Rattle.sets.specs.Promises.{Questions}
 use Rattle.bad_sites.specs.Inner.{named_in, heard_by, silent_site}
 
--- what was heard and who is named, read at their places
-pub heard-read : (s : List ℕ) (v : ℕ) {h i j k : ℕ} → h ≡ votes 0 v → i ≡ votes 1 v → j ≡ accepts 0 v → k ≡ accepts 1 v →
-    bit_or (bit_or (get s h) (get s i)) (bit_or (get s j) (get s k)) ≡ heard_by s v
-unfolding heard_by
-heard-read s v p q x y = rw (p, q, x, y) refl
-
+-- who is named, read at their places
 pub named-read : (n : ℕ) (s : List ℕ) {h i j k l m : ℕ} → h ≡ voted n 0 → i ≡ voted n 1 → j ≡ accepted n 0 → k ≡ accepted n 1 → l ≡ confirmed n 0 →
     m ≡ confirmed n 1 → bit_or (bit_or (bit_or (get s h) (get s i)) (bit_or (get s j) (get s k))) (bit_or (get s l) (get s m)) ≡ named_in n s
 unfolding named_in
 named-read n s p q x y z w = rw (p, q, x, y, z, w) refl
-
--- the ways out of the test: h is what was heard, b whether the site is named
-module _ (named : ℕ) (s : List ℕ) (v : ℕ) {h : ℕ} (eh : h ≡ heard_by s v) where
-  pub silent-heard : (h ≡ 0 → ⊥) → false ≡ silent_site named s v
-  unfolding silent_site
-  silent-heard ne = sym (ap (λ (x : Bool). x && not (has named v)) (ne_eqb (heard_by s v) 0 (λ z. ne (eh ∙ z))))
-
-  pub silent-named : h ≡ 0 → {b : Bool} → b ≡ has named v → not b ≡ silent_site named s v
-  unfolding silent_site
-  silent-named z e = ap not e ∙ sym (ap (λ (x : Bool). x && not (has named v)) (eq-eqb (heard_by s v) 0 (sym eh ∙ z)))
 
 -- each of several sets is inside all of them together
 four : (a b c d : ℕ) → let all = bit_or (bit_or a b) (bit_or c d) in (a ⊆ all) × (b ⊆ all) × (c ⊆ all) × (d ⊆ all)

@@ -10,6 +10,7 @@ ghost use Rattle.bad_sites.specs.Inner.{named_in, silent_site};
 ghost use Rattle.sets.specs.Inner.Rows.{Rows, row_questions};
 
 // One site and one side. A site that has nothing of the side is not asked further; the rules are asked last: they cost most.
+#[tactic(auto, unfolding(rules::specs::Sound::bad_side))]
 fn is_bad_side(
     table: &[u64],
     n: usize,
@@ -32,22 +33,15 @@ fn is_bad_side(
     let voted = state[places::voted(n, side)];
     let accepted = state[places::accepted(n, side)];
     let confirmed = state[places::confirmed(n, side)];
-    if !clauses::is_not_zero(v, votes, accepts, voted, accepted, confirmed) {
-        return false;
-    }
-    if masks::has(faulty, v as u64) {
-        return true;
-    }
-    if clauses::is_not_own(v, votes, accepts, voted, accepted) {
-        return true;
-    }
-    if clauses::is_not_sent(faulty, votes, accepts, voted, accepted) {
-        return true;
-    }
-    clauses::is_not_rule(table, n, v, votes, accepts, accepted, confirmed, asked)
+    clauses::is_not_zero(v, votes, accepts, voted, accepted, confirmed)
+        && (masks::has(faulty, v as u64)
+            || clauses::is_not_own(v, votes, accepts, voted, accepted)
+            || clauses::is_not_sent(faulty, votes, accepts, voted, accepted)
+            || clauses::is_not_rule(table, n, v, votes, accepts, accepted, confirmed, asked))
 }
 
 // The site has heard nothing, and is not among those named by the masks.
+#[tactic(auto, unfolding(crate::specs::Inner::silent_site, crate::specs::Inner::heard_by))]
 fn is_silent(state: &[u64], n: usize, v: usize, named: u64) -> bool
     requires state_len { length state.now ≡ width n }
     requires n_bound { n ≤ 64 }
@@ -56,10 +50,7 @@ fn is_silent(state: &[u64], n: usize, v: usize, named: u64) -> bool
 {
     let votes = state[places::votes(0, v)] | state[places::votes(1, v)];
     let accepts = state[places::accepts(0, v)] | state[places::accepts(1, v)];
-    if votes | accepts != 0 {
-        return false;
-    }
-    !masks::has(named, v as u64)
+    votes | accepts == 0 && !masks::has(named, v as u64)
 }
 
 // One site, both sides. A site that has nothing of either is not asked further.
@@ -83,12 +74,10 @@ fn is_bad_site(
     if is_silent(state, n, v, named) {
         return false;
     }
-    let mut side: usize = 0;
-    while side < 2 {
+    for side in 0..2 {
         if is_bad_side(table, n, faulty, state, v, side, asked) {
             return true;
         }
-        side += 1;
     }
     false
 }
@@ -113,12 +102,10 @@ pub fn some_bad_site(table: &[u64], n: usize, faulty: u64, state: &[u64], larger
 {
     let mut asked = [0, 0, larger, larger];
     let named = named(n, state);
-    let mut v: usize = 0;
-    while v < n {
+    for v in 0..n {
         if is_bad_site(table, n, faulty, state, v, named, &mut asked) {
             return true;
         }
-        v += 1;
     }
     false
 }

@@ -19,8 +19,8 @@ fn with_word(b: &[u8], k: usize, sums: Sums) -> Sums
     ensures t_value_2 { result.t ≡ sum_t b.now (k + 1) % 2 ^ 32 }
 {
     let w = le::get32(b, 4 * k);
-    let s = std::num::wrapping_add_u32(sums.s, w);
-    let t = std::num::wrapping_add_u32(sums.t, s);
+    let s = sums.s.wrapping_add(w);
+    let t = sums.t.wrapping_add(s);
     Sums { s, t }
 }
 
@@ -46,10 +46,8 @@ pub fn sum_words(b: &[u8]) -> Sums
     ensures { (result.s ≡ check_s b.now) × (result.t ≡ check_t b.now) }
 {
     let mut sums = Sums { s: 0, t: 0 };
-    let mut turn: usize = 0;
-    while turn < 21 {
+    for turn in 0..21 {
         sums = with_six(b, 6 * turn, sums);
-        turn += 1;
     }
     sums
 }

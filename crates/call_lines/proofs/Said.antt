@@ -1,5 +1,5 @@
 -- Laws of a call's line: one for each way out, and how long it is.
-use Prim.Native.Nat.{ℕ, ◌≤◌, ◌<◌}
+use Prim.Native.Nat.{ℕ, ◌≤◌}
 use mathlib.Core.Bool.{true, false}
 use mathlib.Core.List.{List, ◌++◌, append_assoc}
 use mathlib.Core.Logic.{⊎_elim}
@@ -7,31 +7,13 @@ use mathlib.Core.Path.{◌≡◌, refl}
 use native.Mathlib.Omega.{arith}
 use lib.Dec.{eqb}
 use lib.ListN.{length, length-append}
-use borrow.Author.Tests.{lt-ltb, le-ltb, eq-eqb, ne_eqb}
+use borrow.Author.Tests.{eq-eqb, ne_eqb}
 use Rattle.call_lines.specs.CallLine.{worded, kind_name, side_name, call_words, said_call}
 use Rattle.ground.proofs.Logic.{cases}
 use Rattle.ground.proofs.Numbers.{same?}
 use Rattle.lines.specs.Lines.{newline, line}
 use Rattle.text.proofs.Width.{length-decimal}
 use Rattle.text.specs.Text.{ascii, decimal}
-
--- whether a call can be said in words
-pub other-side : (kind from to side : ℕ) → 1 < side → worded kind from to side ≡ false
-unfolding worded
-other-side kind from to side h = rw (le-ltb side 2 h) refl
-
-module _ (kind from to side : ℕ) (s : side ≤ 1) where
-  pub other-kind : 2 < kind → worded kind from to side ≡ false
-  unfolding worded
-  other-kind h = rw (lt-ltb side 2 (omega arith), le-ltb kind 3 h) refl
-
-  pub of-proposal : kind ≡ 0 → worded kind from to side ≡ eqb from to
-  unfolding worded
-  of-proposal h = rw (lt-ltb side 2 (omega arith), lt-ltb kind 3 (omega arith), eq-eqb kind 0 h) refl
-
-  pub of_others : kind ≤ 2 → (kind ≡ 0 → ⊥) → worded kind from to side ≡ true
-  unfolding worded
-  of_others k h = rw (lt-ltb side 2 (omega arith), lt-ltb kind 3 (omega arith), ne_eqb kind 0 h) refl
 
 -- a side, and the end of the line
 pub side-drill : (side : ℕ) → side ≡ 0 → ascii " drill\n" ≡ ascii " " ++ (side_name side ++ newline)

@@ -8,19 +8,11 @@ ghost use Rattle.text.specs.Text.{ascii, decimal};
 ghost use Rattle.text.specs.Written.{Writes};
 
 // Whether the call can be said in words: a kind and a side of 01, and a proposal that names one site.
+#[tactic(auto, unfolding(crate::specs::CallLine::worded))]
 fn worded(kind: u8, from: u8, to: u8, side: u8) -> bool
     ensures { result ≡ worded kind from to side }
 {
-    if 1 < side {
-        return false;
-    }
-    if 2 < kind {
-        return false;
-    }
-    if kind == 0 {
-        return from == to;
-    }
-    true
+    side <= 1 && kind <= 2 && (kind != 0 || from == to)
 }
 
 // Two numbers.
@@ -28,9 +20,9 @@ fn put_pair(room: &mut [u8], at: usize, from: u8, to: u8) -> usize
     requires { at + 41 ≤ length room.old }
     ensures { Writes (decimal from ++ (ascii " " ++ decimal to)) room.old at result room.new }
 {
-    let at = text::put_decimal(room, at, from as u64);
+    let at = text::put_decimal(room, at, u64::from(from));
     let at = text::put(room, at, b" ");
-    text::put_decimal(room, at, to as u64)
+    text::put_decimal(room, at, u64::from(to))
 }
 
 // A side behind a blank, and the end of the line.
@@ -50,10 +42,10 @@ fn put_numbers(room: &mut [u8], at: usize, kind: u8, from: u8, to: u8, side: u8)
     requires side_value { worded kind from to side ≡ false }
     ensures { Writes (said_call kind from to side) room.old at result room.new }
 {
-    let at = text::put_decimal(room, at, kind as u64);
+    let at = text::put_decimal(room, at, u64::from(kind));
     let at = text::put(room, at, b" ");
     let at = put_pair(room, at, from, to);
-    lines::line_decimal(room, at, b" ", side as u64)
+    lines::line_decimal(room, at, b" ", u64::from(side))
 }
 
 // A call in words, and the end of the line.
@@ -64,7 +56,7 @@ fn put_words(room: &mut [u8], at: usize, kind: u8, from: u8, to: u8, side: u8) -
 {
     if kind == 0 {
         let at = text::put(room, at, b"propose ");
-        let at = text::put_decimal(room, at, from as u64);
+        let at = text::put_decimal(room, at, u64::from(from));
         return put_side(room, at, side);
     }
     if kind == 1 {

@@ -1,5 +1,6 @@
 -- A word of a text of calls: a number, or one of five names.
-use Rattle.std.specs.Prelude.{ℕ, ◌+◌, ◌-◌, ◌*◌, Bool, true, false, ◌&&◌, ◌||◌, cond, List, [], ◌∷◌, eqb, ltb}
+use Rattle.std.specs.Prelude.{ℕ, ◌+◌, ◌-◌, ◌*◌, Bool, true, false, ◌&&◌, ◌||◌, cond, List, [], ◌∷◌, Option, Some, None, eqb, ltb}
+use Rattle.call_words.specs.declared.Word.{Word}
 use Rattle.text.specs.Text.{ascii}
 
 -- a letter in small, any other byte as it is
@@ -13,22 +14,26 @@ spells [] (y ∷ t) = false
 spells (x ∷ s) [] = false
 spells (x ∷ s) (y ∷ t) = eqb (lower x) y && spells s t
 
--- "numbers 0 to 255": what decimal digits make of a number begun with x; 256 where one is no digit, or the number passes 255
-abbrev pub figure : ℕ → List ℕ → ℕ
-figure x [] = x
+-- "numbers 0 to 255": what decimal digits make of a number begun with x; none where one is no digit, or the number passes 255
+abbrev pub figure : ℕ → List ℕ → Option ℕ
+figure x [] = Some x
 figure x (b ∷ t) =
-    cond (ltb b 48 || ltb 57 b) 256
-    (cond (ltb 255 (10 * x + (b - 48))) 256
+    cond (ltb b 48 || ltb 57 b) None
+    (cond (ltb 255 (10 * x + (b - 48))) None
     (figure (10 * x + (b - 48)) t))
 
--- what a word says: 0 to 255 that number, 256 to 258 a kind of call, 259 and 260 a side, 261 nothing of a call
-unfoldable pub meant : List ℕ → ℕ
+abbrev pub number_or : Option ℕ → Word → Word
+number_or (Some n) w = Word.Number n
+number_or None w = w
+
+-- what a word says: a number; a kind of call, 0 to 2; a side, 0 or 1; or nothing of a call
+unfoldable pub meant : List ℕ → Word
 unfolding lower
 meant w =
-    cond (ltb (figure 0 w) 256) (figure 0 w)
-    (cond (spells w (ascii "propose")) 256
-    (cond (spells w (ascii "vote")) 257
-    (cond (spells w (ascii "accept")) 258
-    (cond (spells w (ascii "drill")) 259
-    (cond (spells w (ascii "live")) 260
-    261)))))
+    number_or (figure 0 w)
+    (cond (spells w (ascii "propose")) (Word.Kind 0)
+    (cond (spells w (ascii "vote")) (Word.Kind 1)
+    (cond (spells w (ascii "accept")) (Word.Kind 2)
+    (cond (spells w (ascii "drill")) (Word.Side 0)
+    (cond (spells w (ascii "live")) (Word.Side 1)
+    Word.Other)))))

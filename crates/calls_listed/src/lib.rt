@@ -18,11 +18,9 @@ fn put_lines(list: &[u8], room: &mut [u8]) -> usize
 {
     let n = list.len() / 4;
     let mut end: usize = 0;
-    let mut i: usize = 0;
-    while i < n {
+    for i in 0..n {
         let k = 4 * i;
         end = call_lines::put_call(room, end, list[k], list[k + 1], list[k + 2], list[k + 3]);
-        i += 1;
     }
     end
 }
@@ -32,10 +30,7 @@ pub fn list(list: &[u8], room: &mut [u8; LISTED]) -> usize
     ensures text { Writes (list_text list.now) room.old 0 result room.new }
     ensures counts { IsPrefixLen result room.new }
 {
-    if list.len() % 4 != 0 {
-        return refusal_lines::put_explained(room, 0, Refusal::List);
-    }
-    if 16384 < list.len() {
+    if list.len() % 4 != 0 || 16384 < list.len() {
         return refusal_lines::put_explained(room, 0, Refusal::List);
     }
     put_lines(list, room)

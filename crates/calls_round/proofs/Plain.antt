@@ -1,19 +1,19 @@
 -- Words of letters and digits: nothing stops in them, and they are heard whole.
-use Prim.Native.Nat.{ℕ, suc, ◌+◌, ◌-◌, ◌≤◌, ◌<◌}
-use mathlib.Core.Bool.{Bool, true, false, ◌&&◌, ◌||◌, not, cond}
-use mathlib.Core.List.{List, [], ◌∷◌, ◌++◌}
-use mathlib.Core.Path.{◌≡◌, refl, sym, ap, ◌∙◌}
+use Prim.Native.Nat.{ℕ, ◌≤◌, ◌<◌}
+use mathlib.Core.Bool.{Bool, true, false, false≢true, ◌&&◌, not}
+use mathlib.Core.List.{List, [], ◌∷◌}
+use mathlib.Core.Path.{◌≡◌, refl, ap}
 use native.Mathlib.Omega.{arith}
 use lib.Dec.{eqb, ltb}
-use lib.ListN.{length, take}
-use lib.Seq.{take-length}
-use borrow.Author.Tests.{ltb-true, eqb-true, eqb-false, ne_eqb, lt-ltb, not-true}
+use lib.ListN.{length}
+use borrow.Author.Tests.{ltb-true, eqb-true, ne_eqb, not-true}
 use Rattle.ground.proofs.Every.{every-at}
 use Rattle.ground.proofs.Logic.{and_l, and_r}
 use Rattle.ground.specs.Search.{every, least}
-use Rattle.call_words.specs.Word.{lower, spells, figure, meant}
-use Rattle.calls_text.specs.Pieces.{stops, upto, onto, pieces, filled}
-use Rattle.text.specs.Text.{ascii, decimal, digit_count}
+use Rattle.call_words.specs.declared.Word.{Word}
+use Rattle.call_words.specs.Word.{lower, meant}
+use Rattle.calls_text.specs.Pieces.{stops}
+use Rattle.text.specs.Text.{decimal, digit_count}
 
 -- a byte of a word
 unfoldable pub clean : ℕ → Bool
@@ -43,9 +43,21 @@ no_stop kind b k e =
     and-false false = refl
 
 -- all bytes below 256 are shown as clean words that are read as these numbers
+abbrev is_number : Word → ℕ → Bool
+is_number (Word.Number n) x = eqb n x
+is_number (Word.Kind kind) x = false
+is_number (Word.Side side) x = false
+is_number Word.Other x = false
+
+the_number : (w : Word) (x : ℕ) → is_number w x ≡ true → w ≡ Word.Number x
+the_number (Word.Number n) x h = ap (λ (k : ℕ). Word.Number k) (eqb-true n x h)
+the_number (Word.Kind kind) x h = absurd (false≢true h)
+the_number (Word.Side side) x h = absurd (false≢true h)
+the_number Word.Other x h = absurd (false≢true h)
+
 unfoldable good : ℕ → Bool
 unfolding all-clean decimal meant
-good x = all-clean (decimal x) && (ltb 0 (length (decimal x)) && eqb (meant (decimal x)) x)
+good x = all-clean (decimal x) && (ltb 0 (length (decimal x)) && is_number (meant (decimal x)) x)
 
 all-good : every 256 good ≡ true
 unfolding every good all-clean clean decimal digit_count least meant lower
@@ -63,6 +75,6 @@ module _ (x : ℕ) (h : x < 256) where
   unfolding good
   decimal-filled = ltb-true 0 (length (decimal x)) (and_l (ltb 0 (length (decimal x))) _ (and_r (all-clean (decimal x)) _ each))
 
-  pub decimal-meant : meant (decimal x) ≡ x
+  pub decimal-meant : meant (decimal x) ≡ Word.Number x
   unfolding good
-  decimal-meant = eqb-true (meant (decimal x)) x (and_r (ltb 0 (length (decimal x))) _ (and_r (all-clean (decimal x)) _ each))
+  decimal-meant = the_number (meant (decimal x)) x (and_r (ltb 0 (length (decimal x))) _ (and_r (all-clean (decimal x)) _ each))

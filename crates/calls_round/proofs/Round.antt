@@ -1,6 +1,6 @@
 -- What is listed makes the same calls, byte for byte.
-use Prim.Native.Nat.{ℕ, zero, suc, ◌+◌, ◌-◌, ◌*◌, ◌/◌, ◌%◌, ◌≤◌, ◌<◌}
-use mathlib.Core.Bool.{Bool, true, false, ◌&&◌, ◌||◌, not, cond}
+use Prim.Native.Nat.{ℕ, zero, suc, ◌+◌, ◌*◌, ◌/◌, ◌%◌, ◌≤◌, ◌<◌}
+use mathlib.Core.Bool.{true, false, ◌||◌, not}
 use mathlib.Core.List.{List, [], ◌∷◌, ◌++◌, append_assoc, append-nil}
 use mathlib.Core.Logic.{⊎_elim}
 use mathlib.Core.Path.{◌≡◌, refl, sym, ap, ◌∙◌}
@@ -8,8 +8,8 @@ use native.Mathlib.Omega.{arith}
 use lib.Dec.{eqb, ltb}
 use lib.ListN.{length, take, get_or}
 use lib.Seq.{take-suc, take_all, length-take-le}
-use borrow.Author.Tests.{lt-ltb, le-ltb, eq-eqb, ne_eqb, ltb-true, ltb-false, eqb-true, not-true, not-false}
-use Rattle.ground.proofs.Logic.{cases, and_l, and_r, or-e, or-none}
+use borrow.Author.Tests.{lt-ltb, eq-eqb, ne_eqb, ltb-true, ltb-false, eqb-true, not-false}
+use Rattle.ground.proofs.Logic.{cases, and_l, and_r, or-none}
 use Rattle.ground.proofs.Numbers.{same?}
 use Rattle.ground.specs.Pieces.{cat}
 use Rattle.call_lines.specs.CallLine.{worded, kind_name, side_name, call_words, spaced, said_call}
@@ -17,19 +17,20 @@ use Rattle.call_words.specs.Grammar.{hear, hear_all, closed}
 use Rattle.call_words.specs.Word.{lower, meant}
 use Rattle.call_words.specs.declared.Heard.TheVariants.{Nothing}
 use Rattle.call_words.specs.declared.Line.TheVariants.{Call}
-use Rattle.calls_listed.specs.Listed.{said_at, list_lines, list_text}
+use Rattle.calls_listed.specs.Listed.{said_at, list_lines}
 use Rattle.calls_listed.proofs.Ways.{whole-list}
 use Rattle.calls_round.proofs.Lines.{words-clean, read-line}
 use Rattle.calls_round.proofs.Plain.{clean, all-clean, decimal-clean, decimal-filled, decimal-meant}
 use Rattle.calls_round.specs.Theorems.{ListThenRead}
-use Rattle.calls_text.specs.Pieces.{stops, pieces, says}
+use Rattle.calls_text.specs.Pieces.{stops, pieces}
 use Rattle.calls_text.specs.Reading.{Reading, reading, read_text}
 use Rattle.calls_text.proofs.Cuts.{no_more}
-use Rattle.calls_text.specs.declared.Made.TheVariants.{Bytes}
+use Rattle.call_words.specs.declared.Word.{Word}
+use Rattle.std.specs.Prelude.{Ok}
 use Rattle.le.specs.Le.{Bytes as AreBytes}
 use Rattle.lines.specs.Lines.{newline}
 use Rattle.run.specs.Run.{list_misshapen}
-use Rattle.text.specs.Text.{ascii, decimal}
+use Rattle.text.specs.Text.{decimal}
 
 -- clean words in front of clean words
 clean-more : (w : List ℕ) (ws : List (List ℕ)) → all-clean w ≡ true → 0 < length w → words-clean ws ≡ true → words-clean (w ∷ ws) ≡ true
@@ -41,7 +42,7 @@ side-clean : (side : ℕ) → (all-clean (side_name side) ≡ true) × (0 < leng
 unfolding side_name all-clean clean
 side-clean side = ⊎_elim (λ e. rw e (refl, omega arith)) (λ e. rw e (refl, omega arith)) (cases (eqb side 0))
 
-side-meant : (side : ℕ) → side < 2 → meant (side_name side) ≡ 259 + side
+side-meant : (side : ℕ) → side < 2 → meant (side_name side) ≡ Word.Side side
 unfolding side_name meant lower
 side-meant side h =
     ⊎_elim (λ e. rw (eq-eqb side 0 e, e) refl) (λ n. let e : side ≡ 1 = omega arith in rw (ne_eqb side 0 n, e) refl) (same? side 0)
@@ -53,7 +54,7 @@ kind-clean kind =
     (λ n. ⊎_elim (λ e. rw (ne_eqb kind 0 n, eq-eqb kind 1 e) (refl, omega arith))
     (λ m. rw (ne_eqb kind 0 n, ne_eqb kind 1 m) (refl, omega arith)) (same? kind 1)) (same? kind 0)
 
-kind-meant : (kind : ℕ) → kind < 3 → meant (kind_name kind) ≡ 256 + kind
+kind-meant : (kind : ℕ) → kind < 3 → meant (kind_name kind) ≡ Word.Kind kind
 unfolding kind_name meant lower
 kind-meant kind h =
     ⊎_elim (λ e. rw (eq-eqb kind 0 e, e) refl)
@@ -61,39 +62,20 @@ kind-meant kind h =
     (λ m. let e : kind ≡ 2 = omega arith in rw (ne_eqb kind 0 n, ne_eqb kind 1 m, e) refl) (same? kind 1)) (same? kind 0)
 
 -- what three or four words say
-heard-proposal : (p w s : List ℕ) (v side : ℕ) → meant p ≡ 256 → meant w ≡ v → v < 256 → meant s ≡ 259 + side → side < 2
+heard-proposal : (p w s : List ℕ) (v side : ℕ) → meant p ≡ Word.Kind 0 → meant w ≡ Word.Number v → meant s ≡ Word.Side side
     → hear_all Nothing (p ∷ w ∷ s ∷ []) ≡ Call 0 v v side
 unfolding hear closed
-heard-proposal p w s v side a b h c k =
-    let z : 259 + side - 259 ≡ side = omega arith in
-    rw (a, b, c, lt-ltb v 256 h, le-ltb (259 + side) 259 (omega arith), le-ltb 260 (259 + side) (omega arith)) (ap (Call 0 v v) z)
+heard-proposal p w s v side a b c = rw (a, b, c) refl
 
-heard-words : (p w x s : List ℕ) (kind u v side : ℕ) → meant p ≡ 256 + kind → kind < 3 → (kind ≡ 0 → ⊥) → meant w ≡ u → u < 256 → meant x ≡ v → v < 256
-    → meant s ≡ 259 + side → side < 2 → hear_all Nothing (p ∷ w ∷ x ∷ s ∷ []) ≡ Call kind u v side
+heard-words : (p w x s : List ℕ) (kind u v side : ℕ) → meant p ≡ Word.Kind kind → (kind ≡ 0 → ⊥) → meant w ≡ Word.Number u → meant x ≡ Word.Number v
+    → meant s ≡ Word.Side side → hear_all Nothing (p ∷ w ∷ x ∷ s ∷ []) ≡ Call kind u v side
 unfolding hear closed
-heard-words p w x s kind u v side a h n b i c j d k =
-    let y : 256 + kind - 256 ≡ kind = omega arith in
-    let z : 259 + side - 259 ≡ side = omega arith in
-    rw (
-      a,
-      b,
-      c,
-      d,
-      le-ltb (256 + kind) 256 (omega arith),
-      lt-ltb (256 + kind) 259 (omega arith),
-      y,
-      ne_eqb kind 0 n,
-      lt-ltb u 256 i,
-      lt-ltb v 256 j,
-      le-ltb (259 + side) 259 (omega arith),
-      le-ltb 260 (259 + side) (omega arith),
-    ) (ap (Call kind u v) z)
+heard-words p w x s kind u v side a n b c d = rw (a, b, c, d, ne_eqb kind 0 n) refl
 
-heard-numbers : (p w x s : List ℕ) (a b c d : ℕ) → meant p ≡ a → a < 256 → meant w ≡ b → b < 256 → meant x ≡ c → c < 256 → meant s ≡ d → d < 256
+heard-numbers : (p w x s : List ℕ) (a b c d : ℕ) → meant p ≡ Word.Number a → meant w ≡ Word.Number b → meant x ≡ Word.Number c → meant s ≡ Word.Number d
     → hear_all Nothing (p ∷ w ∷ x ∷ s ∷ []) ≡ Call a b c d
 unfolding hear closed
-heard-numbers p w x s a b c d e h f i g j k l =
-    rw (e, f, g, k, lt-ltb a 256 h, lt-ltb b 256 i, lt-ltb c 256 j, lt-ltb d 256 l) refl
+heard-numbers p w x s a b c d e f g h = rw (e, f, g, h) refl
 
 -- the line of a call, in front of other lines
 module _ (L : ℕ) (out : List ℕ) (kind from to side : ℕ) (rest : List ℕ) (room : length out < 16384)
@@ -129,7 +111,7 @@ module _ (L : ℕ) (out : List ℕ) (kind from to side : ℕ) (rest : List ℕ) 
       (number_more kind (decimal from ∷ decimal to ∷ decimal side ∷ []) a
       (number_more from (decimal to ∷ decimal side ∷ []) b (number_more to (decimal side ∷ []) c (number_more side [] d refl))))
       (heard-numbers (decimal kind) (decimal from) (decimal to) (decimal side) kind from to side
-      (decimal-meant kind a) a (decimal-meant from b) b (decimal-meant to c) c (decimal-meant side d) d))
+      (decimal-meant kind a) (decimal-meant from b) (decimal-meant to c) (decimal-meant side d)))
 
   said-in-words : worded kind from to side ≡ true → (side < 2) × (kind < 3) × (kind ≡ 0 → from ≡ to)
   unfolding worded
@@ -152,14 +134,14 @@ module _ (L : ℕ) (out : List ℕ) (kind from to side : ℕ) (rest : List ℕ) 
       (λ z. rw (proposal-words w z)
       (read-line L out (kind_name kind) (decimal from ∷ side_name side ∷ []) kind from to side rest room
       (clean-more (kind_name kind) (decimal from ∷ side_name side ∷ []) k.0 k.1 (number_more from (side_name side ∷ []) b last-side))
-      (heard-proposal (kind_name kind) (decimal from) (side_name side) from side (kind-meant kind p.1 ∙ ap (λ (x : ℕ). 256 + x) z) (decimal-meant from b) b
-      (side-meant side p.0) p.0 ∙ one-site z (p.2 z))))
+      (heard-proposal (kind_name kind) (decimal from) (side_name side) from side (kind-meant kind p.1 ∙ ap (λ (x : ℕ). Word.Kind x) z) (decimal-meant from b)
+      (side-meant side p.0) ∙ one-site z (p.2 z))))
       (λ n. rw (other-words w n)
       (read-line L out (kind_name kind) (decimal from ∷ decimal to ∷ side_name side ∷ []) kind from to side rest room
       (clean-more (kind_name kind) (decimal from ∷ decimal to ∷ side_name side ∷ []) k.0 k.1
       (number_more from (decimal to ∷ side_name side ∷ []) b (number_more to (side_name side ∷ []) c last-side)))
-      (heard-words (kind_name kind) (decimal from) (decimal to) (side_name side) kind from to side (kind-meant kind p.1) p.1 n (decimal-meant from b) b
-      (decimal-meant to c) c (side-meant side p.0) p.0)))
+      (heard-words (kind_name kind) (decimal from) (decimal to) (side_name side) kind from to side (kind-meant kind p.1) n (decimal-meant from b)
+      (decimal-meant to c) (side-meant side p.0))))
       (same? kind 0)
 
   pub call-read : Read
@@ -205,7 +187,7 @@ module _ (list : List ℕ) (bytes : AreBytes list) where
       (bytes (4 * k)) (bytes (4 * k + 1)) (bytes (4 * k + 2)) (bytes (4 * k + 3))
       ∙ ap (λ (x : List ℕ). reading (suc (suc k)) x (pieces (stops 10) rest)) (four k (omega arith))
 
-  all_read : length list % 4 ≡ 0 → length list ≤ 16384 → reading 1 [] (pieces (stops 10) (list_lines list)) ≡ record { answer = Bytes (length list); bytes = list }
+  all_read : length list % 4 ≡ 0 → length list ≤ 16384 → reading 1 [] (pieces (stops 10) (list_lines list)) ≡ record { answer = Ok (length list); bytes = list }
   unfolding list_lines
   all_read e m =
       let n : ℕ = length list / 4 in

@@ -1,8 +1,7 @@
 -- What is listed makes the same calls, byte for byte.
-use Rattle.std.specs.Prelude.{ℕ, false, List, ◌≡◌, length}
+use Rattle.std.specs.Prelude.{ℕ, false, List, Ok, ◌≡◌, length}
 use Rattle.calls_listed.specs.Listed.{list_text}
 use Rattle.calls_text.specs.Reading.{read_text}
-use Rattle.calls_text.specs.declared.Made.TheVariants.{Bytes}
 use Rattle.le.specs.Le.{Bytes as AreBytes}
 use Rattle.run.specs.Run.{list_misshapen}
 
@@ -10,4 +9,4 @@ use Rattle.run.specs.Run.{list_misshapen}
 abbrev pub ListThenRead : Type 0
 ListThenRead =
     (list : List ℕ) → AreBytes list → list_misshapen (length list) ≡ false →
-    ((read_text (list_text list)).answer ≡ Bytes (length list)) × ((read_text (list_text list)).bytes ≡ list)
+    ((read_text (list_text list)).answer ≡ Ok (length list)) × ((read_text (list_text list)).bytes ≡ list)

@@ -5,8 +5,8 @@
 ghost use Rattle.std.specs.Prelude.{◌≡◌};
 ghost use Rattle.calls_text.specs.Reading.{read_text};
 
-use calls_text::Made;
-use files::Fetched;
+use call_words::Wanted;
+use calls_text::Fault;
 
 // Puts the list of a text on file, and no other bytes.
 fn put_on_file(rt: &HostRuntime, text: &[u8], list: &[u8], name: usize) -> bool
@@ -16,7 +16,7 @@ fn put_on_file(rt: &HostRuntime, text: &[u8], list: &[u8], name: usize) -> bool
 }
 
 // Says what became of a text, by the reader's answer. Of a fault in it nothing is printed.
-fn tell(rt: &HostRuntime, text: &[u8], made: Made)
+fn tell(rt: &HostRuntime, text: &[u8], made: Result<usize, Fault>)
     requires { made ≡ (read_text text.now).answer }
 {
     let mut room = [0u8; 512];
@@ -24,13 +24,13 @@ fn tell(rt: &HostRuntime, text: &[u8], made: Made)
     call_printing::say_made(rt, text, &room[..end]);
 }
 
-// Says on standard error which line of a text is wrong, and what was expected there. A call too many is a refusal, which is printed.
-fn complain_of(rt: &HostRuntime, number: u64, what: u8) {
-    if what == 4 {
+// Says on standard error which line of a text is wrong, and what was wanted there. A call too many is a refusal, which is printed.
+fn complain_of(rt: &HostRuntime, fault: Fault) {
+    if fault.wanted == Wanted::Fewer {
         return;
     }
     let mut room = [0u8; 512];
-    let end = calls_said::put_fault(&mut room, 0, number, what);
+    let end = calls_said::put_fault(&mut room, 0, fault);
     files::complain(rt, &room[..end]);
 }
 
@@ -39,14 +39,14 @@ fn make_list(rt: &HostRuntime, text: &[u8], name: usize) {
     let mut list = [0u8; 16384];
     let made = calls_text::make(text, &mut list);
     match made {
-        Made::Bytes(n) => {
+        Ok(n) => {
             let list = &list[..n];
             if put_on_file(rt, text, list, name) {
                 tell(rt, text, made);
             }
         }
-        Made::Fault(number, what) => {
-            complain_of(rt, number, what);
+        Err(fault) => {
+            complain_of(rt, fault);
             tell(rt, text, made);
         }
     }
@@ -61,7 +61,7 @@ fn empty() -> [u8; 524288] {
 pub fn calls_of(rt: &HostRuntime, words: usize, name: usize) {
     let mut text = empty();
     let whole = files::fetch(rt, b"desk calls TEXT CALLS", words, &mut text);
-    let Fetched::Bytes(n) = whole else {
+    let Some(n) = whole else {
         return;
     };
     let text = &text[..n];

@@ -1,49 +1,24 @@
 -- Laws of pieces: a text is its first piece, and what stands behind the byte that stops it.
-use Prim.Native.Nat.{ℕ, zero, suc, ◌+◌, ◌-◌, ◌≤◌, ◌<◌}
-use mathlib.Core.Bool.{Bool, true, false, cond, ◌||◌, ◌&&◌}
+use Prim.Native.Nat.{ℕ, suc, ◌+◌, ◌-◌, ◌≤◌, ◌<◌}
+use mathlib.Core.Bool.{Bool, true, false, cond}
 use mathlib.Core.List.{List, [], ◌∷◌}
 use mathlib.Core.Logic.{⊎_elim}
 use mathlib.Core.Path.{◌≡◌, refl, sym, ap, ◌∙◌}
 use native.Mathlib.Nat.{eq-or-lt_of_le}
 use native.Mathlib.Numerals.{add-one}
 use native.Mathlib.Omega.{arith}
-use lib.Dec.{eqb, ltb}
+use lib.Dec.{ltb}
 use lib.ListN.{length, get_or, take, drop, length-drop}
 use lib.Seq.{drop-cons, drop-length, drop-drop, drop-nil, take-length, take-take, length-take-le, get_or-take, get_or-drop}
 use borrow.Author.Tests.{lt-ltb, le-ltb, eq-eqb, ne_eqb}
 use Rattle.ground.proofs.Logic.{cases}
-use Rattle.call_words.specs.Grammar.{hear, hear_all, closed}
-use Rattle.call_words.specs.Word.{meant}
+use Rattle.call_words.specs.Grammar.{hear_all, closed}
 use Rattle.call_words.specs.declared.Heard.{Heard}
-use Rattle.call_words.specs.declared.Line.{Line}
 use Rattle.calls_text.specs.Inner.{hear_piece, line_at}
 use Rattle.calls_text.specs.Pieces.{stops, upto, onto, pieces, filled, says, unreturned, line_of}
-use Rattle.calls_text.specs.Reading.{Grown, with_line, then_on, Reading, reading}
-use Rattle.calls_text.specs.declared.Made.TheVariants.{Fault}
-
--- a byte stops
-pub stops-itself : (kind b : ℕ) → b ≡ kind → stops kind b ≡ true
-unfolding stops
-stops-itself kind b e = rw (eq-eqb b kind e) refl
-
-module _ (kind b : ℕ) (n : b ≡ kind → ⊥) where
-  pub stops-no-words : (kind ≡ 32 → ⊥) → stops kind b ≡ false
-  unfolding stops
-  stops-no-words k = rw (ne_eqb b kind n, ne_eqb kind 32 k) refl
-
-  module _ (k : kind ≡ 32) where
-    pub stops-tab : b ≡ 9 → stops kind b ≡ true
-    unfolding stops
-    stops-tab e = rw (ne_eqb b kind n, eq-eqb kind 32 k, eq-eqb b 9 e) refl
-
-    module _ (t : b ≡ 9 → ⊥) where
-      pub stops-comma : b ≡ 44 → stops kind b ≡ true
-      unfolding stops
-      stops-comma e = rw (ne_eqb b kind n, eq-eqb kind 32 k, ne_eqb b 9 t, eq-eqb b 44 e) refl
-
-      pub stops-last : (b ≡ 44 → ⊥) → stops kind b ≡ eqb b 59
-      unfolding stops
-      stops-last e = rw (ne_eqb b kind n, eq-eqb kind 32 k, ne_eqb b 9 t, ne_eqb b 44 e) refl
+use Rattle.calls_text.specs.Reading.{fault, Grown, with_line, then_on, Reading, reading}
+use Rattle.call_words.specs.declared.Wanted.{Wanted}
+use Rattle.std.specs.Prelude.{Ok, Err}
 
 -- behind the end there is nothing
 pub drop_past : (l : List ℕ) (i : ℕ) → length l ≤ i → drop i l ≡ []
@@ -77,15 +52,6 @@ module _ (stop : ℕ → Bool) where
   pieces_whole [] h = refl
   pieces_whole (b ∷ t) h =
       ⊎_elim (λ e. let k = rw e at h in absurd (omega arith)) (λ e. let k = rw e at h in rw e (ap (onto b) (pieces_whole t (omega arith)))) (cases (stop b))
-
--- a piece is a word if it has a byte
-pub no_word : (s : Heard) (p : List ℕ) → length p ≡ 0 → s ≡ hear_piece s p
-no_word s [] e = refl
-no_word s (b ∷ w) e = absurd (omega arith)
-
-pub a_word : (s : Heard) (p : List ℕ) (w : ℕ) → (length p ≡ 0 → ⊥) → w ≡ meant p → hear s w ≡ hear_piece s p
-a_word s [] w n e = absurd (n refl)
-a_word s (b ∷ p) w n e = ap (hear s) e
 
 -- a piece is heard, and then the others
 heard-piece : (s : Heard) (p : List ℕ) (ps : List (List ℕ)) → hear_all s (filled (p ∷ ps)) ≡ hear_all (hear_piece s p) (filled ps)
@@ -121,11 +87,16 @@ module _ (text : List ℕ) (at end : ℕ) (h : at ≤ end) where
   pub last_line : end ≡ length text → says (take (end - at) (drop at text)) ≡ line_at text at end
   last_line e = rw (le-ltb end (length text) (omega arith)) refl
 
-  module _ (k : end < length text) where
-    pub empty-line : end ≡ at → says (take (end - at) (drop at text)) ≡ line_at text at end
-    unfolding unreturned
-    empty-line e = let z : end - at ≡ 0 = omega arith in rw (lt-ltb end (length text) k, z) refl
+  -- nor has an empty line one that is cut off
+  pub no_line : end ≡ at → says (take (end - at) (drop at text)) ≡ line_at text at end
+  unfolding unreturned
+  no_line e = let z : end - at ≡ 0 = omega arith in rw z (ap says (either (ltb end (length text))))
+    where
+      either : (b : Bool) → [] ≡ cond {A = List ℕ} b [] []
+      either true = refl
+      either false = refl
 
+  module _ (k : end < length text) where
     long : length (take (end - at) (drop at text)) ≡ end - at
     long = length-take-le (end - at) (drop at text) (omega (arith, length-drop at text))
 
@@ -155,9 +126,9 @@ pub lines-behind : (stop : ℕ → Bool) (l x : List ℕ) → line_of l (pieces 
 lines-behind stop l [] = refl
 lines-behind stop l (b ∷ t) = ⊎_elim (λ e. rw e refl) (λ e. rw e (onto-more l b (pieces stop t))) (cases (stop b))
 
-then_on-alike : (g : Grown) (f k : List ℕ → Reading) (s : ℕ → Reading) → ((m : List ℕ) → f m ≡ k m) → then_on g f s ≡ then_on g k s
-then_on-alike (Grown.On out) f k s h = h out
-then_on-alike (Grown.Stop what) f k s h = refl
+then_on-alike : (g : Grown) (f k : List ℕ → Reading) (s : Wanted → Reading) → ((m : List ℕ) → f m ≡ k m) → then_on g f s ≡ then_on g k s
+then_on-alike (Ok out) f k s h = h out
+then_on-alike (Err what) f k s h = refl
 
 -- an empty line at the end
 pub no_more : (L : ℕ) (out : List ℕ) → reading L out [] ≡ reading L out ([] ∷ [])
@@ -165,12 +136,12 @@ unfolding says closed
 no_more L out = refl
 
 module _ (L : ℕ) (out text : List ℕ) (at end : ℕ) (h : at ≤ length text) (e : end ≡ at + upto (stops 10) (drop at text)) where
-  faulty : ℕ → Reading
-  faulty what = record { answer = Fault L what; bytes = out }
+  faulty : Wanted → Reading
+  faulty what = record { answer = Err (fault L what); bytes = out }
 
   pub reading-more : reading L out (pieces (stops 10) (drop at text))
       ≡ then_on (with_line out (line_at text at end)) (λ more. reading (suc L) more (pieces (stops 10) (drop (end + 1) text)))
-      (λ what. record { answer = Fault L what; bytes = out })
+      (λ what. record { answer = Err (fault L what); bytes = out })
   unfolding faulty
   reading-more =
       let d : List ℕ = drop at text in

@@ -1,6 +1,5 @@
 -- Laws of the room: what it holds once a line is taken.
 use Prim.Native.Nat.{ℕ, suc, ◌+◌, ◌-◌, ◌%◌, ◌≤◌, ◌<◌}
-use mathlib.Core.Bool.{Bool, true, false, cond}
 use mathlib.Core.List.{List, [], ◌∷◌, ◌++◌}
 use mathlib.Core.Logic.{⊎_elim}
 use mathlib.Core.Path.{◌≡◌, refl, sym, ap, ◌∙◌}
@@ -8,7 +7,7 @@ use native.Mathlib.Numerals.{add-one}
 use native.Mathlib.Omega.{arith}
 use lib.Dec.{ltb}
 use lib.ListN.{length, take, drop, set, length-append, take-append-drop}
-use lib.Seq.{sets, sets-eq, length-take-le, take_at, drop_at, drop-drop}
+use lib.Seq.{sets-eq, length-take-le, take_at, drop_at, drop-drop}
 use borrow.Author.Tests.{lt-ltb, le-ltb, ltb-true}
 use Rattle.ground.proofs.Logic.{cases}
 use Rattle.call_words.specs.declared.Line.{Line}
@@ -16,67 +15,39 @@ use Rattle.call_words.specs.declared.Line.TheVariants.{Empty, Call}
 use Rattle.calls_text.specs.Inner.{line_at, took_of, took_into}
 use Rattle.calls_text.proofs.Cuts.{reading-more, no_more, drop_past}
 use Rattle.calls_text.specs.Pieces.{stops, upto, pieces}
-use Rattle.calls_text.specs.Reading.{Grown, with_line, then_on, Reading, reading, read_text, text_into}
-use Rattle.calls_text.specs.declared.Made.TheVariants.{Bytes, Fault}
-use Rattle.calls_text.specs.declared.Took.{Took}
-use Rattle.calls_text.specs.declared.Took.TheVariants.{To, Not}
-
--- a line without a call
-pub nothing-taken : (room : List ℕ) (n : ℕ) → n ≤ length room
-    → (To n ≡ took_of (with_line (take n room) Empty)) × (room ≡ took_into (with_line (take n room) Empty) room)
-nothing-taken room n h =
-    (rw (length-take-le n room h) refl, rw (length-take-le n room h) (sym (take-append-drop n room)))
-
-module _ (room : List ℕ) (n a b c d : ℕ) (h : n ≤ length room) where
-  -- a call too many
-  pub none-taken : 16384 ≤ n
-      → (Not 4 ≡ took_of (with_line (take n room) (Call a b c d))) × (room ≡ took_into (with_line (take n room) (Call a b c d)) room)
-  none-taken k = (rw (length-take-le n room h, le-ltb n 16384 k) refl, rw (length-take-le n room h, le-ltb n 16384 k) refl)
-
-  -- a call
-  module _ (k : n < 16384) (f : n + 4 ≤ length room) where
-    long : length (take n room ++ (a ∷ b ∷ c ∷ d ∷ [])) ≡ n + 4
-    long = length-append (take n room) (a ∷ b ∷ c ∷ d ∷ []) ∙ rw (length-take-le n room h) refl
-
-    pub call-taken : To (n + 4) ≡ took_of (with_line (take n room) (Call a b c d))
-    call-taken = rw (length-take-le n room h, lt-ltb n 16384 k) (ap To (sym long))
-
-    pub call-put : set (set (set (set room n a) (n + 1) b) (n + 2) c) (n + 3) d ≡ took_into (with_line (take n room) (Call a b c d)) room
-    call-put =
-        let e1 : n + 1 ≡ suc n = omega arith in
-        let e2 : n + 2 ≡ suc (suc n) = omega arith in
-        let e3 : n + 3 ≡ suc (suc (suc n)) = omega arith in
-        rw (length-take-le n room h, lt-ltb n 16384 k, e1, e2, e3) (sets-eq (a ∷ b ∷ c ∷ d ∷ []) room n f ∙ ap (λ (z : ℕ). (take n room ++ (a ∷ b ∷ c ∷ d ∷ [])) ++ drop z room) (sym long))
+use Rattle.calls_text.specs.Reading.{fault, Grown, with_line, then_on, Reading, reading, read_text, text_into}
+use Rattle.call_words.specs.declared.Wanted.{Wanted}
+use Rattle.std.specs.Prelude.{Ok, Err}
 
 -- what is known of the bytes taken
-pub took-sane : (out : List ℕ) (line : Line) (m : ℕ) → length out ≤ 16384 → length out % 4 ≡ 0 → took_of (with_line out line) ≡ To m
+pub took-sane : (out : List ℕ) (line : Line) (m : ℕ) → length out ≤ 16384 → length out % 4 ≡ 0 → took_of (with_line out line) ≡ Ok m
     → (m ≤ 16384) × (m % 4 ≡ 0) × (length out ≤ m)
 took-sane out Empty m h k e = let z : length out ≡ m = cc in (omega arith, omega arith, omega arith)
 took-sane out (Call a b c d) m h k e =
     ⊎_elim
-    (λ t. let r : To (length (out ++ (a ∷ b ∷ c ∷ d ∷ []))) ≡ To m = rw t at e in
+    (λ t. let r : Ok (length (out ++ (a ∷ b ∷ c ∷ d ∷ []))) ≡ Ok m = rw t at e in
     let z : length (out ++ (a ∷ b ∷ c ∷ d ∷ [])) ≡ m = cc in
     let l = length-append out (a ∷ b ∷ c ∷ d ∷ []) in
     let i = ltb-true (length out) 16384 t in
     (omega arith, omega arith, omega arith))
-    (λ t. let r : Not 4 ≡ To m = rw t at e in let z : ◌≡◌ {A = ℕ} 0 1 = cc in absurd (omega arith))
+    (λ t. let r : Err Wanted.Fewer ≡ Ok m = rw t at e in let z : ◌≡◌ {A = ℕ} 0 1 = cc in absurd (omega arith))
     (cases (ltb (length out) 16384))
 took-sane out (Line.Fault what) m h k e = let z : ◌≡◌ {A = ℕ} 0 1 = cc in absurd (omega arith)
 
 -- the lines behind go on with what the room holds
-pub took-on : (g : Grown) (room after : List ℕ) (m : ℕ) (f : List ℕ → Reading) (s : ℕ → Reading) → took_of g ≡ To m → after ≡ took_into g room
+pub took-on : (g : Grown) (room after : List ℕ) (m : ℕ) (f : List ℕ → Reading) (s : Wanted → Reading) → took_of g ≡ Ok m → after ≡ took_into g room
     → (then_on g f s ≡ f (take m after)) × (drop m after ≡ drop m room) × (m ≤ length after)
-took-on (Grown.On out) room after m f s e p =
+took-on (Ok out) room after m f s e p =
     let z : length out ≡ m = cc in (
       ap f (sym (rw p (take_at out (drop (length out) room) m z))),
       rw p (drop_at out (drop (length out) room) m z ∙ ap (λ (k : ℕ). drop k room) z),
       rw p (omega (arith, length-append out (drop (length out) room))),
     )
-took-on (Grown.Stop what) room after m f s e p = let z : ◌≡◌ {A = ℕ} 0 1 = cc in absurd (omega arith)
+took-on (Err what) room after m f s e p = let z : ◌≡◌ {A = ℕ} 0 1 = cc in absurd (omega arith)
 
-pub took-not : (g : Grown) (what : ℕ) (f : List ℕ → Reading) (s : ℕ → Reading) → took_of g ≡ Not what → then_on g f s ≡ s what
-took-not (Grown.On out) what f s e = let z : ◌≡◌ {A = ℕ} 0 1 = cc in absurd (omega arith)
-took-not (Grown.Stop w) what f s e = let z : w ≡ what = cc in ap s z
+pub took-not : (g : Grown) (what : Wanted) (f : List ℕ → Reading) (s : Wanted → Reading) → took_of g ≡ Err what → then_on g f s ≡ s what
+took-not (Ok out) what f s e = let z : ◌≡◌ {A = ℕ} 0 1 = cc in absurd (omega arith)
+took-not (Err w) what f s e = let z : w ≡ what = cc in ap s z
 
 -- the room behind what was taken is as it was
 still : (room₀ room : List ℕ) (n m : ℕ) → n ≤ m → drop n room ≡ drop n room₀ → drop m room ≡ drop m room₀
@@ -88,48 +59,48 @@ still room₀ room n m h e =
 held : (bytes room₀ room : List ℕ) (n : ℕ) → bytes ≡ take n room → n ≤ length room → drop n room ≡ drop n room₀ → room ≡ bytes ++ drop (length bytes) room₀
 held bytes room₀ room n e h d = rw (e, length-take-le n room h, ← d) (sym (take-append-drop n room))
 
-took-kept : (g : Grown) (room : List ℕ) (what : ℕ) → took_of g ≡ Not what → took_into g room ≡ room
-took-kept (Grown.On out) room what e = let z : ◌≡◌ {A = ℕ} 0 1 = cc in absurd (omega arith)
-took-kept (Grown.Stop w) room what e = refl
+took-kept : (g : Grown) (room : List ℕ) (what : Wanted) → took_of g ≡ Err what → took_into g room ≡ room
+took-kept (Ok out) room what e = let z : ◌≡◌ {A = ℕ} 0 1 = cc in absurd (omega arith)
+took-kept (Err w) room what e = refl
 
 module _ (text room₀ room after : List ℕ) (L at n end : ℕ) (line : Line) (h : at ≤ length text) (f : n ≤ length room)
     (e : end ≡ at + upto (stops 10) (drop at text)) (said : line ≡ line_at text at end)
     (r : reading 1 [] (pieces (stops 10) text) ≡ reading L (take n room) (pieces (stops 10) (drop at text))) where
   goes : (reading 1 [] (pieces (stops 10) text)
       ≡ then_on (with_line (take n room) line) (λ more. reading (suc L) more (pieces (stops 10) (drop (end + 1) text)))
-      (λ what. record { answer = Fault L what; bytes = take n room }))
+      (λ what. record { answer = Err (fault L what); bytes = take n room }))
   goes = rw said (r ∙ reading-more L (take n room) text at end h e)
 
   -- a line was taken: those behind it go on
   pub after_line : (m : ℕ) → n ≤ 16384 → n % 4 ≡ 0 → drop n room ≡ drop n room₀
-      → took_of (with_line (take n room) line) ≡ To m → after ≡ took_into (with_line (take n room) line) room
+      → took_of (with_line (take n room) line) ≡ Ok m → after ≡ took_into (with_line (take n room) line) room
       → (m ≤ 16384) × (m % 4 ≡ 0) × (m ≤ length after) × (drop m after ≡ drop m room₀)
       × (reading 1 [] (pieces (stops 10) text) ≡ reading (L + 1) (take m after) (pieces (stops 10) (drop (end + 1) text)))
   after_line m a b d t p =
       let l : length (take n room) ≡ n = length-take-le n room f in
       let sane = took-sane (take n room) line m (rw l a) (rw l b) t in
       let on = took-on (with_line (take n room) line) room after m (λ more. reading (suc L) more (pieces (stops 10) (drop (end + 1) text)))
-      (λ what. record { answer = Fault L what; bytes = take n room }) t p in
+      (λ what. record { answer = Err (fault L what); bytes = take n room }) t p in
       let more : n ≤ m = rw l at sane.2 in
       (sane.0, sane.1, on.2, on.1 ∙ still room₀ room n m more d, goes ∙ on.0 ∙ rw (add-one L) refl)
 
   -- a line was not: that is the answer, and the room is as it was
-  pub after-fault : (what : ℕ) → drop n room ≡ drop n room₀
-      → took_of (with_line (take n room) line) ≡ Not what → after ≡ took_into (with_line (take n room) line) room
-      → (Fault L what ≡ (read_text text).answer) × (after ≡ text_into text room₀)
+  pub after-fault : (what : Wanted) → drop n room ≡ drop n room₀
+      → took_of (with_line (take n room) line) ≡ Err what → after ≡ took_into (with_line (take n room) line) room
+      → (Err (fault L what) ≡ (read_text text).answer) × (after ≡ text_into text room₀)
   unfolding read_text text_into
   after-fault what d t p =
       let g : Grown = with_line (take n room) line in
       let all = goes ∙ took-not g what (λ more. reading (suc L) more (pieces (stops 10) (drop (end + 1) text)))
-      (λ what. record { answer = Fault L what; bytes = take n room }) t in
+      (λ what. record { answer = Err (fault L what); bytes = take n room }) t in
       (sym (ap (λ (x : Reading). x.answer) all), p ∙ took-kept g room what t ∙ held _ room₀ room n (ap (λ (x : Reading). x.bytes) all) f d)
 
 -- the end of the text
 pub after-all : (text room₀ room : List ℕ) (L at n : ℕ) → length text ≤ at → n ≤ length room → drop n room ≡ drop n room₀
     → reading 1 [] (pieces (stops 10) text) ≡ reading L (take n room) (pieces (stops 10) (drop at text))
-    → (Bytes n ≡ (read_text text).answer) × (room ≡ text_into text room₀)
+    → (Ok n ≡ (read_text text).answer) × (room ≡ text_into text room₀)
 unfolding read_text text_into
 after-all text room₀ room L at n h f d r =
-    let all : reading 1 [] (pieces (stops 10) text) ≡ record { answer = Bytes n; bytes = take n room } =
+    let all : reading 1 [] (pieces (stops 10) text) ≡ record { answer = Ok n; bytes = take n room } =
     r ∙ rw (drop_past text at h, ← no_more L (take n room), length-take-le n room f) refl in
     (sym (ap (λ (x : Reading). x.answer) all), held _ room₀ room n (ap (λ (x : Reading). x.bytes) all) f d)

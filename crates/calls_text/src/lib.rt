@@ -6,39 +6,21 @@ ghost use Rattle.calls_text.specs.Inner.{hear_piece, line_at, took_of, took_into
 ghost use Rattle.calls_text.specs.Pieces.{stops, upto, says};
 ghost use Rattle.calls_text.specs.Reading.{with_line, read_text, text_into};
 
-use call_words::{Heard, Line};
+use call_words::{Heard, Line, Wanted};
 
-// How many bytes of the room are calls, or what is wrong with the line.
+// The first line of a text that is wrong, counted from 1, and what was wanted there.
 #[derive(Clone, Copy)]
-enum Took {
-    To(usize),
-    Not(u8),
-}
-
-// How many bytes the list has; or the first line that is wrong, and what was expected there, 4 where its call is one too many.
-#[derive(Clone, Copy)]
-pub enum Made {
-    Bytes(usize),
-    Fault(u64, u8),
+pub struct Fault {
+    pub line: u64,
+    pub wanted: Wanted,
 }
 
 // Whether the byte ends a line (10), begins a comment (35) or parts words (32).
+#[tactic(auto, unfolding(crate::specs::Pieces::stops))]
 fn stops(kind: u8, b: u8) -> bool
     ensures { result ≡ stops kind b }
 {
-    if b == kind {
-        return true;
-    }
-    if kind != 32 {
-        return false;
-    }
-    if b == 9 {
-        return true;
-    }
-    if b == 44 {
-        return true;
-    }
-    b == 59
+    b == kind || (kind == b' ' && matches!(b, b'\t' | b',' | b';'))
 }
 
 // The place of the first byte from `at` on that stops, or the end.
@@ -46,37 +28,35 @@ fn upto(text: &[u8], at: usize, kind: u8) -> usize
     requires { at ≤ length text.now }
     ensures { result ≡ at + upto (stops kind) (drop at text.now) }
 {
-    let mut i = at;
-    while i < text.len() {
+    for i in at..text.len() {
         if stops(kind, text[i]) {
             return i;
         }
-        i += 1;
     }
-    i
+    text.len()
 }
 
 // A piece of a line is heard if it is a word.
 fn hear_piece(s: Heard, piece: &[u8]) -> Heard
     ensures { result ≡ hear_piece s piece.now }
 {
-    if piece.len() == 0 {
-        return s;
+    if piece.is_empty() {
+        s
+    } else {
+        call_words::hear(s, call_words::meant(piece))
     }
-    let w = call_words::meant(piece);
-    call_words::hear(s, w)
 }
 
 // What a line says, piece by piece up to a comment.
 fn says(line: &[u8]) -> Line
     ensures { result ≡ says line.now }
 {
-    let end = upto(line, 0, 35);
+    let end = upto(line, 0, b'#');
     let line = &line[..end];
     let mut s = Heard::Nothing;
     let mut at: usize = 0;
     while at < end {
-        let stop = upto(line, at, 32);
+        let stop = upto(line, at, b' ');
         s = hear_piece(s, &line[at..stop]);
         at = stop + 1;
     }
@@ -89,21 +69,15 @@ fn line_at(text: &[u8], at: usize, end: usize) -> Line
     requires end_in_bounds { end ≤ length text.now }
     ensures { result ≡ line_at text.now at end }
 {
-    if end == text.len() {
-        return says(&text[at..end]);
+    if at < end && end < text.len() && text[end - 1] == b'\r' {
+        says(&text[at..end - 1])
+    } else {
+        says(&text[at..end])
     }
-    if end == at {
-        return says(&text[at..end]);
-    }
-    let last = end - 1;
-    if text[last] == 13 {
-        return says(&text[at..last]);
-    }
-    says(&text[at..end])
 }
 
-// Puts a call behind n bytes of calls.
-fn put_call(room: &mut [u8], n: usize, a: u8, b: u8, c: u8, d: u8) -> Took
+// Puts a call behind n bytes of calls, and answers how many bytes there are then.
+fn put_call(room: &mut [u8], n: usize, a: u8, b: u8, c: u8, d: u8) -> Result<usize, Wanted>
     requires room_len { length room.old ≡ 16384 }
     requires n_bound { n ≤ 16384 }
     requires n_value { n % 4 ≡ 0 }
@@ -111,17 +85,14 @@ fn put_call(room: &mut [u8], n: usize, a: u8, b: u8, c: u8, d: u8) -> Took
     ensures memory { room.new ≡ took_into (with_line (take n room.old) (Line.Call a b c d)) room.old }
 {
     if n < 16384 {
-        room[n] = a;
-        room[n + 1] = b;
-        room[n + 2] = c;
-        room[n + 3] = d;
-        return Took::To(n + 4);
+        room[n..n + 4].copy_from_slice(&[a, b, c, d]);
+        return Ok(n + 4);
     }
-    Took::Not(4)
+    Err(Wanted::Fewer)
 }
 
 // Takes a line in.
-fn take(line: Line, room: &mut [u8], n: usize) -> Took
+fn take(line: Line, room: &mut [u8], n: usize) -> Result<usize, Wanted>
     requires room_len { length room.old ≡ 16384 }
     requires n_bound { n ≤ 16384 }
     requires n_value { n % 4 ≡ 0 }
@@ -129,14 +100,14 @@ fn take(line: Line, room: &mut [u8], n: usize) -> Took
     ensures memory { room.new ≡ took_into (with_line (take n room.old) line) room.old }
 {
     match line {
-        Line::Empty => Took::To(n),
+        Line::Empty => Ok(n),
         Line::Call(a, b, c, d) => put_call(room, n, a, b, c, d),
-        Line::Fault(what) => Took::Not(what),
+        Line::Fault(wanted) => Err(wanted),
     }
 }
 
-// Reads a text into the room.
-pub fn make(text: &[u8], room: &mut [u8; 16384]) -> Made
+// Reads a text into the room: how many bytes of it are the list, or the first line that is wrong.
+pub fn make(text: &[u8], room: &mut [u8; 16384]) -> Result<usize, Fault>
     ensures answer { result ≡ (read_text text.now).answer }
     ensures memory { room.new ≡ text_into text.now room.old }
 {
@@ -144,19 +115,21 @@ pub fn make(text: &[u8], room: &mut [u8; 16384]) -> Made
     let mut number: u64 = 1;
     let mut n: usize = 0;
     while at < text.len() {
-        let end = upto(text, at, 10);
+        let end = upto(text, at, b'\n');
         let line = line_at(text, at, end);
-        let took = take(line, room, n);
-        match took {
-            Took::To(m) => {
+        match take(line, room, n) {
+            Ok(m) => {
                 n = m;
-                at = end + 1;
-                number += 1;
             }
-            Took::Not(what) => {
-                return Made::Fault(number, what);
+            Err(wanted) => {
+                return Err(Fault {
+                    line: number,
+                    wanted,
+                });
             }
         }
+        at = end + 1;
+        number += 1;
     }
-    Made::Bytes(n)
+    Ok(n)
 }

@@ -11,13 +11,12 @@ ghost use Rattle.journal_next.specs.Next.{next};
 ghost use Rattle.image_write.specs.Write.{write, write_into};
 ghost use Rattle.questions.specs.Answers.{quorum, largest, blocks, shared, intact};
 ghost use Rattle.packing.specs.Pack.{bytes_of};
-ghost use Rattle.said.specs.Said.{of_check, of_reading, of_writing};
-ghost use Rattle.said_votes.specs.Said.{of_stepped};
-ghost use Rattle.said_sets.specs.Said.{of_holds, of_greatest, of_sharing, of_standing};
-ghost use Rattle.said_journal.specs.Said.{of_checked, of_kept, of_listed, of_taken};
+ghost use Rattle.said.specs.Said.{of_check, of_number};
+ghost use Rattle.said_sets.specs.Said.{of_holds, of_greatest, of_sharing};
+ghost use Rattle.said_journal.specs.Said.{of_checked, of_taken};
 ghost use Rattle.sets.specs.Groups.{lists};
 ghost use Rattle.table.specs.Table.{check};
-ghost use Rattle.voting.specs.Step.{sound_check, step_check, step_into, to_stepped};
+ghost use Rattle.voting.specs.Step.{sound_check, step_check, step_into};
 ghost use Rattle.votes.specs.Call.{call};
 
 use packing::Call;
@@ -36,21 +35,21 @@ pub extern "C" fn siren_table_check(table: &[u64], out: &mut [u64; 4]) -> u64
 // An image read into the room: the first 63 n numbers.
 #[unsafe(no_mangle)]
 pub extern "C" fn siren_image_read(image: &[u8], room: &mut [u64], out: &mut [u64; 4]) -> u64
-    ensures answer { result ≡ (of_reading (read image.now (length room.old))).number }
-    ensures told { out.new ≡ (of_reading (read image.now (length room.old))).out }
+    ensures answer { result ≡ (of_number (read image.now (length room.old))).number }
+    ensures told { out.new ≡ (of_number (read image.now (length room.old))).out }
     ensures memory { room.new ≡ read_into (read image.now (length room.old)) image.now room.old }
 {
-    said::reading(image::read(image, room), out)
+    said::number(image::read(image, room), out)
 }
 
 // A table written into the room as an image: the first 512 n bytes.
 #[unsafe(no_mangle)]
 pub extern "C" fn siren_image_write(table: &[u64], room: &mut [u8], out: &mut [u64; 4]) -> u64
-    ensures answer { result ≡ (of_writing (write table.now (length room.old))).number }
-    ensures told { out.new ≡ (of_writing (write table.now (length room.old))).out }
+    ensures answer { result ≡ (of_number (write table.now (length room.old))).number }
+    ensures told { out.new ≡ (of_number (write table.now (length room.old))).out }
     ensures memory { room.new ≡ write_into (write table.now (length room.old)) table.now room.old }
 {
-    said::writing(image_write::write(table, room), out)
+    said::number(image_write::write(table, room), out)
 }
 
 // Is the set a quorum?
@@ -92,10 +91,10 @@ pub extern "C" fn siren_shared(table: &[u64], out: &mut [u64; 4]) -> u64
 // Which sites are intact when those of the set are faulty?
 #[unsafe(no_mangle)]
 pub extern "C" fn siren_intact(table: &[u64], faulty: u64, out: &mut [u64; 4]) -> u64
-    ensures answer { result ≡ (of_standing (intact (lists table.now) faulty)).number }
-    ensures told { out.new ≡ (of_standing (intact (lists table.now) faulty)).out }
+    ensures answer { result ≡ (of_number (intact (lists table.now) faulty)).number }
+    ensures told { out.new ≡ (of_number (intact (lists table.now) faulty)).out }
 {
-    said_sets::standing(verdict_questions::intact(table, faulty), out)
+    said::number(verdict_questions::intact(table, faulty), out)
 }
 
 // Is the state sound?
@@ -119,11 +118,11 @@ pub extern "C" fn siren_step(
     side: u8,
     out: &mut [u64; 4],
 ) -> u64
-    ensures answer { result ≡ (of_stepped (to_stepped (step_check (lists table.now) faulty (call kind from to side) state.old))).number }
-    ensures told { out.new ≡ (of_stepped (to_stepped (step_check (lists table.now) faulty (call kind from to side) state.old))).out }
+    ensures answer { result ≡ (of_check (step_check (lists table.now) faulty (call kind from to side) state.old)).number }
+    ensures told { out.new ≡ (of_check (step_check (lists table.now) faulty (call kind from to side) state.old)).out }
     ensures memory { state.new ≡ step_into (lists table.now) faulty (call kind from to side) state.old }
 {
-    said_votes::stepped(
+    said::check(
         voting::step(table, faulty, state, kind, from, to, side),
         out,
     )
@@ -144,7 +143,7 @@ pub extern "C" fn siren_run(
     ensures states { state.new ≡ run_state (lists table.now) faulty calls.now state.old answers.old }
     ensures bytes { answers.new ≡ run_answers (lists table.now) faulty calls.now state.old answers.old }
 {
-    said_votes::ran(run::run(table, faulty, calls, state, answers), out)
+    said::number(run::run(table, faulty, calls, state, answers), out)
 }
 
 // The same run of a list of call records.
@@ -162,7 +161,7 @@ pub extern "C" fn siren_run_records(
     ensures states { state.new ≡ run_state (lists table.now) faulty (bytes_of calls.now) state.old answers.old }
     ensures bytes { answers.new ≡ run_answers (lists table.now) faulty (bytes_of calls.now) state.old answers.old }
 {
-    said_votes::ran(
+    said::number(
         records::run_records(table, faulty, calls, state, answers),
         out,
     )
@@ -180,21 +179,21 @@ pub extern "C" fn siren_journal_check(journal: &[u8], out: &mut [u64; 4]) -> u64
 // A list of calls written into the room as a journal: its first blocks.
 #[unsafe(no_mangle)]
 pub extern "C" fn siren_journal_write(calls: &[u8], room: &mut [u8], out: &mut [u64; 4]) -> u64
-    ensures answer { result ≡ (of_kept (keep calls.now (length room.old))).number }
-    ensures told { out.new ≡ (of_kept (keep calls.now (length room.old))).out }
+    ensures answer { result ≡ (of_number (keep calls.now (length room.old))).number }
+    ensures told { out.new ≡ (of_number (keep calls.now (length room.old))).out }
     ensures memory { room.new ≡ keep_into (keep calls.now (length room.old)) calls.now room.old }
 {
-    said_journal::kept(journal_write::write(calls, room), out)
+    said::number(journal_write::write(calls, room), out)
 }
 
 // A journal's list of calls read into the room: its first bytes.
 #[unsafe(no_mangle)]
 pub extern "C" fn siren_journal_list(journal: &[u8], room: &mut [u8], out: &mut [u64; 4]) -> u64
-    ensures answer { result ≡ (of_listed (listed journal.now (length room.old))).number }
-    ensures told { out.new ≡ (of_listed (listed journal.now (length room.old))).out }
+    ensures answer { result ≡ (of_number (listed journal.now (length room.old))).number }
+    ensures told { out.new ≡ (of_number (listed journal.now (length room.old))).out }
     ensures memory { room.new ≡ list_into (listed journal.now (length room.old)) journal.now room.old }
 {
-    said_journal::listed(journal::list(journal, room), out)
+    said::number(journal::list(journal, room), out)
 }
 
 // The call at a place of a journal, counted in calls from 0. The journal is checked whole each time.

@@ -2,12 +2,11 @@
 ghost use Rattle.std.specs.Prelude.{◌≡◌};
 ghost use Rattle.said_votes.specs.Run.{run_says, run_state, run_answers};
 ghost use Rattle.questions.specs.Answers.{quorum, largest, blocks, shared, intact};
-ghost use Rattle.said.specs.Said.{of_check};
-ghost use Rattle.said_votes.specs.Said.{of_stepped};
-ghost use Rattle.said_sets.specs.Said.{of_holds, of_greatest, of_sharing, of_standing};
+ghost use Rattle.said.specs.Said.{of_check, of_number};
+ghost use Rattle.said_sets.specs.Said.{of_holds, of_greatest, of_sharing};
 ghost use Rattle.sets.specs.Groups.{thresholds};
 ghost use Rattle.threshold_image.specs.Image.{thresholds_check};
-ghost use Rattle.voting.specs.Step.{sound_check, step_check, step_into, to_stepped};
+ghost use Rattle.voting.specs.Step.{sound_check, step_check, step_into};
 ghost use Rattle.packing.specs.Pack.{bytes_of};
 ghost use Rattle.votes.specs.Call.{call};
 
@@ -66,10 +65,10 @@ pub extern "C" fn siren_threshold_shared(image: &[u8], out: &mut [u64; 4]) -> u6
 // Which sites are intact when those of the set are faulty?
 #[unsafe(no_mangle)]
 pub extern "C" fn siren_threshold_intact(image: &[u8], faulty: u64, out: &mut [u64; 4]) -> u64
-    ensures answer { result ≡ (of_standing (intact (thresholds image.now) faulty)).number }
-    ensures told { out.new ≡ (of_standing (intact (thresholds image.now) faulty)).out }
+    ensures answer { result ≡ (of_number (intact (thresholds image.now) faulty)).number }
+    ensures told { out.new ≡ (of_number (intact (thresholds image.now) faulty)).out }
 {
-    said_sets::standing(threshold_verdicts::intact(image, faulty), out)
+    said::number(threshold_verdicts::intact(image, faulty), out)
 }
 
 // Is the state sound?
@@ -98,11 +97,11 @@ pub extern "C" fn siren_threshold_step(
     side: u8,
     out: &mut [u64; 4],
 ) -> u64
-    ensures answer { result ≡ (of_stepped (to_stepped (step_check (thresholds image.now) faulty (call kind from to side) state.old))).number }
-    ensures told { out.new ≡ (of_stepped (to_stepped (step_check (thresholds image.now) faulty (call kind from to side) state.old))).out }
+    ensures answer { result ≡ (of_check (step_check (thresholds image.now) faulty (call kind from to side) state.old)).number }
+    ensures told { out.new ≡ (of_check (step_check (thresholds image.now) faulty (call kind from to side) state.old)).out }
     ensures memory { state.new ≡ step_into (thresholds image.now) faulty (call kind from to side) state.old }
 {
-    said_votes::stepped(
+    said::check(
         threshold_votes::step(image, faulty, state, kind, from, to, side),
         out,
     )
@@ -123,7 +122,7 @@ pub extern "C" fn siren_threshold_run(
     ensures states { state.new ≡ run_state (thresholds image.now) faulty calls.now state.old answers.old }
     ensures bytes { answers.new ≡ run_answers (thresholds image.now) faulty calls.now state.old answers.old }
 {
-    said_votes::ran(
+    said::number(
         threshold_votes::run(image, faulty, calls, state, answers),
         out,
     )
@@ -145,7 +144,7 @@ pub extern "C" fn siren_threshold_run_records(
     ensures bytes { answers.new ≡ run_answers (thresholds image.now) faulty (bytes_of calls.now) state.old
         answers.old }
 {
-    said_votes::ran(
+    said::number(
         threshold_records::run_records(image, faulty, calls, state, answers),
         out,
     )

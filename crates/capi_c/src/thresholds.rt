@@ -2,12 +2,11 @@
 ghost use Rattle.std.specs.Prelude.{◌≡◌};
 ghost use Rattle.said_votes.specs.Run.{run_says, run_state, run_answers};
 ghost use Rattle.questions.specs.Answers.{quorum, largest, blocks, shared, intact};
-ghost use Rattle.said.specs.Said.{of_check};
-ghost use Rattle.said_votes.specs.Said.{of_stepped};
-ghost use Rattle.said_sets.specs.Said.{of_holds, of_greatest, of_sharing, of_standing};
+ghost use Rattle.said.specs.Said.{of_check, of_number};
+ghost use Rattle.said_sets.specs.Said.{of_holds, of_greatest, of_sharing};
 ghost use Rattle.sets.specs.Groups.{thresholds};
 ghost use Rattle.threshold_image.specs.Image.{thresholds_check};
-ghost use Rattle.voting.specs.Step.{sound_check, step_check, step_into, to_stepped};
+ghost use Rattle.voting.specs.Step.{sound_check, step_check, step_into};
 ghost use Rattle.packing.specs.Pack.{bytes_of};
 ghost use Rattle.votes.specs.Call.{call};
 
@@ -66,8 +65,8 @@ pub extern "C" fn siren_threshold_shared(image: &[u8], out: &mut [u64; 4]) -> u6
 // Which sites are intact when those of the set are faulty?
 #[unsafe(no_mangle)]
 pub extern "C" fn siren_threshold_intact(image: &[u8], faulty: u64, out: &mut [u64; 4]) -> u64
-    ensures answer { result ≡ (of_standing (intact (thresholds image.now) faulty)).number }
-    ensures told { out.new ≡ (of_standing (intact (thresholds image.now) faulty)).out }
+    ensures answer { result ≡ (of_number (intact (thresholds image.now) faulty)).number }
+    ensures told { out.new ≡ (of_number (intact (thresholds image.now) faulty)).out }
 {
     capi::thresholds::siren_threshold_intact(image, faulty, out)
 }
@@ -98,8 +97,8 @@ pub extern "C" fn siren_threshold_step(
     side: u8,
     out: &mut [u64; 4],
 ) -> u64
-    ensures answer { result ≡ (of_stepped (to_stepped (step_check (thresholds image.now) faulty (call kind from to side) state.old))).number }
-    ensures told { out.new ≡ (of_stepped (to_stepped (step_check (thresholds image.now) faulty (call kind from to side) state.old))).out }
+    ensures answer { result ≡ (of_check (step_check (thresholds image.now) faulty (call kind from to side) state.old)).number }
+    ensures told { out.new ≡ (of_check (step_check (thresholds image.now) faulty (call kind from to side) state.old)).out }
     ensures memory { state.new ≡ step_into (thresholds image.now) faulty (call kind from to side) state.old }
 {
     capi::thresholds::siren_threshold_step(image, faulty, state, kind, from, to, side, out)

@@ -1,11 +1,10 @@
 -- The table that an image holds, and the answer of `desk check`.
-use Rattle.std.specs.Prelude.{ℕ, ◌*◌, ◌/◌, List, length}
+use Rattle.refusals.specs.Check.{Check}
+use Rattle.std.specs.Prelude.{ℕ, ◌*◌, ◌/◌, List, length, Ok, Err}
 use Rattle.image_blocks.specs.Image.{loads}
 use Rattle.image.specs.Read.{read_check}
 use Rattle.lines.specs.Lines.{line}
 use Rattle.refusal_lines.specs.Refused.{explained}
-use Rattle.refusals.specs.declared.Check.{Check}
-use Rattle.refusals.specs.declared.Check.TheVariants.{Sound, Refused}
 use Rattle.refusals.specs.declared.Refusal.{Refusal}
 use Rattle.sets.specs.Groups.{Groups, lists}
 use Rattle.text.specs.Text.{ascii, decimal}
@@ -28,8 +27,8 @@ image_check image = read_check image (63 * 64)
 
 -- the text where nothing is refused, or what is said of the refusal
 abbrev pub unless : Check → (Refusal → List ℕ) → List ℕ → List ℕ
-unless Sound said text = text
-unless (Refused r) said text = said r
+unless (Ok _) said text = text
+unless (Err r) said text = said r
 
 -- `sound N`, or the refusal and what it means
 unfoldable pub check_text : List ℕ → List ℕ

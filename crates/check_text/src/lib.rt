@@ -5,8 +5,6 @@ ghost use Rattle.io.specs.Counts.{IsPrefixLen};
 ghost use Rattle.text.specs.Written.{Writes};
 ghost use Rattle.check_text.specs.Table.{check_text};
 
-use image::Reading;
-
 // Room for the text of a check, a verdict or a journal.
 pub const ROOM: usize = 196608;
 
@@ -18,7 +16,7 @@ pub fn check(image: &[u8], room: &mut [u8; ROOM]) -> usize
     let mut table = [0u64; 4032];
     let q = image::read(image, &mut table);
     match q {
-        Reading::Sites(n) => lines::line_decimal(room, 0, b"sound ", n),
-        Reading::Refused(r) => refusal_lines::put_explained(room, 0, r),
+        Ok(n) => lines::line_decimal(room, 0, b"sound ", n),
+        Err(r) => refusal_lines::put_explained(room, 0, r),
     }
 }

@@ -3,21 +3,12 @@
 
 ghost use Rattle.std.specs.Prelude.{◌≡◌, ◌<◌};
 ghost use Rattle.rules.specs.Rules.{accepting};
-ghost use Rattle.rules.specs.Sound.{differ, not_zero, not_own, not_rule, not_sent};
+ghost use Rattle.rules.specs.Sound.{not_zero, not_own, not_rule, not_sent};
 ghost use Rattle.asking.specs.Inner.{Asked};
 ghost use Rattle.sets.specs.Inner.Rows.{Rows, row_questions};
 
-// One test holds and not the other.
-fn differ(a: bool, b: bool) -> bool
-    ensures { result ≡ differ a b }
-{
-    if a {
-        return !b;
-    }
-    b
-}
-
 // Anything but zero for a faulty receiver.
+#[tactic(auto, unfolding(rules::specs::Sound::not_zero))]
 pub fn is_not_zero(
     v: usize,
     votes: u64,
@@ -29,33 +20,21 @@ pub fn is_not_zero(
     requires { v < 64 }
     ensures { result ≡ not_zero v votes accepts voted accepted confirmed }
 {
-    if votes != 0 {
-        return true;
-    }
-    if accepts != 0 {
-        return true;
-    }
-    if masks::has(voted, v as u64) {
-        return true;
-    }
-    if masks::has(accepted, v as u64) {
-        return true;
-    }
-    masks::has(confirmed, v as u64)
+    votes != 0
+        || accepts != 0
+        || masks::has(voted, v as u64)
+        || masks::has(accepted, v as u64)
+        || masks::has(confirmed, v as u64)
 }
 
 // Own vote bit and voted mask differing; own accept bit and accepted mask differing.
+#[tactic(auto, unfolding(rules::specs::Sound::not_own))]
 pub fn is_not_own(v: usize, votes: u64, accepts: u64, voted: u64, accepted: u64) -> bool
     requires { v < 64 }
     ensures { result ≡ not_own v votes accepts voted accepted }
 {
-    if differ(masks::has(votes, v as u64), masks::has(voted, v as u64)) {
-        return true;
-    }
-    differ(
-        masks::has(accepts, v as u64),
-        masks::has(accepted, v as u64),
-    )
+    masks::has(votes, v as u64) != masks::has(voted, v as u64)
+        || masks::has(accepts, v as u64) != masks::has(accepted, v as u64)
 }
 
 // Site v accepts from the votes and accepts that it heard, its own accept not counted. If it is the set asked last, its answer is kept. `asking::belongs` is
@@ -106,6 +85,7 @@ fn is_confirming(table: &[u64], n: usize, v: usize, accepts: u64, asked: &mut [u
 }
 
 // Accepted or confirmed other than the rules give from what was heard.
+#[tactic(auto, unfolding(rules::specs::Sound::not_rule, rules::specs::Rules::confirming))]
 pub fn is_not_rule(
     table: &[u64],
     n: usize,
@@ -122,24 +102,15 @@ pub fn is_not_rule(
     ensures value { result ≡ not_rule (row_questions table.now n) v votes accepts accepted confirmed }
     ensures asked_2 { Asked (row_questions table.now n) n asked.new }
 {
-    if differ(
-        masks::has(accepted, v as u64),
-        is_accepting(table, n, v, votes, accepts, asked),
-    ) {
-        return true;
-    }
-    differ(
-        masks::has(confirmed, v as u64),
-        is_confirming(table, n, v, accepts, asked),
-    )
+    masks::has(accepted, v as u64) != is_accepting(table, n, v, votes, accepts, asked)
+        || masks::has(confirmed, v as u64) != is_confirming(table, n, v, accepts, asked)
 }
 
 // A vote or accept heard from a correct site that has not sent it.
+#[tactic(auto, unfolding(rules::specs::Sound::not_sent))]
 pub fn is_not_sent(faulty: u64, votes: u64, accepts: u64, voted: u64, accepted: u64) -> bool
     ensures { result ≡ not_sent faulty votes accepts voted accepted }
 {
-    if !masks::within(masks::minus(votes, faulty), voted) {
-        return true;
-    }
-    !masks::within(masks::minus(accepts, faulty), accepted)
+    !masks::within(masks::minus(votes, faulty), voted)
+        || !masks::within(masks::minus(accepts, faulty), accepted)
 }

@@ -4,7 +4,6 @@ use mathlib.Core.Bool.{Bool, true, false, ◌&&◌, ◌||◌, not}
 use mathlib.Core.List.{List}
 use mathlib.Core.Logic.{⊎_elim}
 use mathlib.Core.Path.{◌≡◌, refl, sym, ap, ap₂, ◌∙◌, subst}
-use native.Mathlib.Nat.{not-suc-le-zero}
 use native.Mathlib.Omega.{arith}
 use lib.Bits.{bit_and, bit_or}
 use lib.ListN.{length, get_or, set, length-set}
@@ -14,8 +13,7 @@ use Rattle.ground.proofs.Numbers.{same?}
 use Rattle.ground.specs.Search.{every}
 use Rattle.masks.proofs.Laws.Members.{has-and, has-or}
 use Rattle.masks.proofs.Laws.Single.{not_in}
-use Rattle.masks.proofs.Laws.Subsets.{mem}
-use Rattle.masks.specs.Mask.{has, ◌∈◌}
+use Rattle.masks.specs.Mask.{has}
 use Rattle.sets.specs.Slices.{Slices}
 use Rattle.set_words.specs.Inner.{Says, in_family, Lacking}
 use Rattle.set_words.proofs.WordLaws.{said_at, says_at, says-change}
@@ -23,17 +21,6 @@ use Rattle.inside_words.specs.Inner.{fits}
 use Rattle.contents.specs.Inner.{Kept, Contents, content, content_at}
 
 module _ (r : Slices) (b : ℕ) where
-  pub contents-none : {kept : List ℕ} → length kept ≡ 768 → Contents r b 0 kept
-  contents-none e = record { long = e; each = λ v l. absurd (not-suc-le-zero l) }
-
-  -- a site of b is not asked
-  pub contents-over : {kept : List ℕ} (v : ℕ) → has b v ≡ true → Contents r b v kept → Contents r b (v + 1) kept
-  contents-over v e c =
-      record { long = c.long; each = λ y l o. ⊎_elim (λ z. absurd (o (subst (λ (x : ℕ). x ∈ b) (sym z) (mem e)))) (λ ne. c.each y (less y l ne) o) (same? y v) }
-    where
-      less : (y : ℕ) → y < v + 1 → (y ≡ v → ⊥) → y < v
-      less y h ne = omega arith
-
   -- one word more of site v
   module _ (v w : ℕ) (lv : v < 12) (lw : w < 64) (kept : List ℕ) {words : List ℕ} {rest : ℕ} (s : Says (r.inside v) words) (l : Lacking v w rest) where
     abbrev more : List ℕ
@@ -77,16 +64,6 @@ module _ (r : Slices) (b : ℕ) where
         here j lj =
             ap (λ (x : ℕ). has x j) (get_or-set_same kept (64 * v + w) (bit_or rest (get_or words w 0)) 0 (omega (arith, long, lv, lw)))
             ∙ has-or rest (get_or words w 0) j ∙ ap₂ (λ x y. x || y) (l.each j lj) (s.each w j lw lj)
-
-  pub kept-none : (v : ℕ) {kept : List ℕ} → Kept r v 0 kept
-  kept-none v = record { each = λ w j l. absurd (not-suc-le-zero l) }
-
-  pub contents-more : {kept : List ℕ} (v : ℕ) → Kept r v 64 kept → Contents r b v kept → Contents r b (v + 1) kept
-  contents-more {kept} v k c =
-      record { long = c.long; each = λ y l o. ⊎_elim (λ z. subst (λ (x : ℕ). Kept r x 64 kept) (sym z) k) (λ ne. c.each y (less y l ne) o) (same? y v) }
-    where
-      less : (y : ℕ) → y < v + 1 → (y ≡ v → ⊥) → y < v
-      less y h ne = omega arith
 
   -- the sets that fit one site more
 

@@ -15,10 +15,8 @@ fn keep(table: &[u64], b: u64, v: usize, words: &[u64; 64], kept: &mut [u64; 768
     requires contents { Contents (rules_of table.now) b v kept.old }
     ensures { Contents (rules_of table.now) b (v + 1) kept.new }
 {
-    let mut w: usize = 0;
-    while w < 64 {
-        kept[64 * v + w] = set_words::lacking(v, w) | words[w];
-        w += 1;
+    for (w, word) in words.iter().enumerate() {
+        kept[64 * v + w] = set_words::lacking(v, w) | *word;
     }
 }
 
@@ -31,12 +29,11 @@ fn keep_site(table: &[u64], n: usize, b: u64, v: usize, above: &[u64; 64], kept:
     requires contents { Contents (rules_of table.now) b v kept.old }
     ensures { Contents (rules_of table.now) b (v + 1) kept.new }
 {
-    if masks::has(b, v as u64) {
-        return;
+    if !masks::has(b, v as u64) {
+        let mut words = [0u64; 64];
+        inside_words::inside(table, n, v, above, &mut words);
+        keep(table, b, v, &words, kept);
     }
-    let mut words = [0u64; 64];
-    inside_words::inside(table, n, v, above, &mut words);
-    keep(table, b, v, &words, kept);
 }
 
 // All sites but those of b.
@@ -47,10 +44,8 @@ pub fn fill(table: &[u64], n: usize, b: u64, above: &[u64; 64], kept: &mut [u64;
     requires kept_len { length kept.old ≡ 768 }
     ensures { Contents (rules_of table.now) b 12 kept.new }
 {
-    let mut v: usize = 0;
-    while v < 12 {
+    for v in 0..12 {
         keep_site(table, n, b, v, above, kept);
-        v += 1;
     }
 }
 
@@ -60,10 +55,8 @@ fn narrow(v: usize, kept: &[u64; 768], sets: &mut [u64; 64])
     requires sets_len { length sets.old ≡ 64 }
     ensures { Says (λ s. in_family sets.old s && content_at kept.now v s) sets.new }
 {
-    let mut w: usize = 0;
-    while w < 64 {
-        sets[w] = sets[w] & kept[64 * v + w];
-        w += 1;
+    for (w, word) in sets.iter_mut().enumerate() {
+        *word &= kept[64 * v + w];
     }
 }
 
@@ -74,10 +67,9 @@ fn narrow_unless(table: &[u64], b: u64, v: usize, kept: &[u64; 768], sets: &mut 
     requires says { Says (fits (rules_of table.now) b v) sets.old }
     ensures { Says (fits (rules_of table.now) b (v + 1)) sets.new }
 {
-    if masks::has(b, v as u64) {
-        return;
+    if !masks::has(b, v as u64) {
+        narrow(v, kept, sets);
     }
-    narrow(v, kept, sets);
 }
 
 // The sets in which each member outside b has a slice, of all sets.
@@ -86,9 +78,7 @@ pub fn fitting(table: &[u64], b: u64, kept: &[u64; 768], sets: &mut [u64; 64])
     requires says { Says (fits (rules_of table.now) b 0) sets.old }
     ensures { Says (fits (rules_of table.now) b 12) sets.new }
 {
-    let mut v: usize = 0;
-    while v < 12 {
+    for v in 0..12 {
         narrow_unless(table, b, v, kept, sets);
-        v += 1;
     }
 }

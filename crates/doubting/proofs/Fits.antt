@@ -7,19 +7,18 @@ use lib.Dec.{ltb}
 use lib.ListN.{length}
 use borrow.Author.Tests.{ltb-false}
 use Rattle.journal.specs.Journal.{journal_check, list_check, listed, to_listed}
-use Rattle.journal.specs.declared.Listed as Listed
 use Rattle.journal_blocks.specs.Journal.{list_of}
 use Rattle.refusals.proofs.First.{or_else-sound, kept}
 use Rattle.refusals.specs.First.{refuse}
-use Rattle.refusals.specs.declared.Check.{Check}
-use Rattle.refusals.specs.declared.Check.TheVariants.{Sound, Refused}
+use Rattle.refusals.specs.Check.{Check}
+use Rattle.std.specs.Prelude.{Ok, Err}
 use Rattle.refusals.specs.declared.Refusal as Refusal
 
-read_whole : (b : ℕ) (q : Check) (n : ℕ) → to_listed b q ≡ Listed.Listed.Bytes n → (q ≡ Sound) × (b ≡ n)
-read_whole b Sound n e = (refl, cc)
-read_whole b (Refused r) n e = let z : ◌≡◌ {A = ℕ} 0 1 = cc in absurd (omega arith)
+read_whole : (b : ℕ) (q : Check) (n : ℕ) → to_listed b q ≡ Ok n → (q ≡ Ok tt) × (b ≡ n)
+read_whole b (Ok _) n e = (refl, cc)
+read_whole b (Err r) n e = let z : ◌≡◌ {A = ℕ} 0 1 = cc in absurd (omega arith)
 
-pub listed-fits : (j : List ℕ) (room n : ℕ) → listed j room ≡ Listed.Listed.Bytes n → n ≤ room
+pub listed-fits : (j : List ℕ) (room n : ℕ) → listed j room ≡ Ok n → n ≤ room
 unfolding listed list_check
 listed-fits j room n e =
     let x = read_whole (length (list_of j)) (list_check j room) n e in

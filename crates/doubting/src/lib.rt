@@ -4,8 +4,6 @@
 ghost use Rattle.std.specs.Prelude.{true, ◌≡◌};
 ghost use Rattle.strange_calls.specs.Strange.{mostly_strange};
 
-use journal::Listed;
-
 // Says of a list of which most calls answer 11 that it may be none.
 fn warn(rt: &HostRuntime, call: &[u8], list: &[u8], sites: u64)
     requires { mostly_strange sites list.now ≡ true }
@@ -31,10 +29,7 @@ pub fn doubt(rt: &HostRuntime, call: &[u8], image: &[u8], list: &[u8], first: u8
 // Doubts the list that a journal keeps.
 pub fn doubt_kept(rt: &HostRuntime, call: &[u8], image: &[u8], journal: &[u8], first: u8) {
     let mut calls = [0u8; 16384];
-    let q = journal::list(journal, &mut calls);
-    let Listed::Bytes(n) = q else {
-        return;
-    };
-    let n = n as usize;
-    doubt(rt, call, image, &calls[..n], first);
+    if let Ok(n) = journal::list(journal, &mut calls) {
+        doubt(rt, call, image, &calls[..n as usize], first);
+    }
 }

@@ -16,14 +16,12 @@ fn slices_listed(table: &[u64], n: usize, v: usize) -> u64
 {
     let many = table[63 * v] as usize;
     let mut sets = 0u64;
-    let mut i: usize = 0;
-    while i < many {
+    for i in 0..many {
         let q = table[63 * v + 1 + i];
         if 64 <= q {
             return sets;
         }
-        sets = sets | masks::single(q);
-        i += 1;
+        sets |= masks::single(q);
     }
     sets
 }
@@ -36,10 +34,8 @@ fn inside_listed(table: &[u64], n: usize, v: usize) -> u64
     ensures { Sets table.now v 6 result }
 {
     let mut sets = slices_listed(table, n, v);
-    let mut x: usize = 0;
-    while x < 6 {
-        sets = sets | ((sets & set_words::without(x)) << masks::single(x as u64));
-        x += 1;
+    for x in 0..6 {
+        sets |= (sets & set_words::without(x)) << masks::single(x as u64);
     }
     sets
 }
@@ -63,11 +59,9 @@ fn held(table: &[u64], n: usize) -> u64
     requires { Rows table.now n }
     ensures { Held (rules_of table.now) 6 result }
 {
-    let mut sets = 18446744073709551615u64;
-    let mut v: usize = 0;
-    while v < 6 {
-        sets = sets & (set_words::without(v) | inside(table, n, v));
-        v += 1;
+    let mut sets = u64::MAX;
+    for v in 0..6 {
+        sets &= set_words::without(v) | inside(table, n, v);
     }
     sets
 }
@@ -77,5 +71,5 @@ pub fn first(table: &[u64], n: usize) -> u64
     requires { Rows table.now n }
     ensures { result ≡ least 64 (quorum (rules_of table.now).inside n) }
 {
-    u64::trailing_zeros(masks::minus(held(table, n), 1)) as u64
+    u64::from(masks::minus(held(table, n), 1).trailing_zeros())
 }

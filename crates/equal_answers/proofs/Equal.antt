@@ -1,4 +1,5 @@
 -- Both forms give equal answers when one is the list of smallest slices of the other.
+use Rattle.refusals.specs.Check.{Answer, Check}
 use Prim.Native.Nat.{ℕ, ◌/◌, ◌<◌}
 use mathlib.Core.List.{List}
 use mathlib.Core.Path.{◌≡◌, refl, sym, ap, ap₂, subst}
@@ -7,11 +8,9 @@ use Rattle.equal_answers.specs.Equal.{Smallest, SmallestOf, EqualAnswers, FormsE
 use Rattle.equal_answers.proofs.Smallest.{tests-alike}
 use Rattle.questions.specs.Answers.{quorum, largest, set_site_check, blocks, shared, intact}
 use Rattle.pass.specs.Calls.{calls}
-use Rattle.refusals.specs.declared.Check.{Check}
 use Rattle.rules.specs.State.{width}
 use Rattle.rules.specs.Vote.{vote}
 use Rattle.run.specs.Run.{run_check, the_run, to_ran, ran, front, state_into, answers_into}
-use Rattle.run.specs.declared.Ran.{Ran}
 use Rattle.sets.proofs.Groups.{lawful, slice-site}
 use Rattle.sets.specs.Forms.{LawfulSlices}
 use Rattle.sets.specs.Groups.{Groups, sites_of, fbqs_in, slices_in, Checked, set_check, questions}
@@ -42,11 +41,11 @@ module _ (g h : Groups) (c : Checked g) (d : Checked h) (e : SmallestOf g h) whe
   same-ran F list state answers =
       ap₂ (λ (q : Check) (x : Run (List ℕ)). to_ran q x.passes) (same_check F (length list) state answers) (same-run F list)
 
-  same-state : (r : Ran) (F : ℕ) (list room : List ℕ) → state_into r g F list room ≡ state_into r h F list room
+  same-state : (r : Answer ℕ) (F : ℕ) (list room : List ℕ) → state_into r g F list room ≡ state_into r h F list room
   unfolding state_into
   same-state r F list room = ap₂ (λ (x : Run (List ℕ)) (n : ℕ). front r x.state (width n) room) (same-run F list) e.same-sites
 
-  same-answers : (r : Ran) (F : ℕ) (list room : List ℕ) → answers_into r g F list room ≡ answers_into r h F list room
+  same-answers : (r : Answer ℕ) (F : ℕ) (list room : List ℕ) → answers_into r g F list room ≡ answers_into r h F list room
   unfolding answers_into
   same-answers r F list room = ap (λ (x : Run (List ℕ)). front r x.answers (length list / 4) room) (same-run F list)
 

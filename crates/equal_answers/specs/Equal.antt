@@ -1,9 +1,9 @@
 -- "Prove once that both forms give equal answers when one is the list of smallest slices of the other".
+use Rattle.refusals.specs.Check.{Answer}
 use Rattle.std.specs.Prelude.{ℕ, ◌<◌, List, ◌↔◌, ◌≡◌}
 use Rattle.masks.specs.Mask.{◌⊆◌}
 use Rattle.questions.specs.Answers.{quorum, largest, blocks, shared, intact}
 use Rattle.run.specs.Run.{ran, state_into, answers_into}
-use Rattle.run.specs.declared.Ran.{Ran}
 use Rattle.sets.specs.Groups.{Groups, sites_of, fbqs_in, Checked}
 use Rattle.sets.specs.Paper.{Fbqs}
 use Rattle.votes.specs.Call.{Call}
@@ -30,8 +30,8 @@ pub record EqualAnswers (g h : Groups) : Type 0 where
   pub steps : (F : ℕ) (c : Call) (s : List ℕ) → step_check g F c s ≡ step_check h F c s
   pub states : (F : ℕ) (c : Call) (s : List ℕ) → step_into g F c s ≡ step_into h F c s
   pub runs : (F : ℕ) (list : List ℕ) (state answers : ℕ) → ran g F list state answers ≡ ran h F list state answers
-  pub run-states : (r : Ran) (F : ℕ) (list room : List ℕ) → state_into r g F list room ≡ state_into r h F list room
-  pub run-answers : (r : Ran) (F : ℕ) (list room : List ℕ) → answers_into r g F list room ≡ answers_into r h F list room
+  pub run-states : (r : Answer ℕ) (F : ℕ) (list room : List ℕ) → state_into r g F list room ≡ state_into r h F list room
+  pub run-answers : (r : Answer ℕ) (F : ℕ) (list room : List ℕ) → answers_into r g F list room ≡ answers_into r h F list room
 
 abbrev pub FormsEqual : Type 0
 FormsEqual = (g h : Groups) → Checked g → Checked h → SmallestOf g h → EqualAnswers g h

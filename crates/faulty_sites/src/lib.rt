@@ -1,79 +1,62 @@
 // The faulty sites as a person types them: a mask, or the sites' numbers behind an s.
 #![tactic(auto)]
 
-ghost use Rattle.std.specs.Prelude.{◌≡◌};
-ghost use Rattle.faulty_sites.specs.Faulty.{digit_after, sites_typed, faulty_typed};
+ghost use Rattle.std.specs.Prelude.{◌≡◌, ◌<◌, true, false, bit_or, MatchOption, IfSome};
+ghost use Rattle.faulty_sites.specs.Faulty.{so_far, digit_after, sites_typed, faulty_typed};
+ghost use Rattle.masks.specs.Mask.{has, single};
 
-use text::Typed;
-
-// The site typed so far and one character more: 64 before the first digit, 65 for what is no site.
-fn digit_after(x: u64, b: u8) -> u64
-    ensures { result ≡ digit_after x b }
+// The site typed so far, if any, and one digit more: `None` where that is no site.
+#[tactic(auto, unfolding(crate::specs::Faulty::digit_after))]
+fn digit_after(site: Option<u64>, b: u8) -> Option<u64>
+    requires { IfSome site (λ x. x < 64) }
+    ensures { MatchOption result (digit_after (so_far site) b ≡ 65) (λ y. (y ≡ digit_after (so_far site) b) × (y < 64)) }
 {
-    let c = b as u64;
-    if c < 48 {
-        return 65;
+    let d = u64::from(char::from(b).to_digit(10)?);
+    let y = match site {
+        Some(x) => 10 * x + d,
+        None => d,
+    };
+    if y < 64 { Some(y) } else { None }
+}
+
+// The sites of m and one site more: `None` if it is one of them.
+fn with_site(m: u64, x: u64) -> Option<u64>
+    requires { x < 64 }
+    ensures { MatchOption result (has m x ≡ true) (λ y. (has m x ≡ false) × (y ≡ bit_or m (single x))) }
+{
+    if masks::has(m, x) {
+        None
+    } else {
+        Some(m | masks::single(x))
     }
-    if 57 < c {
-        return 65;
-    }
-    if x == 64 {
-        return c - 48;
-    }
-    if 7 <= x {
-        return 65;
-    }
-    let y = 10 * x + (c - 48);
-    if 64 <= y {
-        return 65;
-    }
-    y
 }
 
 // The sites whose numbers stand behind the s.
-fn sites_named(word: &[u8]) -> Typed
+fn sites_named(word: &[u8]) -> Option<u64>
     ensures { result ≡ sites_typed 0 64 word.now }
 {
     let mut m: u64 = 0;
-    let mut x: u64 = 64;
-    let mut i: usize = 0;
-    while i < word.len() {
-        let b = word[i];
-        if b == 44 {
-            if 64 <= x {
-                return Typed::NoMask;
-            }
-            if masks::has(m, x) {
-                return Typed::NoMask;
-            }
-            m |= masks::single(x);
-            x = 64;
+    let mut site: Option<u64> = None;
+    for b in word {
+        if *b == b',' {
+            m = with_site(m, site?)?;
+            site = None;
         } else {
-            x = digit_after(x, b);
+            site = Some(digit_after(site, *b)?);
         }
-        i += 1;
     }
-    if 64 <= x {
-        return Typed::NoMask;
-    }
-    if masks::has(m, x) {
-        return Typed::NoMask;
-    }
-    Typed::Mask(m | masks::single(x))
+    with_site(m, site?)
 }
 
 // The faulty sites that were typed.
-pub fn faulty_typed(word: &[u8]) -> Typed
+pub fn faulty_typed(word: &[u8]) -> Option<u64>
     ensures { result ≡ faulty_typed word.now }
 {
-    if word.len() == 0 {
-        return Typed::NoMask;
-    }
-    if word[0] != 115 {
+    let Some(sites) = word.strip_prefix(b"s") else {
         return text::mask_typed(word);
+    };
+    if sites.is_empty() {
+        return Some(0);
     }
-    if word.len() == 1 {
-        return Typed::Mask(0);
-    }
-    sites_named(&word[1..])
+    sites_named(sites)
 }

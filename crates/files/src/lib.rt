@@ -10,7 +10,6 @@ ghost use Rattle.io.specs.Counts.{IsPrefixLen};
 use std::env::Env;
 use std::fs::File;
 use std::io::{Cursor, Error, Read, Write};
-use text::Typed;
 
 // errno's numbers: of a name that is too long, and of bytes that are no text.
 const NAME_TOO_LONG: i32 = 36;
@@ -19,13 +18,6 @@ const NO_TEXT: i32 = 84;
 
 // errno's number where nothing failed.
 const NO_ERROR: i32 = 0;
-
-// How many bytes a file has, or that it cannot be used, which has then been said.
-#[derive(Clone, Copy)]
-pub enum Fetched {
-    Bytes(usize),
-    Unused,
-}
 
 // Writes the answer. One that did not get out whole is no answer, and that is said.
 pub fn answer(rt: &HostRuntime, text: &[u8]) {
@@ -43,17 +35,12 @@ pub fn complain(rt: &HostRuntime, words: &[u8]) {
 fn words_end(text: &[u8]) -> usize
     ensures { IsPrefixLen result text.now }
 {
-    let mut i = 0;
-    while i < text.len() {
-        if text[i] == 0 {
-            break;
+    for i in 0..text.len() {
+        if text[i] == 0 || text[i..].starts_with(b" (os error ") {
+            return i;
         }
-        if text[i..].starts_with(b" (os error ") {
-            break;
-        }
-        i += 1;
     }
-    i
+    text.len()
 }
 
 // Says on a line what failed, and why: errno's text.
@@ -87,28 +74,19 @@ pub fn wrong(rt: &HostRuntime, call: &[u8], word: &[u8], what: &[u8]) {
 pub fn argument(rt: &HostRuntime, k: usize, room: &mut [u8]) -> usize
     ensures { IsPrefixLen result room.new }
 {
-    match rt.arg(k, room) {
-        Ok(n) => n,
-        Err(_) => 0,
-    }
+    rt.arg(k, room).unwrap_or(0)
 }
 
 // The name of a file, which is text. To bytes that are none no file is known.
 pub fn name_of(path: &[u8]) -> Result<&str, Error>
     ensures { IfOk result (λ name. name.now ≡ path.now) }
 {
-    match str::from_utf8(path) {
-        Ok(name) => Ok(name),
-        Err(_) => Err(Error::from_raw_os_error(NO_TEXT)),
-    }
+    str::from_utf8(path).map_err(|_| Error::from_raw_os_error(NO_TEXT))
 }
 
 // Opens a file to read it.
 fn open(rt: &HostRuntime, path: &[u8]) -> Result<File, Error> {
-    match name_of(path) {
-        Ok(name) => File::open(rt, name),
-        Err(error) => Err(error),
-    }
+    File::open(rt, name_of(path)?)
 }
 
 // Reads until the room is full, the input ends or a read fails, and answers how many bytes stand at the start of the room then: those that were read.
@@ -119,22 +97,22 @@ pub fn read_full<R: Read>(from: &mut R, room: &mut [u8]) -> usize
     let mut done = 0;
     while done < room.len() {
         match from.read(&mut room[done..]) {
-            Ok(0) => break,
+            Ok(0) | Err(_) => break,
             Ok(n) => done += n,
-            Err(_) => break,
         }
     }
     done
 }
 
-// Reads an open file to its end. A file that fills the room is longer than any table, list of calls or journal.
+// Reads an open file to its end, and answers how many bytes it has: `None` where it cannot be used, which has then been said. A file that fills the room is
+// longer than any table, list of calls or journal.
 fn read_whole(
     rt: &HostRuntime,
     call: &[u8],
     path: &[u8],
     file: &mut File,
     room: &mut [u8],
-) -> Fetched
+) -> Option<usize>
     ensures { fetched_bytes result room.new }
 {
     let n = read_full(file, room);
@@ -145,47 +123,47 @@ fn read_whole(
             path,
             b": too long for a table, a list of calls, a journal or a text\n",
         );
-        return Fetched::Unused;
+        return None;
     }
     let mut more = [0u8; 1];
     match file.read(&mut more) {
-        Ok(0) => Fetched::Bytes(n),
+        Ok(0) => Some(n),
         Ok(_) => {
             unread(rt, call, path, Error::from_raw_os_error(NO_ERROR));
-            Fetched::Unused
+            None
         }
         Err(error) => {
             unread(rt, call, path, error);
-            Fetched::Unused
+            None
         }
     }
 }
 
-// Reads the file that argument k names into the room.
-pub fn fetch(rt: &HostRuntime, call: &[u8], k: usize, room: &mut [u8]) -> Fetched
+// Reads the file that argument k names into the room, and answers how many bytes it has: `None` where it cannot be used, which has then been said.
+pub fn fetch(rt: &HostRuntime, call: &[u8], k: usize, room: &mut [u8]) -> Option<usize>
     ensures { fetched_bytes result room.new }
 {
     let mut path = io::buffer();
     let Ok(p) = rt.arg(k, &mut path) else {
         let error = Error::from_raw_os_error(NAME_TOO_LONG);
         unread(rt, call, b"a file with so long a name", error);
-        return Fetched::Unused;
+        return None;
     };
     match open(rt, &path[..p]) {
         Ok(mut file) => read_whole(rt, call, &path[..p], &mut file, room),
         Err(error) => {
             unread(rt, call, &path[..p], error);
-            Fetched::Unused
+            None
         }
     }
 }
 
-// The faulty sites that argument k names.
-pub fn faulty(rt: &HostRuntime, call: &[u8], k: usize) -> Typed {
+// The faulty sites that argument k names: `None` where it names none, which has then been said.
+pub fn faulty(rt: &HostRuntime, call: &[u8], k: usize) -> Option<u64> {
     let mut word = io::buffer();
     let n = argument(rt, k, &mut word);
     let typed = faulty_sites::faulty_typed(&word[..n]);
-    if let Typed::NoMask = typed {
+    if typed.is_none() {
         wrong(
             rt,
             call,

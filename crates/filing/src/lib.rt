@@ -40,13 +40,11 @@ pub fn is_free(rt: &HostRuntime, call: &[u8], k: usize) -> bool {
 
 // Makes an empty file, open for writing. It fails where the name is taken.
 fn create(rt: &HostRuntime, path: &[u8]) -> Result<File, Error> {
-    match files::name_of(path) {
-        Ok(name) => OpenOptions::new()
-            .write(true)
-            .create_new(true)
-            .open(rt, name),
-        Err(error) => Err(error),
-    }
+    let name = files::name_of(path)?;
+    OpenOptions::new()
+        .write(true)
+        .create_new(true)
+        .open(rt, name)
 }
 
 // Takes a file away.
@@ -82,11 +80,7 @@ fn make(rt: &HostRuntime, call: &[u8], path: &[u8], bytes: &[u8]) -> bool {
 
 // Gives the file at `part` the name `path`.
 fn rename(rt: &HostRuntime, part: &[u8], path: &[u8]) -> Result<(), Error> {
-    match (files::name_of(part), files::name_of(path)) {
-        (Ok(from), Ok(to)) => fs::rename(rt, from, to),
-        (Err(error), _) => Err(error),
-        (_, Err(error)) => Err(error),
-    }
+    fs::rename(rt, files::name_of(part)?, files::name_of(path)?)
 }
 
 // Gives the file at `part` the name `path`, which is made first, so that no other file loses it. If that fails it says so, and both are gone.

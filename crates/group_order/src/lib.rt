@@ -12,32 +12,7 @@ pub fn known(q: u64, m: &[u64]) -> bool
     ensures { result ≡ known q m.now }
 {
     let many = m[0] as usize;
-    let mut k: usize = 0;
-    while k < many {
-        if m[1 + k] == q {
-            return true;
-        }
-        k += 1;
-    }
-    false
-}
-
-fn lower(a: u64, b: u64) -> u64
-    ensures { result ≡ cond (ltb a b) a b }
-{
-    if a < b {
-        return a;
-    }
-    b
-}
-
-fn upper(a: u64, b: u64) -> u64
-    ensures { result ≡ cond (ltb a b) b a }
-{
-    if a < b {
-        return b;
-    }
-    a
+    m[1..1 + many].contains(&q)
 }
 
 // q goes through the first many numbers behind the count, and one number goes out behind them.
@@ -47,12 +22,10 @@ fn sift(m: &mut [u64], q: u64, many: usize)
     ensures { m.new ≡ take 1 m.old ++ (sift q (take many (drop 1 m.old)) ++ drop (2 + many) m.old) }
 {
     let mut c = q;
-    let mut k: usize = 0;
-    while k < many {
+    for k in 0..many {
         let x = m[1 + k];
-        m[1 + k] = lower(c, x);
-        c = upper(c, x);
-        k += 1;
+        m[1 + k] = c.min(x);
+        c = c.max(x);
     }
     m[1 + many] = c;
 }

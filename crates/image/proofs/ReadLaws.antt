@@ -1,4 +1,6 @@
 -- Laws of reading: the length, a way out each, that a table which was read holds a quorum, and what an answer says that is no refusal.
+use Rattle.refusals.specs.Check.{Check}
+use Rattle.std.specs.Prelude.{Ok, Err}
 use Prim.Native.Nat.{ℕ, ◌*◌, ◌/◌, ◌%◌, ◌≤◌, ◌<◌}
 use mathlib.Core.Bool.{true, false, ◌||◌, not, or-true}
 use mathlib.Core.List.{List, ◌++◌}
@@ -12,13 +14,9 @@ use Rattle.ground.proofs.Logic.{cases, or-none}
 use Rattle.ground.specs.Pieces.{part}
 use Rattle.image_blocks.specs.Image.{image_misshapen, blocks_check, loads}
 use Rattle.image.specs.Read.{quorumless, read_check, to_reading, read}
-use Rattle.image.specs.declared.Reading.{Reading}
-use Rattle.image.specs.declared.Reading.TheVariants.{Sites}
 use Rattle.image_blocks.proofs.Load.{length-loads, loads-site, loads-front}
 use Rattle.masks.specs.Mask.{all_below}
 use Rattle.refusals.proofs.First.{or_else-sound, first-all, first-sound, missed}
-use Rattle.refusals.specs.declared.Check.{Check}
-use Rattle.refusals.specs.declared.Check.TheVariants.{Sound, Refused}
 use Rattle.refusals.specs.declared.Refusal.{Refusal}
 use Rattle.refusals.specs.declared.Refusal.TheVariants.{Length, Room}
 use Rattle.sets.proofs.Groups.{table-rows}
@@ -66,14 +64,14 @@ module _ (many : ℕ) where
 
 -- the sites of an image whose blocks pass are sound, so it holds a quorum
 
-pub loads-sound : (n : ℕ) (image : List ℕ) → blocks_check n image ≡ Sound → sites_check n (loads n image) ≡ Sound
+pub loads-sound : (n : ℕ) (image : List ℕ) → blocks_check n image ≡ Ok tt → sites_check n (loads n image) ≡ Ok tt
 unfolding blocks_check sites_check
 loads-sound n image h =
     first-sound (λ i. site_check n i i (site_of (loads n image) i)) n
     (λ i l. ap (site_check n i i) (loads-site n image i l)
     ∙ (block-sound n i i (part 512 i image) (first-all (λ j. block_check n j j (part 512 j image)) n i h l)).4)
 
-pub loads-table : (n : ℕ) (image : List ℕ) → 1 ≤ n → n ≤ 64 → blocks_check n image ≡ Sound → Table (loads n image) n
+pub loads-table : (n : ℕ) (image : List ℕ) → 1 ≤ n → n ≤ 64 → blocks_check n image ≡ Ok tt → Table (loads n image) n
 loads-table n image p q h = checked-sites (loads n image) n (length-loads n image) p q (loads-sound n image h)
 
 pub some-quorum : (n : ℕ) (t : List ℕ) → Table t n → quorumless n t ≡ false
@@ -81,7 +79,7 @@ unfolding quorumless
 some-quorum n t s = ne_eqb (largest (slices_of t).inside n (all_below n)) 0 (whole.some-quorum (table-lawful s) s.some-site)
 
 -- the same of the table that a room begins with once all blocks were loaded into it
-module _ (n : ℕ) (image d m : List ℕ) (e : m ≡ loads n image ++ d) (p : 1 ≤ n) (q : n ≤ 64) (h : blocks_check n image ≡ Sound) where
+module _ (n : ℕ) (image d m : List ℕ) (e : m ≡ loads n image ++ d) (p : 1 ≤ n) (q : n ≤ 64) (h : blocks_check n image ≡ Ok tt) where
   pub room-rows : Rows (take (63 * n) m) n
   room-rows = rw (e, loads-front n image d) (table-rows (loads-table n image p q h))
 
@@ -91,27 +89,27 @@ module _ (n : ℕ) (image d m : List ℕ) (e : m ≡ loads n image ++ d) (p : 1 
 -- the ways out
 
 module _ (image : List ℕ) (room : ℕ) where
-  pub read_length : image_misshapen (length image) ≡ true → read image room ≡ Reading.Refused Length
+  pub read_length : image_misshapen (length image) ≡ true → read image room ≡ Err Length
   unfolding read read_check
   read_length e = rw e refl
 
   module _ (e : image_misshapen (length image) ≡ false) where
-    pub read-room : room < 63 * (length image / 512) → read image room ≡ Reading.Refused Room
+    pub read-room : room < 63 * (length image / 512) → read image room ≡ Err Room
     unfolding read read_check
     read-room l = rw (e, lt-ltb room (63 * (length image / 512)) l) refl
 
-    pub read-block : 63 * (length image / 512) ≤ room → (r : Refusal) → blocks_check (length image / 512) image ≡ Refused r → read image room ≡ Reading.Refused r
+    pub read-block : 63 * (length image / 512) ≤ room → (r : Refusal) → blocks_check (length image / 512) image ≡ Err r → read image room ≡ Err r
     unfolding read read_check
     read-block l r h = rw (e, le-ltb room (63 * (length image / 512)) l, h) refl
 
-    pub read-sites : 63 * (length image / 512) ≤ room → blocks_check (length image / 512) image ≡ Sound → read image room ≡ Sites (length image / 512)
+    pub read-sites : 63 * (length image / 512) ≤ room → blocks_check (length image / 512) image ≡ Ok tt → read image room ≡ Ok (length image / 512)
     unfolding read read_check
     read-sites l h =
         let n = length image / 512 in
         let s = blocks-shape (length image) e in
         rw (e, le-ltb room (63 * n) l, h, some-quorum n (loads n image) (loads-table n image s.1 s.2 h)) refl
 
-  pub read_taken : (n : ℕ) → read image room ≡ Sites n → (image_misshapen (length image) ≡ false) × (length image / 512 ≡ n) × (blocks_check n image ≡ Sound)
+  pub read_taken : (n : ℕ) → read image room ≡ Ok n → (image_misshapen (length image) ≡ false) × (length image / 512 ≡ n) × (blocks_check n image ≡ Ok tt)
   unfolding read read_check
   read_taken n h =
       let k = length image / 512 in
@@ -120,12 +118,12 @@ module _ (image : List ℕ) (room : ℕ) where
       let q = missed (ltb room (63 * k)) Room _ p.1 in
       (p.0, d.1, ap (λ (x : ℕ). blocks_check x image) (sym d.1) ∙ (or_else-sound (blocks_check k image) _ q.1).0)
     where
-      done : (k n : ℕ) (s : Check) → to_reading k s ≡ Sites n → (s ≡ Sound) × (k ≡ n)
-      done k n Sound h = (refl, cc)
-      done k n (Refused r) h = let z : ◌≡◌ {A = ℕ} 0 1 = cc in absurd (omega arith)
+      done : (k n : ℕ) (s : Check) → to_reading k s ≡ Ok n → (s ≡ Ok tt) × (k ≡ n)
+      done k n (Ok _) h = (refl, cc)
+      done k n (Err r) h = let z : ◌≡◌ {A = ℕ} 0 1 = cc in absurd (omega arith)
 
 -- an image of n blocks that pass, and room for them
-pub read_all : (image : List ℕ) (room n : ℕ) → length image ≡ 512 * n → 1 ≤ n → n ≤ 64 → 63 * n ≤ room → blocks_check n image ≡ Sound → read image room ≡ Sites n
+pub read_all : (image : List ℕ) (room n : ℕ) → length image ≡ 512 * n → 1 ≤ n → n ≤ 64 → 63 * n ≤ room → blocks_check n image ≡ Ok tt → read image room ≡ Ok n
 read_all image room n len p q l h =
     let k : length image / 512 ≡ n = omega arith in
-    read-sites image room (whole-blocks (length image) (λ z. omega arith) (omega arith) (rw k q)) (rw k l) (rw k h) ∙ ap Sites k
+    read-sites image room (whole-blocks (length image) (λ z. omega arith) (omega arith) (rw k q)) (rw k l) (rw k h) ∙ ap Ok k

@@ -1,4 +1,5 @@
 -- Tables survive reading and writing unchanged, either one first.
+use Rattle.std.specs.Prelude.{Ok}
 use Prim.Native.Nat.{ℕ, ◌+◌, ◌*◌, ◌≤◌, ◌<◌}
 use mathlib.Core.List.{List, ◌++◌}
 use mathlib.Core.Path.{◌≡◌, ap, ◌∙◌}
@@ -19,7 +20,6 @@ use Rattle.image_write.proofs.WriteLaws.{write-taken, write-all}
 use Rattle.le.proofs.Laws.{bytes-part}
 use Rattle.le.specs.Le.{Bytes}
 use Rattle.refusals.proofs.First.{first-all, first-sound}
-use Rattle.refusals.specs.declared.Check.TheVariants.{Sound}
 use Rattle.site_block.proofs.Block.{block-sound}
 use Rattle.site_write.proofs.OneSite.{load_store, store-check, store-load}
 use Rattle.site_block.specs.Block.{block_check, load, store}
@@ -29,7 +29,7 @@ use Rattle.table.proofs.Table.{shape}
 use Rattle.table.specs.Table.{site_of, count_of, sites_check}
 
 -- a table whose sites pass
-module _ (n : ℕ) (t : List ℕ) (len : length t ≡ 63 * n) (w : Words t) (fine : sites_check n t ≡ Sound) (small : n ≤ 64) where
+module _ (n : ℕ) (t : List ℕ) (len : length t ≡ 63 * n) (w : Words t) (fine : sites_check n t ≡ Ok tt) (small : n ≤ 64) where
   site-at : (i : ℕ) → i < n → length (site_of t i) ≡ 63
   site-at i l = length_part 63 i n t l (rw len (le_refl (63 * n)))
 
@@ -47,7 +47,7 @@ module _ (n : ℕ) (t : List ℕ) (len : length t ≡ 63 * n) (w : Words t) (fin
       ∙ cat-parts 63 n t
       ∙ take_all (63 * n) t (rw len (le_refl (63 * n)))
 
-  stores-pass : blocks_check n (stores n t) ≡ Sound
+  stores-pass : blocks_check n (stores n t) ≡ Ok tt
   unfolding blocks_check sites_check
   stores-pass =
       first-sound (λ i. block_check n i i (part 512 i (stores n t))) n
@@ -56,7 +56,7 @@ module _ (n : ℕ) (t : List ℕ) (len : length t ≡ 63 * n) (w : Words t) (fin
       ∙ first-all (λ j. site_check n j j (site_of t j)) n i fine l)
 
 -- an image whose blocks pass
-stores-loads : (n : ℕ) (image : List ℕ) → length image ≡ 512 * n → Bytes image → blocks_check n image ≡ Sound → stores n (loads n image) ≡ image
+stores-loads : (n : ℕ) (image : List ℕ) → length image ≡ 512 * n → Bytes image → blocks_check n image ≡ Ok tt → stores n (loads n image) ≡ image
 unfolding stores blocks_check
 stores-loads n image len hb fine =
     cat-ext (λ i. store n i (site_of (loads n image) i)) (λ i. part 512 i image) n

@@ -1,12 +1,9 @@
 -- Reading an image into a lent room: the answer, and what the room holds then.
-use Rattle.std.specs.Prelude.{ℕ, ◌*◌, ◌/◌, Bool, List, ◌++◌, eqb, ltb, length, drop}
+use Rattle.refusals.specs.Check.{Answer, Check}
+use Rattle.std.specs.Prelude.{ℕ, ◌*◌, ◌/◌, Bool, List, ◌++◌, eqb, ltb, length, drop, Ok, Err}
 use Rattle.image_blocks.specs.Image.{image_misshapen, blocks_check, loads}
-use Rattle.image.specs.declared.Reading.{Reading}
-use Rattle.image.specs.declared.Reading.TheVariants.{Sites}
 use Rattle.masks.specs.Mask.{all_below}
 use Rattle.refusals.specs.First.{or_else, refuse}
-use Rattle.refusals.specs.declared.Check.{Check}
-use Rattle.refusals.specs.declared.Check.TheVariants.{Sound}
 use Rattle.refusals.specs.declared.Refusal.TheVariants.{Length, NoQuorum, Room}
 use Rattle.sets.specs.Quorum.{largest}
 use Rattle.sets.specs.Slices.{slices_of}
@@ -26,16 +23,16 @@ read_check image room =
     (or_else (blocks_check n image)
     (refuse (quorumless n (loads n image)) NoQuorum)))
 
-abbrev pub to_reading : ℕ → Check → Reading
-to_reading n Sound = Sites n
-to_reading n (Check.Refused r) = Reading.Refused r
+abbrev pub to_reading : ℕ → Check → Answer ℕ
+to_reading n (Ok _) = Ok n
+to_reading n (Err r) = Err r
 
 -- the answer for a room of so many numbers: n, or the refusal
-unfoldable pub read : List ℕ → ℕ → Reading
+unfoldable pub read : List ℕ → ℕ → Answer ℕ
 unfolding read_check
 read image room = to_reading (length image / 512) (read_check image room)
 
 -- what the room holds then: the table in its first 63 n numbers and the rest kept; on refusal all is kept
-unfoldable pub read_into : Reading → List ℕ → List ℕ → List ℕ
-read_into (Sites n) image room = loads n image ++ drop (63 * n) room
-read_into (Reading.Refused r) image room = room
+unfoldable pub read_into : Answer ℕ → List ℕ → List ℕ → List ℕ
+read_into (Ok n) image room = loads n image ++ drop (63 * n) room
+read_into (Err r) image room = room

@@ -1,8 +1,8 @@
 -- The table on file: "Blocks of 512 bytes, one a site, in site order; numbers little-endian."
+use Rattle.refusals.specs.Check.{Check}
 use Rattle.std.specs.Prelude.{ℕ, ◌%◌, Bool, ◌||◌, not, List, eqb, ltb}
 use Rattle.ground.specs.Pieces.{cat, part}
 use Rattle.refusals.specs.First.{first}
-use Rattle.refusals.specs.declared.Check.{Check}
 use Rattle.site_block.specs.Block.{block_check, load, store}
 use Rattle.table.specs.Table.{site_of}
 

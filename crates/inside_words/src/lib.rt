@@ -13,10 +13,7 @@ ghost use Rattle.inside_words.specs.Inner.{Empty, Marked, fits};
 fn stands(here: usize, at: usize, word: u64) -> u64
     ensures { result ≡ cond (eqb here at) word 0 }
 {
-    if here == at {
-        return word;
-    }
-    0
+    if here == at { word } else { 0 }
 }
 
 // Each slice that site v lists marks the sets that contain it and have the same sites of the last six. Slices ascend, so that those of a word follow each
@@ -33,14 +30,12 @@ fn mark_listed(table: &[u64], n: usize, v: usize, above: &[u64; 64], words: &mut
     let many = table[63 * v] as usize;
     let mut at: usize = 0;
     let mut word = 0u64;
-    let mut i: usize = 0;
-    while i < many {
+    for i in 0..many {
         let q = table[63 * v + 1 + i];
         let here = (q / 64) as usize;
         word = stands(here, at, word) | above[(q % 64) as usize];
         words[here] = word;
         at = here;
-        i += 1;
     }
 }
 
@@ -67,12 +62,10 @@ pub fn met_word(table: &[u64], n: usize, v: usize, w: usize) -> u64
     ensures { result ≡ gather 64 (λ j. (rules_of table.now).inside v (w * 64 + j)) }
 {
     let mut word = 0u64;
-    let mut j: usize = 0;
-    while j < 64 {
+    for j in 0..64 {
         if sets::has_met(table, n, v, (w * 64 + j) as u64) {
-            word = word | masks::single(j as u64);
+            word |= masks::single(j as u64);
         }
-        j += 1;
     }
     word
 }
@@ -85,10 +78,8 @@ fn inside_met(table: &[u64], n: usize, v: usize, words: &mut [u64; 64])
     requires words_len { length words.old ≡ 64 }
     ensures { Says ((rules_of table.now).inside v) words.new }
 {
-    let mut w: usize = 0;
-    while w < 64 {
-        words[w] = met_word(table, n, v, w);
-        w += 1;
+    for (w, word) in words.iter_mut().enumerate() {
+        *word = met_word(table, n, v, w);
     }
 }
 
@@ -116,10 +107,8 @@ fn narrow(v: usize, words: &[u64; 64], sets: &mut [u64; 64])
     requires sets_len { length sets.old ≡ 64 }
     ensures { Says (λ s. in_family sets.old s && (not (has s v) || in_family words.now s)) sets.new }
 {
-    let mut w: usize = 0;
-    while w < 64 {
-        sets[w] = sets[w] & (set_words::lacking(v, w) | words[w]);
-        w += 1;
+    for (w, word) in sets.iter_mut().enumerate() {
+        *word &= set_words::lacking(v, w) | words[w];
     }
 }
 
@@ -145,9 +134,7 @@ pub fn fitting(table: &[u64], n: usize, above: &[u64; 64], sets: &mut [u64; 64])
     requires says { Says (fits (rules_of table.now) 0 0) sets.old }
     ensures { Says (fits (rules_of table.now) 0 12) sets.new }
 {
-    let mut v: usize = 0;
-    while v < 12 {
+    for v in 0..12 {
         narrow_by(table, n, v, above, sets);
-        v += 1;
     }
 }

@@ -41,7 +41,7 @@ fn ask(
     ensures pairs { Pairs (rules_of table.now) n pairs.new }
 {
     let gone = masks::minus(masks::all_below(n as u64), rest);
-    let mut sets = [18446744073709551615u64; 64];
+    let mut sets = [u64::MAX; 64];
     contents::fitting(table, gone, kept, &mut sets);
     let p = apart_words::first_apart(table, n, above, gone, &mut sets);
     if p == masks::single(n as u64) {
@@ -71,10 +71,7 @@ fn spared(
     ensures spared { bit_or known result ≡ bit_or known (cond (dispensable (rules_of table.now) n (minus (all_below n) rest)) rest 0) }
     ensures pairs { Pairs (rules_of table.now) n pairs.new }
 {
-    if masks::within(rest, known) {
-        return 0;
-    }
-    if known_pairs::is_known(table, n, rest, pairs) {
+    if masks::within(rest, known) || known_pairs::is_known(table, n, rest, pairs) {
         return 0;
     }
     ask(table, n, rest, above, kept, pairs)
@@ -101,7 +98,7 @@ fn gather(
     let mut set = 0u64;
     let mut rest = left;
     while rest != 0 {
-        set = set | spared(table, n, rest, set, above, kept, &mut pairs);
+        set |= spared(table, n, rest, set, above, kept, &mut pairs);
         if set == left {
             return set;
         }
@@ -122,7 +119,7 @@ pub fn intact(table: &[u64], n: usize, left: u64) -> u64
     set_words::above(&mut above);
     let mut kept = [0u64; 768];
     contents::fill(table, n, f, &above, &mut kept);
-    let mut sets = [18446744073709551615u64; 64];
+    let mut sets = [u64::MAX; 64];
     contents::fitting(table, f, &kept, &mut sets);
     picked_words::lack(f, &mut sets);
     gather(table, n, left, &above, &kept, &sets)

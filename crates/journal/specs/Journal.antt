@@ -1,12 +1,10 @@
 -- The journal of calls on file, as it is checked, and its list as it is read into a lent room.
-use Rattle.std.specs.Prelude.{ℕ, ◌/◌, ◌%◌, Bool, ◌||◌, not, List, ◌++◌, eqb, ltb, length, drop}
-use Rattle.journal.specs.declared.Checked.{Checked}
-use Rattle.journal.specs.declared.Listed.{Listed}
+use Rattle.std.specs.Prelude.{ℕ, ◌/◌, ◌%◌, Bool, ◌||◌, not, List, ◌++◌, Ok, Err, eqb, ltb, length, drop}
+use Rattle.journal.specs.declared.Size.{Size}
 use Rattle.journal_blocks.specs.Journal.{blocks_in, journal_blocks_check, list_of}
 use Rattle.refusals.specs.First.{or_else, refuse}
-use Rattle.refusals.specs.declared.Check.{Check}
-use Rattle.refusals.specs.declared.Check.TheVariants.{Sound}
-use Rattle.refusals.specs.declared.Refusal as Refusal
+use Rattle.refusals.specs.Check.{Answer, Check}
+use Rattle.refusals.specs.declared.Refusal.{Refusal}
 use Rattle.refusals.specs.declared.Refusal.TheVariants.{Journal, Room}
 
 -- "19 for length (not a multiple of 512 or over 16,896)"
@@ -23,14 +21,17 @@ unfolding journal_misshapen journal_blocks_check list_of
 journal_check journal =
     or_else (refuse (journal_misshapen (length journal)) Journal)
     (or_else (journal_blocks_check (blocks_in (length journal)) journal)
-    (refuse (ltb 4096 (call_count (list_of journal))) Refusal.Refusal.List))
+    (refuse (ltb 4096 (call_count (list_of journal))) Refusal.List))
 
-abbrev pub to_checked : ℕ → ℕ → Check → Checked
-to_checked blocks calls Sound = Checked.Sound blocks calls
-to_checked blocks calls (Check.Refused r) = Checked.Refused r
+abbrev pub size_of : ℕ → ℕ → Size
+size_of blocks calls = record { blocks = blocks; calls = calls }
+
+abbrev pub to_checked : ℕ → ℕ → Check → Answer Size
+to_checked blocks calls (Ok _) = Ok (size_of blocks calls)
+to_checked blocks calls (Err r) = Err r
 
 -- the answer: how many blocks and calls there are, or the refusal
-unfoldable pub check : List ℕ → Checked
+unfoldable pub check : List ℕ → Answer Size
 unfolding journal_check
 check journal = to_checked (blocks_in (length journal)) (call_count (list_of journal)) (journal_check journal)
 
@@ -39,16 +40,16 @@ unfoldable pub list_check : List ℕ → ℕ → Check
 unfolding journal_check
 list_check journal room = or_else (journal_check journal) (refuse (ltb room (length (list_of journal))) Room)
 
-abbrev pub to_listed : ℕ → Check → Listed
-to_listed bytes Sound = Listed.Bytes bytes
-to_listed bytes (Check.Refused r) = Listed.Refused r
+abbrev pub to_listed : ℕ → Check → Answer ℕ
+to_listed bytes (Ok _) = Ok bytes
+to_listed bytes (Err r) = Err r
 
 -- the answer for a room of so many bytes: the length of the list, or the refusal
-unfoldable pub listed : List ℕ → ℕ → Listed
+unfoldable pub listed : List ℕ → ℕ → Answer ℕ
 unfolding list_check
 listed journal room = to_listed (length (list_of journal)) (list_check journal room)
 
 -- what the room holds then: the list in its first bytes and the rest kept; on refusal all is kept
-unfoldable pub list_into : Listed → List ℕ → List ℕ → List ℕ
-list_into (Listed.Bytes n) journal room = list_of journal ++ drop n room
-list_into (Listed.Refused r) journal room = room
+unfoldable pub list_into : Answer ℕ → List ℕ → List ℕ → List ℕ
+list_into (Ok n) journal room = list_of journal ++ drop n room
+list_into (Err r) journal room = room

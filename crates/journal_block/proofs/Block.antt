@@ -1,26 +1,22 @@
 -- Laws of one block's check: a way out each, and what a sound block is.
-use Prim.Native.Nat.{ℕ, suc, ◌+◌, ◌-◌, ◌*◌, ◌/◌, ◌≤◌, ◌<◌}
+use Prim.Native.Nat.{ℕ, zero, suc, ◌+◌, ◌-◌, ◌≤◌, ◌<◌}
 use mathlib.Core.Bool.{Bool, true, false, ◌||◌, not, cond, or-true}
-use mathlib.Core.List.{List, [], ◌∷◌, ◌++◌, append_assoc}
-use mathlib.Core.Path.{◌≡◌, refl, sym, ap, ap₂, ◌∙◌}
-use native.Mathlib.Numerals.{add-one}
+use mathlib.Core.List.{List}
+use mathlib.Core.Path.{◌≡◌, refl, ap, ap₂, ◌∙◌}
 use native.Mathlib.Omega.{arith}
 use lib.Dec.{eqb, ltb}
-use lib.ListN.{length, get_or, take, drop, set, replicate, length-append, length-replicate, get_or-replicate, get_or-append}
-use lib.Seq.{paste, paste-suc, drop-paste, take_at, take-suc, drop-drop, length-take-le, get_or-append-add}
+use lib.ListN.{get_or, take, drop}
+use lib.Seq.{get_or-take, get_or-drop}
 use borrow.Author.Tests.{eq-eqb, ne_eqb, eqb-true, not-false, ltb-false}
 use Rattle.block.specs.Block.{sealed}
 use Rattle.ground.proofs.Logic.{fail-alike, or-none}
-use Rattle.ground.proofs.Pieces.{fill_one}
-use Rattle.journal_block.specs.Block.{number_field, calls_field, miscounted, misnumbered, calls_unfilled, journal_block_check, call_bytes}
+use Rattle.ground.specs.Search.{some}
+use Rattle.journal_block.specs.Block.{number_field, calls_field, miscounted, misnumbered, calls_unfilled, journal_block_check}
 use Rattle.refusals.proofs.First.{missed, passed, kept}
-use Rattle.refusals.specs.declared.Check.TheVariants.{Sound, Refused}
+use Rattle.std.specs.Prelude.{Ok, Err}
 use Rattle.refusals.specs.declared.Refusal.TheVariants.{Sums, Numbering, Filler}
 
--- a count that may not stand in the last block, or in one before it
-pub last_none : miscounted true 0 ≡ true
-last_none = refl
-
+-- a count that may not stand in the last block
 pub last_some : (calls : ℕ) → (calls ≡ 0 → ⊥) → miscounted true calls ≡ ltb 125 calls
 last_some calls ne = rw (ne_eqb calls 0 ne) refl
 
@@ -35,25 +31,25 @@ count-full false calls e h = eqb-true calls 125 (not-false (eqb calls 125) h)
 
 -- the ways out
 module _ (k i : ℕ) (b : List ℕ) where
-  pub wrong-sums : sealed b ≡ false → journal_block_check k i b ≡ Refused (Sums i)
+  pub wrong-sums : sealed b ≡ false → journal_block_check k i b ≡ Err (Sums i)
   unfolding journal_block_check
   wrong-sums e = rw e refl
 
   module _ (s : sealed b ≡ true) where
-    pub wrong-number : (number_field b ≡ i → ⊥) → journal_block_check k i b ≡ Refused (Numbering i)
+    pub wrong-number : (number_field b ≡ i → ⊥) → journal_block_check k i b ≡ Err (Numbering i)
     unfolding journal_block_check misnumbered
     wrong-number ne = rw (s, ne_eqb (number_field b) i ne) refl
 
-    pub wrong-count : miscounted (eqb (suc i) k) (calls_field b) ≡ true → journal_block_check k i b ≡ Refused (Numbering i)
+    pub wrong-count : miscounted (eqb (suc i) k) (calls_field b) ≡ true → journal_block_check k i b ≡ Err (Numbering i)
     unfolding journal_block_check misnumbered
     wrong-count e = rw (s, e, or-true) refl
 
     module _ (p : number_field b ≡ i) (c : miscounted (eqb (suc i) k) (calls_field b) ≡ false) where
-      pub wrong-filler : calls_unfilled b ≡ true → journal_block_check k i b ≡ Refused (Filler i)
+      pub wrong-filler : calls_unfilled b ≡ true → journal_block_check k i b ≡ Err (Filler i)
       unfolding journal_block_check misnumbered
       wrong-filler e = rw (s, eq-eqb (number_field b) i p, c, e) refl
 
-      pub all_right : calls_unfilled b ≡ false → journal_block_check k i b ≡ Sound
+      pub all_right : calls_unfilled b ≡ false → journal_block_check k i b ≡ Ok tt
       unfolding journal_block_check misnumbered
       all_right e = rw (s, eq-eqb (number_field b) i p, c, e) refl
 
@@ -64,7 +60,7 @@ pub record Right (k i : ℕ) (b : List ℕ) : Type 0 where
   pub count : miscounted (eqb (suc i) k) (calls_field b) ≡ false
   pub filled : calls_unfilled b ≡ false
 
-pub right : (k i : ℕ) (b : List ℕ) → journal_block_check k i b ≡ Sound → Right k i b
+pub right : (k i : ℕ) (b : List ℕ) → journal_block_check k i b ≡ Ok tt → Right k i b
 unfolding journal_block_check misnumbered
 right k i b e =
     let x = passed (sealed b) (Sums i) _ e in
@@ -86,3 +82,16 @@ some-part s x =
     let a = eqb-true s 0 (not-false _ q.0) in
     let b = eqb-true x 0 (not-false _ q.1) in
     ap not (eq-eqb (s + x) 0 (omega arith)))
+
+-- the same test of each number below a bound
+some-alike : (k : ℕ) (p q : ℕ → Bool) → ((j : ℕ) → j < k → p j ≡ q j) → some k p ≡ some k q
+unfolding some
+some-alike zero p q h = refl
+some-alike (suc k) p q h = ap₂ ◌||◌ (some-alike k p q (λ j l. h j (omega arith))) (h k (omega arith))
+
+-- one of the bytes from a place on to byte 503, as they are cut out, or as they stand in the block
+pub some-rest : (from : ℕ) (b : List ℕ) (n : ℕ) → n ≡ 504 - from
+    → some n (λ i. not (eqb (get_or (take (504 - from) (drop from b)) i 0) 0)) ≡ some (504 - from) (λ j. not (eqb (get_or b (from + j) 0) 0))
+some-rest from b n e =
+    some-alike n _ (λ j. not (eqb (get_or b (from + j) 0) 0)) (λ j l. ap (λ (x : ℕ). not (eqb x 0)) (get_or-take (504 - from) (drop from b) j 0 (omega arith) ∙ get_or-drop from b j 0))
+    ∙ ap (λ (k : ℕ). some k (λ j. not (eqb (get_or b (from + j) 0) 0))) e

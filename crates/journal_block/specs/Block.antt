@@ -5,7 +5,7 @@ use Rattle.block.specs.Block.{seal, sealed}
 use Rattle.ground.specs.Search.{some}
 use Rattle.le.specs.Le.{digits, field}
 use Rattle.refusals.specs.First.{or_else, refuse}
-use Rattle.refusals.specs.declared.Check.{Check}
+use Rattle.refusals.specs.Check.{Check}
 use Rattle.refusals.specs.declared.Refusal.TheVariants.{Sums, Numbering, Filler}
 
 abbrev pub number_field : List ℕ → ℕ

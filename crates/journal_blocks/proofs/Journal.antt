@@ -20,7 +20,7 @@ use Rattle.journal_blocks.specs.Journal.{blocks_in, journal_blocks_check, list_o
 use Rattle.le.proofs.Laws.{bytes-part}
 use Rattle.le.specs.Le.{Bytes}
 use Rattle.refusals.proofs.First.{first-all, first-sound}
-use Rattle.refusals.specs.declared.Check.TheVariants.{Sound}
+use Rattle.std.specs.Prelude.{Ok}
 
 -- the blocks of any list, as they are written
 pub blocks-long : (list : List ℕ) (i : ℕ) → length (cat (λ j. journal_block j (part 500 j list)) i) ≡ 512 * i
@@ -74,7 +74,7 @@ module _ (list : List ℕ) (m : ℕ) (four : length list ≡ 4 * m) (short : len
       (λ l. rw (ne_eqb (suc i) k (λ q. omega (arith, q, l)), eq-eqb c 125 (omega (arith, e, d, l))) refl)
       (eq-or-lt_of_le h)
 
-  pub written-sound : journal_blocks_check (blocks_for (length list)) (journal_of list) ≡ Sound
+  pub written-sound : journal_blocks_check (blocks_for (length list)) (journal_of list) ≡ Ok tt
   unfolding journal_blocks_check
   written-sound =
       let k = blocks_for (length list) in
@@ -83,7 +83,7 @@ module _ (list : List ℕ) (m : ℕ) (four : length list ≡ 4 * m) (short : len
       ∙ block-sound i (piece i) (piece-long i).0 (piece-long i).1 k (omega (arith, h, short)) (counted i h))
 
 -- a journal of k sound blocks
-module _ (j : List ℕ) (k : ℕ) (len : length j ≡ 512 * k) (sound : journal_blocks_check k j ≡ Sound) where
+module _ (j : List ℕ) (k : ℕ) (len : length j ≡ 512 * k) (sound : journal_blocks_check k j ≡ Ok tt) where
   abbrev b : ℕ → List ℕ
   b i = part 512 i j
 

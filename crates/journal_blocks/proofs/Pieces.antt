@@ -1,5 +1,5 @@
 -- Laws of pieces of which only the last may be shorter.
-use Prim.Native.Nat.{ℕ, suc, ◌+◌, ◌-◌, ◌*◌, ◌≤◌, ◌<◌}
+use Prim.Native.Nat.{ℕ, suc, min, ◌+◌, ◌-◌, ◌*◌, ◌≤◌, ◌<◌}
 use mathlib.Core.List.{List, ◌++◌, append_assoc}
 use mathlib.Core.Logic.{⊎_elim}
 use mathlib.Core.Path.{◌≡◌, refl, sym, ap, subst, ◌∙◌}
@@ -36,14 +36,14 @@ front-le f n i h =
     omega (arith, e, length-append (f i) x.0)
 
 -- piece i as code cuts it, up to the end of the list where that comes first
-pub piece_cut : (w i : ℕ) (l : List ℕ) → take (w * i + w - (w * i + w - length l) - w * i) (drop (w * i) l) ≡ part w i l
+pub piece_cut : (w i : ℕ) (l : List ℕ) → take (min (length l) (w * i + w) - w * i) (drop (w * i) l) ≡ part w i l
 piece_cut w i l = go (w * i) (dec_lt (length l) (w * i + w))
   where
-    go : (a : ℕ) → Dec (length l < a + w) → take (a + w - (a + w - length l) - a) (drop a l) ≡ take w (drop a l)
+    go : (a : ℕ) → Dec (length l < a + w) → take (min (length l) (a + w) - a) (drop a l) ≡ take w (drop a l)
     go a (yes h) =
         let d = length-drop a l in
-        take_all (a + w - (a + w - length l) - a) (drop a l) (omega arith) ∙ sym (take_all w (drop a l) (omega arith))
-    go a (no h) = let e : a + w - (a + w - length l) - a ≡ w = omega arith in rw e refl
+        take_all (min (length l) (a + w) - a) (drop a l) (omega arith) ∙ sym (take_all w (drop a l) (omega arith))
+    go a (no h) = let e : min (length l) (a + w) - a ≡ w = omega arith in rw e refl
 
 -- a number of a list of pieces, those before it of equal length
 pub cat-get : (f : ℕ → List ℕ) (w n q r : ℕ) → q < n → ((i : ℕ) → i < q → length (f i) ≡ w) → r < length (f q) → get_or (cat f n) (w * q + r) 0 ≡ get_or (f q) r 0

@@ -3,7 +3,7 @@ use Rattle.std.specs.Prelude.{ℕ, ◌+◌, ◌/◌, List, length}
 use Rattle.ground.specs.Pieces.{cat, part}
 use Rattle.journal_block.specs.Block.{journal_block_check, calls_in, journal_block}
 use Rattle.refusals.specs.First.{first}
-use Rattle.refusals.specs.declared.Check.{Check}
+use Rattle.refusals.specs.Check.{Check}
 
 -- the blocks of a file of so many bytes
 abbrev pub blocks_in : ℕ → ℕ

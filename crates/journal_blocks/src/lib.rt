@@ -1,58 +1,42 @@
 // The blocks of a journal, one after the other: checked, read and written.
 #![tactic(auto)]
 
-ghost use Rattle.std.specs.Prelude.{◌≡◌, ◌++◌, ◌*◌, ◌-◌, ◌≤◌, length, drop};
+ghost use Rattle.std.specs.Prelude.{◌≡◌, ◌++◌, ◌*◌, ◌≤◌, length, drop};
 ghost use Rattle.journal_blocks.specs.Journal.{journal_blocks_check, list_of, blocks_for, journal_of};
 
-use refusals::Check;
+use refusals::Refusal;
 
 // All blocks, in order.
-pub fn check_blocks(journal: &[u8], k: usize) -> Check
+pub fn check_blocks(journal: &[u8], k: usize) -> Result<(), Refusal>
     requires journal_len { length journal.now ≡ 512 * k }
     requires k_bound { k ≤ 33 }
     ensures { result ≡ journal_blocks_check k journal.now }
 {
-    let mut place: usize = 0;
-    while place < k {
-        let q = journal_block::check_block(
+    for place in 0..k {
+        journal_block::check_block(
             &journal[512 * place..512 * place + 512],
             k as u64,
             place as u64,
-        );
-        let Check::Sound = q else {
-            return q;
-        };
-        place += 1;
+        )?;
     }
-    Check::Sound
+    Ok(())
 }
 
 // The calls of all blocks into the room's first bytes.
 pub fn list_blocks(journal: &[u8], k: usize, room: &mut [u8])
     requires journal_len { length journal.now ≡ 512 * k }
     requires k_bound { k ≤ 33 }
-    requires journal_value { journal_blocks_check k journal.now ≡ Check.Sound }
+    requires journal_value { journal_blocks_check k journal.now ≡ Ok tt }
     requires journal_in_bounds { length (list_of journal.now) ≤ length room.old }
     ensures { room.new ≡ list_of journal.now ++ drop (length (list_of journal.now)) room.old }
 {
-    let mut i: usize = 0;
     let mut at: usize = 0;
-    while i < k {
-        let end = at + 4 * journal_block::calls_in(&journal[512 * i..512 * i + 512]);
-        journal_calls::copy_calls(&journal[512 * i..512 * i + 512], &mut room[at..end]);
+    for i in 0..k {
+        let b = &journal[512 * i..512 * i + 512];
+        let end = at + 4 * journal_block::calls_in(b);
+        journal_calls::copy_calls(b, &mut room[at..end]);
         at = end;
-        i += 1;
     }
-}
-
-// The lower of two numbers.
-fn lower(a: usize, b: usize) -> usize
-    ensures { result ≡ a - (a - b) }
-{
-    if a < b {
-        return a;
-    }
-    b
 }
 
 // A list into the room's first k blocks.
@@ -62,14 +46,12 @@ pub fn store_blocks(list: &[u8], k: usize, room: &mut [u8])
     requires k_in_bounds { 512 * k ≤ length room.old }
     ensures { room.new ≡ journal_of list.now ++ drop (512 * k) room.old }
 {
-    let mut i: usize = 0;
-    while i < k {
-        let end = lower(500 * i + 500, list.len());
+    for i in 0..k {
+        let end = list.len().min(500 * i + 500);
         journal_calls::store_block(
             &list[500 * i..end],
             i as u16,
             &mut room[512 * i..512 * i + 512],
         );
-        i += 1;
     }
 }

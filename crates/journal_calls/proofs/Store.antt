@@ -1,23 +1,23 @@
 -- Laws of a block as it is written: the parts, one after the other, and what is read from it.
 use Prim.Native.Nat.{ℕ, suc, ◌+◌, ◌-◌, ◌*◌, ◌/◌, ◌≤◌, ◌<◌}
-use mathlib.Core.Bool.{true, false, not}
+use mathlib.Core.Bool.{false, not}
 use mathlib.Core.List.{List, [], ◌++◌, append_assoc}
 use mathlib.Core.Path.{◌≡◌, refl, sym, ap, ap₂, ◌∙◌}
 use native.Mathlib.Omega.{arith}
 use lib.Dec.{eqb}
-use lib.ListN.{length, get_or, take, drop, replicate, length-append, length-drop, length-replicate, get_or-replicate, take-append-drop, get_or-append}
-use lib.Seq.{sets, take_at, drop_at, take_all, take-add, drop-drop, length-take-le, get_or-take, get_or-drop, get_or-append-add, ext_get_or}
+use lib.ListN.{length, get_or, take, drop, replicate, length-append, length-drop, length-replicate, get_or-replicate, get_or-append}
+use lib.Seq.{sets, take_at, take-add, drop-drop, length-take-le, get_or-take, get_or-drop, get_or-append-add, ext_get_or}
 use borrow.Author.Tests.{eq-eqb, eqb-true, not-false}
 use Rattle.block.proofs.Seal.{length-seal, seal-field, seal-sealed, sealed-seal}
-use Rattle.block.specs.Block.{check_s, check_t, seal, sealed}
+use Rattle.block.specs.Block.{check_s, check_t, seal}
 use Rattle.ground.proofs.Pieces.{fill-sets}
 use Rattle.ground.proofs.Some.{none_each, each_none}
 use Rattle.journal_block.proofs.Block.{Right, all_right}
 use Rattle.journal_calls.proofs.Copying.{call-bytes-long}
 use Rattle.journal_block.specs.Block.{number_field, calls_field, miscounted, calls_unfilled, journal_block_check, calls_in, call_bytes, journal_body, journal_block}
 use Rattle.le.proofs.Laws.{number_digits, digits-field, field_at}
-use Rattle.le.specs.Le.{Bytes, digits, field}
-use Rattle.refusals.specs.declared.Check.TheVariants.{Sound}
+use Rattle.le.specs.Le.{Bytes, digits}
+use Rattle.std.specs.Prelude.{Ok}
 
 abbrev heading : ℕ → List ℕ → List ℕ
 heading i calls = digits 2 i ++ digits 2 (length calls / 4)
@@ -104,7 +104,7 @@ module _ (i : ℕ) (calls : List ℕ) (few : length calls ≤ 500) where
         each_none (504 - (4 + 4 * c)) (λ j. not (eqb (get_or (journal_block i calls) (4 + 4 * c + j) 0) 0))
         (λ j h. ap not (eq-eqb _ 0 (ap (λ (n : ℕ). get_or (journal_block i calls) (4 + n + j) 0) w ∙ filler-zero j (omega (arith, w, h)))))
 
-    pub block-sound : (k : ℕ) → i < 65536 → miscounted (eqb (suc i) k) (length calls / 4) ≡ false → journal_block_check k i (journal_block i calls) ≡ Sound
+    pub block-sound : (k : ℕ) → i < 65536 → miscounted (eqb (suc i) k) (length calls / 4) ≡ false → journal_block_check k i (journal_block i calls) ≡ Ok tt
     unfolding journal_block
     block-sound k h m =
         all_right k i (journal_block i calls) (seal-sealed (journal_body i calls) body-long) (block-number h)

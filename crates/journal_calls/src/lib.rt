@@ -10,10 +10,9 @@ pub fn copy_calls(b: &[u8], room: &mut [u8])
     requires room_len_bound { length room.old ≤ 500 }
     ensures { room.new ≡ take (length room.old) (drop 4 b.now) }
 {
-    let mut j: usize = 0;
-    while j < room.len() {
+    // By `copy_from_slice` the archive for C would call `memmove`; it may call `memcpy` and `memset` alone.
+    for j in 0..room.len() {
         room[j] = b[4 + j];
-        j += 1;
     }
 }
 
@@ -23,14 +22,12 @@ fn put_calls(b: &mut [u8], calls: &[u8])
     requires calls_len_bound { length calls.now ≤ 500 }
     ensures { b.new ≡ (take 4 b.old ++ call_bytes calls.now) ++ drop 504 b.old }
 {
-    let mut j: usize = 0;
-    while j < calls.len() {
+    // As above.
+    for j in 0..calls.len() {
         b[4 + j] = calls[j];
-        j += 1;
     }
-    while j < 500 {
+    for j in calls.len()..500 {
         b[4 + j] = 0;
-        j += 1;
     }
 }
 

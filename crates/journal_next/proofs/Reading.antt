@@ -6,10 +6,10 @@ use mathlib.Core.Path.{◌≡◌, refl, sym, ap, subst, ◌∙◌}
 use native.Mathlib.Decide.{dec_lt}
 use native.Mathlib.Omega.{arith}
 use lib.Dec.{ltb}
-use lib.ListN.{length, get_or, take, drop}
+use lib.ListN.{length, get_or, drop}
 use lib.Seq.{get_or-take, get_or-drop}
 use borrow.Author.Tests.{lt-ltb, le-ltb}
-use Rattle.ground.specs.Pieces.{cat, part}
+use Rattle.ground.specs.Pieces.{part}
 use Rattle.journal.specs.Journal.{call_count}
 use Rattle.journal_next.specs.Next.{gives, if_left, next}
 use Rattle.journal_next.specs.Theorems.{Gives}
@@ -19,10 +19,10 @@ use Rattle.journal_blocks.proofs.Journal.{few, full, piece-length, pieces, total
 use Rattle.journal_blocks.proofs.Pieces.{cat-get}
 use Rattle.journal_blocks.specs.Journal.{blocks_in, journal_blocks_check, list_of}
 use Rattle.pass.specs.Calls.{call_at}
-use Rattle.refusals.specs.declared.Check.TheVariants.{Sound}
+use Rattle.std.specs.Prelude.{Option, None, Ok}
 use Rattle.votes.specs.Call.{Call, call}
 
-none : (a : Bool) (x : Next) → if_left (a && false) x ≡ Next.Done
+none : (a : Bool) (x : Option Next) → if_left (a && false) x ≡ None
 none true x = refl
 none false x = refl
 
@@ -32,11 +32,11 @@ call_in b k = let at = 4 + 4 * k in call (get_or b at 0) (get_or b (at + 1) 0) (
 
 -- the ways out
 module _ (j : List ℕ) (place : ℕ) where
-  pub no_block : blocks_in (length j) ≤ place / 125 → next j place ≡ Next.Done
+  pub no_block : blocks_in (length j) ≤ place / 125 → next j place ≡ None
   unfolding next
   no_block h = rw (le-ltb (place / 125) (blocks_in (length j)) h) refl
 
-  pub no_call : calls_field (part 512 (place / 125) j) ≤ place % 125 → next j place ≡ Next.Done
+  pub no_call : calls_field (part 512 (place / 125) j) ≤ place % 125 → next j place ≡ None
   unfolding next
   no_call h = rw (le-ltb (place % 125) (calls_field (part 512 (place / 125) j)) h) (none (ltb (place / 125) (blocks_in (length j))) _)
 
@@ -46,7 +46,7 @@ module _ (j : List ℕ) (place : ℕ) where
   a_call h l = rw (lt-ltb (place / 125) (blocks_in (length j)) h, lt-ltb (place % 125) (calls_field (part 512 (place / 125) j)) l) refl
 
 -- a journal of k sound blocks
-module _ (j : List ℕ) (k : ℕ) (len : length j ≡ 512 * k) (sound : journal_blocks_check k j ≡ Sound) where
+module _ (j : List ℕ) (k : ℕ) (len : length j ≡ 512 * k) (sound : journal_blocks_check k j ≡ Ok tt) where
   abbrev b : ℕ → List ℕ
   b i = part 512 i j
 
@@ -86,7 +86,7 @@ module _ (j : List ℕ) (k : ℕ) (len : length j ≡ 512 * k) (sound : journal_
       let q : i / 125 ≡ n = omega (arith, h, t, c, l) in
       subst (λ (x : ℕ). i % 125 < calls_field (b x)) (sym q) (omega (arith, h, t, q))
 
-  past : (n : ℕ) → k ≡ suc n → (i : ℕ) → call_count (list_of j) ≤ i → Dec (i / 125 < suc n) → next j i ≡ Next.Done
+  past : (n : ℕ) → k ≡ suc n → (i : ℕ) → call_count (list_of j) ≤ i → Dec (i / 125 < suc n) → next j i ≡ None
   past n e i h (no l) = no_block j i (omega (arith, e, l, len))
   past n e i h (yes l) =
       let t = total j k len sound n e in
@@ -101,6 +101,6 @@ module _ (j : List ℕ) (k : ℕ) (len : length j ≡ 512 * k) (sound : journal_
       each (suc n) e i h =
           gives-in i (omega (arith, h, total j k len sound n e, few j k len sound n (omega (arith, e)), e)) (inside n e i h (dec_lt (i / 125) n))
 
-      none_left : (n : ℕ) → k ≡ n → (i : ℕ) → call_count (list_of j) ≤ i → next j i ≡ Next.Done
+      none_left : (n : ℕ) → k ≡ n → (i : ℕ) → call_count (list_of j) ≤ i → next j i ≡ None
       none_left zero e i h = no_block j i (omega (arith, e, len))
       none_left (suc n) e i h = past n e i h (dec_lt (i / 125) (suc n))

@@ -1,5 +1,5 @@
 -- The reader of a journal that the check takes gives its list.
-use Rattle.journal.proofs.Checking.{Whole, whole}
+use Rattle.journal.proofs.Checking.{whole}
 use Rattle.journal_next.proofs.Reading.{gives-list}
 use Rattle.journal_next.specs.Theorems.{ReaderGives}
 

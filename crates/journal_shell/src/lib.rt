@@ -1,14 +1,11 @@
 // What the desk does with journals: read, have the text made, print it. Nothing here decides anything of the rules.
 #![tactic(auto)]
 
-use files::Fetched;
-use text::Typed;
-
 // desk journal JOURNAL, where JOURNAL is an argument's number; so are the words of the other
 pub fn check_of(rt: &HostRuntime, k: usize) {
     let mut journal = io::large_buffer();
     let whole = files::fetch(rt, b"desk journal JOURNAL", k, &mut journal);
-    let Fetched::Bytes(n) = whole else {
+    let Some(n) = whole else {
         return;
     };
     let journal = &journal[..n];
@@ -21,17 +18,17 @@ pub fn check_of(rt: &HostRuntime, k: usize) {
 pub fn replay_of(rt: &HostRuntime, table: usize, sites: usize, kept: usize) {
     let mut image = io::large_buffer();
     let whole = files::fetch(rt, b"desk replay TABLE FAULTY JOURNAL", table, &mut image);
-    let Fetched::Bytes(n) = whole else {
+    let Some(n) = whole else {
         return;
     };
     let image = &image[..n];
     let typed = files::faulty(rt, b"desk replay TABLE FAULTY JOURNAL", sites);
-    let Typed::Mask(faulty) = typed else {
+    let Some(faulty) = typed else {
         return;
     };
     let mut journal = io::large_buffer();
     let whole = files::fetch(rt, b"desk replay TABLE FAULTY JOURNAL", kept, &mut journal);
-    let Fetched::Bytes(m) = whole else {
+    let Some(m) = whole else {
         return;
     };
     let journal = &journal[..m];

@@ -8,8 +8,7 @@ ghost use Rattle.text.specs.Written.{Writes};
 ghost use Rattle.journal_text.specs.JournalText.{kept_lines, journal_text, kept_text};
 
 use check_text::ROOM;
-use journal::Checked;
-use journal_write::Kept;
+use refusals::Refusal;
 
 // `blocks K` and `calls N`
 fn put_counts(room: &mut [u8], blocks: u64, calls: u64) -> usize
@@ -25,22 +24,21 @@ pub fn check(journal: &[u8], room: &mut [u8; ROOM]) -> usize
     ensures text { Writes (journal_text journal.now) room.old 0 result room.new }
     ensures counts { IsPrefixLen result room.new }
 {
-    let q = journal::check(journal);
-    match q {
-        Checked::Sound { blocks, calls } => put_counts(room, blocks, calls),
-        Checked::Refused(r) => refusal_lines::put_explained(room, 0, r),
+    match journal::check(journal) {
+        Ok(size) => put_counts(room, size.blocks, size.calls),
+        Err(r) => refusal_lines::put_explained(room, 0, r),
     }
 }
 
 // What is said of a list that the writer was asked to keep, by the writer's answer.
-pub fn kept(list: &[u8], answer: Kept, room: &mut [u8; ROOM]) -> usize
+pub fn kept(list: &[u8], answer: Result<u64, Refusal>, room: &mut [u8; ROOM]) -> usize
     requires { answer ≡ keep list.now 16896 }
     ensures text { Writes (kept_text list.now) room.old 0 result room.new }
     ensures counts { IsPrefixLen result room.new }
 {
     let calls = (list.len() / 4) as u64;
     match answer {
-        Kept::Blocks(blocks) => put_counts(room, blocks, calls),
-        Kept::Refused(r) => refusal_lines::put_explained(room, 0, r),
+        Ok(blocks) => put_counts(room, blocks, calls),
+        Err(r) => refusal_lines::put_explained(room, 0, r),
     }
 }

@@ -1,49 +1,48 @@
 -- Laws of the journal's writer: a way out each.
-use Prim.Native.Nat.{ℕ, ◌*◌, ◌/◌, ◌%◌, ◌≤◌, ◌<◌}
-use mathlib.Core.Bool.{true, false, ◌||◌, not, or-true}
+use Prim.Native.Nat.{ℕ, ◌*◌, ◌%◌, ◌≤◌, ◌<◌}
+use mathlib.Core.Bool.{not, or-true}
 use mathlib.Core.List.{List}
-use mathlib.Core.Path.{◌≡◌, refl, sym, ap, ◌∙◌}
+use mathlib.Core.Path.{◌≡◌, refl}
 use native.Mathlib.Omega.{arith}
 use lib.Dec.{eqb, ltb}
 use lib.ListN.{length}
 use borrow.Author.Tests.{eq-eqb, ne_eqb, lt-ltb, le-ltb, eqb-true, ltb-false, not-false}
 use Rattle.ground.proofs.Logic.{or-none}
 use Rattle.journal_write.specs.Keep.{keep_check, to_kept, keep}
-use Rattle.journal_write.specs.declared.Kept.{Kept}
 use Rattle.journal_blocks.specs.Journal.{blocks_for}
 use Rattle.refusals.proofs.First.{missed, kept}
-use Rattle.refusals.specs.declared.Check.{Check}
-use Rattle.refusals.specs.declared.Check.TheVariants.{Sound, Refused}
+use Rattle.refusals.specs.Check.{Check}
+use Rattle.std.specs.Prelude.{Ok, Err}
 use Rattle.refusals.specs.declared.Refusal.{Refusal}
 use Rattle.refusals.specs.declared.Refusal.TheVariants.{Room}
 use Rattle.run.specs.Run.{list_misshapen}
 
 module _ (list : List ℕ) (room : ℕ) where
-  pub odd-list : (length list % 4 ≡ 0 → ⊥) → keep list room ≡ Kept.Refused Refusal.List
+  pub odd-list : (length list % 4 ≡ 0 → ⊥) → keep list room ≡ Err Refusal.List
   unfolding keep keep_check list_misshapen
   odd-list ne = rw (ne_eqb (length list % 4) 0 ne) refl
 
-  pub long-list : 16384 < length list → keep list room ≡ Kept.Refused Refusal.List
+  pub long-list : 16384 < length list → keep list room ≡ Err Refusal.List
   unfolding keep keep_check list_misshapen
   long-list h = rw (lt-ltb 16384 (length list) h, or-true) refl
 
   module _ (e : length list % 4 ≡ 0) (l : length list ≤ 16384) where
-    pub no_room : room < 512 * blocks_for (length list) → keep list room ≡ Kept.Refused Room
+    pub no_room : room < 512 * blocks_for (length list) → keep list room ≡ Err Room
     unfolding keep keep_check list_misshapen
     no_room h = rw (eq-eqb (length list % 4) 0 e, le-ltb 16384 (length list) l, lt-ltb room (512 * blocks_for (length list)) h) refl
 
-    pub written : 512 * blocks_for (length list) ≤ room → keep list room ≡ Kept.Blocks (blocks_for (length list))
+    pub written : 512 * blocks_for (length list) ≤ room → keep list room ≡ Ok (blocks_for (length list))
     unfolding keep keep_check list_misshapen
     written h = rw (eq-eqb (length list % 4) 0 e, le-ltb 16384 (length list) l, le-ltb room (512 * blocks_for (length list)) h) refl
 
 -- what an answer says of the check
-pub kept-taken : (n k : ℕ) (s : Check) → to_kept n s ≡ Kept.Blocks k → (s ≡ Sound) × (n ≡ k)
-kept-taken n k Sound h = (refl, cc)
-kept-taken n k (Refused r) h = let z : ◌≡◌ {A = ℕ} 0 1 = cc in absurd (omega arith)
+pub kept-taken : (n k : ℕ) (s : Check) → to_kept n s ≡ Ok k → (s ≡ Ok tt) × (n ≡ k)
+kept-taken n k (Ok _) h = (refl, cc)
+kept-taken n k (Err r) h = let z : ◌≡◌ {A = ℕ} 0 1 = cc in absurd (omega arith)
 
-pub kept-stopped : (n : ℕ) (s : Check) (r : Refusal) → to_kept n s ≡ Kept.Refused r → s ≡ Refused r
-kept-stopped n Sound r h = let z : ◌≡◌ {A = ℕ} 0 1 = cc in absurd (omega arith)
-kept-stopped n (Refused x) r h = cc
+pub kept-stopped : (n : ℕ) (s : Check) (r : Refusal) → to_kept n s ≡ Err r → s ≡ Err r
+kept-stopped n (Ok _) r h = let z : ◌≡◌ {A = ℕ} 0 1 = cc in absurd (omega arith)
+kept-stopped n (Err x) r h = cc
 
 -- a list that is written
 pub record Writable (list : List ℕ) (room k : ℕ) : Type 0 where
@@ -52,7 +51,7 @@ pub record Writable (list : List ℕ) (room k : ℕ) : Type 0 where
   pub blocks : blocks_for (length list) ≡ k
   pub room_for : 512 * k ≤ room
 
-pub writable : (list : List ℕ) (room k : ℕ) → keep list room ≡ Kept.Blocks k → Writable list room k
+pub writable : (list : List ℕ) (room k : ℕ) → keep list room ≡ Ok k → Writable list room k
 unfolding keep keep_check list_misshapen
 writable list room k h =
     let a = kept-taken (blocks_for (length list)) k (keep_check list room) h in

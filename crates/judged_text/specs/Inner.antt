@@ -1,9 +1,8 @@
 -- What the answer on shared sites says, as the line `meet` has it.
-use Rattle.std.specs.Prelude.{Bool, true, false}
-use Rattle.questions.specs.declared.Sharing.{Sharing}
-use Rattle.questions.specs.declared.Sharing.TheVariants.{Meet, Apart}
+use Rattle.questions.specs.Answers.{Sharing, pair_of}
+use Rattle.std.specs.Prelude.{Bool, true, false, Some, None, Ok, Err}
 
 abbrev pub met : Sharing → Bool
-met Meet = true
-met (Apart p q) = false
-met (Sharing.Refused r) = false
+met (Ok None) = true
+met (Ok (Some p)) = false
+met (Err r) = false

@@ -7,19 +7,17 @@ ghost use Rattle.judged_text.specs.Inner.{met};
 ghost use Rattle.judged_text.specs.Judged.{judged_text};
 ghost use Rattle.sets.specs.Groups.{lists};
 
-use questions::{Greatest, Sharing, Standing};
+use questions::Pair;
+use refusals::Refusal;
 
 // Whether every two quorums meet.
-pub fn meets(s: Sharing) -> bool
+pub fn meets(s: Result<Option<Pair>, Refusal>) -> bool
     ensures { result ≡ met s }
 {
     match s {
-        Sharing::Meet => true,
-        Sharing::Apart {
-            first: _,
-            second: _,
-        } => false,
-        Sharing::Refused(_) => false,
+        Ok(None) => true,
+        Ok(Some(_)) => false,
+        Err(_) => false,
     }
 }
 
@@ -32,21 +30,21 @@ pub fn judge(table: &[u64], sites: u64, faulty: u64, room: &mut [u8]) -> usize
 {
     let standing = verdict_questions::intact(table, faulty);
     match standing {
-        Standing::Refused(r) => refusal_lines::put_refused(room, 0, r),
-        Standing::Intact(intact) => {
+        Err(r) => refusal_lines::put_refused(room, 0, r),
+        Ok(intact) => {
             let others = masks::minus(masks::all_below(sites), faulty);
             let shared = verdict_questions::shared(table);
             let greatest = questions::largest(table, others);
             match greatest {
-                Greatest::Refused(r) => refusal_lines::put_refused(room, 0, r),
-                Greatest::Set { set, rounds } => verdict_lines::put_verdict(
+                Err(r) => refusal_lines::put_refused(room, 0, r),
+                Ok(left) => verdict_lines::put_verdict(
                     room,
                     faulty,
                     sites,
                     meets(shared),
                     intact,
-                    set,
-                    rounds,
+                    left.set,
+                    left.rounds,
                 ),
             }
         }

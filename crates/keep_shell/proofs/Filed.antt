@@ -8,18 +8,18 @@ use lib.Seq.{take_at}
 use Rattle.journal_write.proofs.Keep.{Writable, writable}
 use Rattle.journal.specs.Journal.{call_count}
 use Rattle.journal_write.specs.Keep.{keep, keep_into}
-use Rattle.journal_write.specs.declared.Kept.{Kept}
+use Rattle.std.specs.Prelude.{Ok}
 use Rattle.journal_blocks.proofs.Journal.{journal-long}
 use Rattle.journal_blocks.specs.Journal.{journal_of}
 
-module _ (list : List ℕ) (k : ℕ) (h : keep list 16896 ≡ Kept.Blocks k) where
+module _ (list : List ℕ) (k : ℕ) (h : keep list 16896 ≡ Ok k) where
   w : Writable list 16896 k
   w = writable list 16896 k h
 
   pub in-room : 512 * k ≤ 16896
   in-room = w.room_for
 
-  pub filed : (room journal : List ℕ) → journal ≡ keep_into (Kept.Blocks k) list room → take (512 * k) journal ≡ journal_of list
+  pub filed : (room journal : List ℕ) → journal ≡ keep_into (Ok k) list room → take (512 * k) journal ≡ journal_of list
   unfolding keep_into
   filed room journal e =
       let long = journal-long list (call_count list) (omega (arith, w.calls)) w.short in

@@ -6,8 +6,7 @@ ghost use Rattle.std.specs.Prelude.{◌≡◌};
 ghost use Rattle.journal_write.specs.Keep.{keep};
 ghost use Rattle.journal_blocks.specs.Journal.{journal_of};
 
-use files::Fetched;
-use journal_write::Kept;
+use refusals::Refusal;
 
 // Puts the journal of a list on file, and no other bytes.
 fn put_on_file(rt: &HostRuntime, list: &[u8], journal: &[u8], name: usize) -> bool
@@ -17,7 +16,7 @@ fn put_on_file(rt: &HostRuntime, list: &[u8], journal: &[u8], name: usize) -> bo
 }
 
 // Says what became of a list that was to be kept, by the writer's answer.
-fn tell(rt: &HostRuntime, list: &[u8], kept: Kept)
+fn tell(rt: &HostRuntime, list: &[u8], kept: Result<u64, Refusal>)
     requires { kept ≡ keep list.now 16896 }
 {
     let mut room = [0u8; 196608];
@@ -29,7 +28,7 @@ fn tell(rt: &HostRuntime, list: &[u8], kept: Kept)
 fn keep_list(rt: &HostRuntime, list: &[u8], name: usize) {
     let mut journal = [0u8; 16896];
     let kept = journal_write::write(list, &mut journal);
-    let Kept::Blocks(k) = kept else {
+    let Ok(k) = kept else {
         tell(rt, list, kept);
         return;
     };
@@ -44,7 +43,7 @@ fn keep_list(rt: &HostRuntime, list: &[u8], name: usize) {
 pub fn keep_of(rt: &HostRuntime, calls: usize, name: usize) {
     let mut list = io::large_buffer();
     let whole = files::fetch(rt, b"desk keep CALLS JOURNAL", calls, &mut list);
-    let Fetched::Bytes(n) = whole else {
+    let Some(n) = whole else {
         return;
     };
     let list = &list[..n];

@@ -13,13 +13,7 @@ ghost use Rattle.known_pairs.specs.Inner.{Pair, Pairs, Left};
 fn is_left(rest: u64, gone: u64, deleted: u64, p: u64, q: u64) -> bool
     ensures { Left rest gone deleted p q result }
 {
-    if !masks::within(deleted, gone) {
-        return false;
-    }
-    if p & rest == 0 {
-        return false;
-    }
-    q & rest != 0
+    masks::within(deleted, gone) && p & rest != 0 && q & rest != 0
 }
 
 // Some pair that is kept shows that the sites outside rest are not dispensable.
@@ -29,12 +23,10 @@ pub fn is_known(table: &[u64], n: usize, rest: u64, pairs: &[u64; 49]) -> bool
     ensures { result ≡ true → dispensable (rules_of table.now) n (minus (all_below n) rest) ≡ false }
 {
     let gone = masks::minus(masks::all_below(n as u64), rest);
-    let mut k: usize = 0;
-    while k < 16 {
+    for k in 0..16 {
         if is_left(rest, gone, pairs[3 * k], pairs[3 * k + 1], pairs[3 * k + 2]) {
             return true;
         }
-        k += 1;
     }
     false
 }

@@ -15,11 +15,6 @@ use Rattle.le.proofs.put32.Kinds as put32-kinds
 use Rattle.le.proofs.put32.Reads as put32-reads
 use Rattle.le.proofs.put64.Kinds as put64-kinds
 use Rattle.le.proofs.put64.Reads as put64-reads
-use Rattle.le.proofs.wide.Kinds as wide-kinds
-use Rattle.le.proofs.wide.Reads as wide-reads
-
-pub wide-coincide : Answers wide-kinds.ps wide-kinds.r wide-reads.Post
-wide-coincide κs a x y s t p q = p.0 ∙ sym q.0
 
 pub get16-coincide : Answers get16-kinds.ps get16-kinds.r get16-reads.Post
 get16-coincide κs a x y s t p q = p ∙ sym q

@@ -5,19 +5,12 @@ ghost use Rattle.std.specs.Prelude.{◌≡◌, ◌+◌, ◌<◌, ◌≤◌, leng
 ghost use Rattle.std.proofs.lemmas.List.Edits.{sets};
 ghost use Rattle.le.specs.Le.{field, digits};
 
-// A byte as a number that can be an index.
-pub fn wide(x: u8) -> usize
-    ensures { (result ≡ x) × (result < 256) }
-{
-    x as usize
-}
-
 // The 16-bit number in bytes at and at + 1.
 pub fn get16(b: &[u8], at: usize) -> u16
     requires { at + 2 ≤ length b.now }
     ensures { result ≡ field 2 b.now at }
 {
-    (wide(b[at]) + 256 * wide(b[at + 1])) as u16
+    (usize::from(b[at]) + 256 * usize::from(b[at + 1])) as u16
 }
 
 // The 32-bit number in the four bytes from at, added from the lowest: so it is compiled as one read.
@@ -25,10 +18,10 @@ pub fn get32(b: &[u8], at: usize) -> u32
     requires { at + 4 ≤ length b.now }
     ensures { result ≡ field 4 b.now at }
 {
-    (wide(b[at])
-        + 256 * wide(b[at + 1])
-        + 65536 * wide(b[at + 2])
-        + 16777216 * wide(b[at + 3])) as u32
+    (usize::from(b[at])
+        + 256 * usize::from(b[at + 1])
+        + 65536 * usize::from(b[at + 2])
+        + 16777216 * usize::from(b[at + 3])) as u32
 }
 
 // The 64-bit number in the eight bytes from at, two halves of one part: so it is compiled as one read.
@@ -37,7 +30,7 @@ pub fn get64(b: &[u8], at: usize) -> u64
     ensures { result ≡ field 8 b.now at }
 {
     let part = &b[at..at + 8];
-    (get32(part, 0) as u64) + 4294967296 * (get32(part, 4) as u64)
+    u64::from(get32(part, 0)) + 4294967296 * u64::from(get32(part, 4))
 }
 
 // Writes a 16-bit number into bytes at and at + 1.

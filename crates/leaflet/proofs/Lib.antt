@@ -1,3 +1,2 @@
-pub mod Under
 pub mod Lengths
 pub mod Coincide

@@ -1,2 +1,1 @@
 pub mod Leaflet
-pub mod Inner

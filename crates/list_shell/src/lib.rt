@@ -1,13 +1,11 @@
 // What the desk does to show a list of calls, and to compare two: read, have the text made, print it. Nothing here decides anything of the rules.
 #![tactic(auto)]
 
-use files::Fetched;
-
 // desk list CALLS, where CALLS is an argument's number
 pub fn list_of(rt: &HostRuntime, calls: usize) {
     let mut list = io::large_buffer();
     let whole = files::fetch(rt, b"desk list CALLS", calls, &mut list);
-    let Fetched::Bytes(n) = whole else {
+    let Some(n) = whole else {
         return;
     };
     let list = &list[..n];
@@ -20,13 +18,13 @@ pub fn list_of(rt: &HostRuntime, calls: usize) {
 pub fn same_of(rt: &HostRuntime, first: usize, second: usize) {
     let mut a = io::large_buffer();
     let whole = files::fetch(rt, b"desk same CALLS CALLS", first, &mut a);
-    let Fetched::Bytes(n) = whole else {
+    let Some(n) = whole else {
         return;
     };
     let a = &a[..n];
     let mut b = io::large_buffer();
     let whole = files::fetch(rt, b"desk same CALLS CALLS", second, &mut b);
-    let Fetched::Bytes(m) = whole else {
+    let Some(m) = whole else {
         return;
     };
     let b = &b[..m];

@@ -40,7 +40,7 @@ pub fn all_below(n: u64) -> u64
     ensures { result ≡ all_below n }
 {
     if n == 64 {
-        return 18446744073709551615;
+        return u64::MAX;
     }
     (1u64 << n) - 1
 }
@@ -49,5 +49,5 @@ pub fn all_below(n: u64) -> u64
 pub fn size(set: u64) -> u32
     ensures { result ≡ size set }
 {
-    u64::count_ones(set)
+    set.count_ones()
 }

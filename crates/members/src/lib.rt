@@ -25,10 +25,8 @@ pub fn put_members(room: &mut [u8], at: usize, set: u64) -> usize
     ensures { Writes (members set) room.old at result room.new }
 {
     let mut end = at;
-    let mut u: u64 = 0;
-    while u < 64 {
+    for u in 0..64 {
         end = put_member(room, end, set, u);
-        u += 1;
     }
     end
 }

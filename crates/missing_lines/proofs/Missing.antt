@@ -1,6 +1,6 @@
 -- Laws of the missing calls: one for each way out, and how long their lines are.
-use Prim.Native.Nat.{ℕ, ◌*◌, ◌/◌, ◌≤◌}
-use mathlib.Core.Bool.{Bool, true, false, not, cond}
+use Prim.Native.Nat.{ℕ, ◌*◌, ◌≤◌}
+use mathlib.Core.Bool.{Bool, true, false, cond}
 use mathlib.Core.List.{List, [], ◌++◌, append_assoc}
 use mathlib.Core.Logic.{⊎_elim}
 use mathlib.Core.Path.{◌≡◌, refl}
@@ -14,37 +14,10 @@ use Rattle.ground.specs.Pieces.{cat}
 use Rattle.lines.proofs.Lengths.{length-line}
 use Rattle.lines.specs.Lines.{line}
 use Rattle.liveness.specs.Complete.{lacks, is_complete}
-use Rattle.masks.specs.Mask.{has}
 use Rattle.missing_lines.specs.Missing.{missing_line, missing_from, missing_lines, side_lines, unmet}
 use Rattle.register.proofs.Rows.{length-rows}
-use Rattle.same_calls.specs.Same.{has_call}
 use Rattle.text.proofs.Width.{length-decimal}
 use Rattle.text.specs.Text.{ascii, decimal}
-
--- whether a call is missing
-module _ (among side : ℕ) (list : List ℕ) (accepters u v : ℕ) where
-  pub to-itself : u ≡ v → false ≡ lacks among side list accepters u v
-  unfolding lacks
-  to-itself e = rw (eq-eqb u v e) refl
-
-  module _ (d : u ≡ v → ⊥) where
-    pub not-accepted : has accepters u ≡ false → false ≡ lacks among side list accepters u v
-    unfolding lacks
-    not-accepted e = rw (ne_eqb u v d, e) refl
-
-    module _ (a : has accepters u ≡ true) where
-      pub sender-outside : has among u ≡ false → false ≡ lacks among side list accepters u v
-      unfolding lacks
-      sender-outside e = rw (ne_eqb u v d, a, e) refl
-
-      module _ (s : has among u ≡ true) where
-        pub receiver-outside : has among v ≡ false → false ≡ lacks among side list accepters u v
-        unfolding lacks
-        receiver-outside e = rw (ne_eqb u v d, a, s, e) refl
-
-        pub by-the-list : has among v ≡ true → not (has_call (length list / 4) list 2 u v side) ≡ lacks among side list accepters u v
-        unfolding lacks
-        by-the-list e = rw (ne_eqb u v d, a, s, e) refl
 
 -- the name of a side
 module _ (side : ℕ) where

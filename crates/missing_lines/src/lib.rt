@@ -11,24 +11,17 @@ ghost use Rattle.text.specs.Text.{ascii, decimal};
 ghost use Rattle.text.specs.Written.{Writes};
 
 // Whether the accept call of the side from site u to site v is missing.
+#[tactic(auto, unfolding(liveness::specs::Complete::lacks))]
 fn lacks(among: u64, side: u8, list: &[u8], accepters: u64, u: u8, v: u8) -> bool
     requires u_bound { u < 64 }
     requires v_bound { v < 64 }
     ensures { result ≡ lacks among side list.now accepters u v }
 {
-    if u == v {
-        return false;
-    }
-    if !masks::has(accepters, u as u64) {
-        return false;
-    }
-    if !masks::has(among, u as u64) {
-        return false;
-    }
-    if !masks::has(among, v as u64) {
-        return false;
-    }
-    !same_calls::has_call(list, list.len() / 4, 2, u, v, side)
+    u != v
+        && masks::has(accepters, u64::from(u))
+        && masks::has(among, u64::from(u))
+        && masks::has(among, u64::from(v))
+        && !same_calls::has_call(list, list.len() / 4, 2, u, v, side)
 }
 
 // The name of a side, and a blank.
@@ -48,8 +41,8 @@ fn put_line(room: &mut [u8], at: usize, side: u8, u: u8, v: u8) -> usize
     ensures { Writes (line (side_name side ++ ascii " ") (decimal u ++ (ascii " " ++ decimal v))) room.old at result room.new }
 {
     let at = put_name(room, at, side);
-    let at = text::put_decimal(room, at, u as u64);
-    lines::line_decimal(room, at, b" ", v as u64)
+    let at = text::put_decimal(room, at, u64::from(u));
+    lines::line_decimal(room, at, b" ", u64::from(v))
 }
 
 // The line of the accept call from site u to site v, if it is missing.
@@ -91,10 +84,8 @@ fn put_from(
     ensures { Writes (missing_from n among side list.now accepters u) room.old at result room.new }
 {
     let mut end = at;
-    let mut v: u8 = 0;
-    while v < n {
+    for v in 0..n {
         end = put_missing(room, end, among, side, list, accepters, u, v);
-        v += 1;
     }
     end
 }
@@ -114,10 +105,8 @@ fn put_all(
     ensures { Writes (missing_lines n among side list.now accepters) room.old at result room.new }
 {
     let mut end = at;
-    let mut u: u8 = 0;
-    while u < n {
+    for u in 0..n {
         end = put_from(room, end, n, among, side, list, accepters, u);
-        u += 1;
     }
     end
 }

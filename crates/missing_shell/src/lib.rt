@@ -1,24 +1,21 @@
 // What the desk does to say what a list of calls lacks: read, have the text made, print it. Nothing here decides anything of the rules.
 #![tactic(auto)]
 
-use files::Fetched;
-use text::Typed;
-
 // desk missing TABLE FAULTY CALLS
 pub fn missing_of(rt: &HostRuntime, table: usize, sites: usize, calls: usize) {
     let mut image = io::large_buffer();
     let whole = files::fetch(rt, b"desk missing TABLE FAULTY CALLS", table, &mut image);
-    let Fetched::Bytes(n) = whole else {
+    let Some(n) = whole else {
         return;
     };
     let image = &image[..n];
     let typed = files::faulty(rt, b"desk missing TABLE FAULTY CALLS", sites);
-    let Typed::Mask(faulty) = typed else {
+    let Some(faulty) = typed else {
         return;
     };
     let mut list = io::large_buffer();
     let whole = files::fetch(rt, b"desk missing TABLE FAULTY CALLS", calls, &mut list);
-    let Fetched::Bytes(m) = whole else {
+    let Some(m) = whole else {
         return;
     };
     let list = &list[..m];

@@ -1,11 +1,11 @@
 -- What `desk missing` prints of an image and a list of calls.
+use Rattle.refusals.specs.Check.{Check}
 use Rattle.std.specs.Prelude.{ℕ, List, ◌++◌, length}
 use Rattle.check_text.specs.Table.{image_check, unless, table_on}
 use Rattle.missing_lines.specs.Missing.{side_lines, unmet}
 use Rattle.questions.specs.Answers.{verdict_check}
 use Rattle.refusal_lines.specs.Refused.{explained}
 use Rattle.refusals.specs.First.{or_else}
-use Rattle.refusals.specs.declared.Check.{Check}
 use Rattle.rules.specs.State.{accepted, width, get}
 use Rattle.run.specs.Run.{run_check, the_run}
 use Rattle.sets.specs.Groups.{Groups, slices_in, sites_of, set_check}

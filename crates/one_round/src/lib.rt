@@ -18,7 +18,7 @@ fn is_inside(table: &[u64], n: usize, v: usize, i: u8, w: u64) -> bool
     requires i_bound { i < count_of table.now v }
     ensures { result ≡ within (slice_of table.now v i) w }
 {
-    masks::within(table[63 * v + 1 + i as usize], w)
+    masks::within(table[63 * v + 1 + usize::from(i)], w)
 }
 
 // Of a row that lists slices: site v of w has a slice inside w, at its place or behind it. Its place moves on to the first such slice.
@@ -49,10 +49,7 @@ fn stays_listed(table: &[u64], n: usize, v: usize, w: u64, places: &mut [u8; 64]
     ensures value { result ≡ (rules_of table.now).inside v w }
     ensures places_2 { Places table.now n w places.new }
 {
-    if is_inside(table, n, v, places[v], w) {
-        return true;
-    }
-    moves_on(table, n, v, w, places)
+    is_inside(table, n, v, places[v], w) || moves_on(table, n, v, w, places)
 }
 
 // Site v of w has a slice inside w.
@@ -65,9 +62,10 @@ fn stays(table: &[u64], n: usize, v: usize, w: u64, places: &mut [u8; 64]) -> bo
     ensures places_2 { Places table.now n w places.new }
 {
     if sets::of_sets(table, n, v) {
-        return sets::has_met(table, n, v, w);
+        sets::has_met(table, n, v, w)
+    } else {
+        stays_listed(table, n, v, w, places)
     }
-    stays_listed(table, n, v, w, places)
 }
 
 // Of a row that lists slices: site v of w has a slice inside w, at its place or behind it. Its place moves on to the first such slice, which is held beside it.
@@ -133,9 +131,10 @@ fn moves_held(
     ensures slices_held_2 { SlicesHeld table.now n w held.new }
 {
     if sets::of_sets(table, n, v) {
-        return moves_met(table, n, v, w, held);
+        moves_met(table, n, v, w, held)
+    } else {
+        moves_listed(table, n, v, w, places, held)
     }
-    moves_listed(table, n, v, w, places, held)
 }
 
 // Site v of w has a slice inside w. If what is held for it is inside w, so is a slice, and neither table nor place is read.
@@ -156,10 +155,7 @@ fn stays_held(
     ensures places_2 { Places table.now n w places.new }
     ensures slices_held_2 { SlicesHeld table.now n w held.new }
 {
-    if masks::within(held[v], w) {
-        return true;
-    }
-    moves_held(table, n, v, w, places, held)
+    masks::within(held[v], w) || moves_held(table, n, v, w, places, held)
 }
 
 // Of a row that lists slices, in the first round from w: the empty set if one is inside w, else the set of v alone. Its place is the first such slice.
@@ -174,9 +170,10 @@ fn goes_listed(table: &[u64], n: usize, v: usize, w: u64, places: &mut [u8; 64])
     let first = sets::next_inside(table, n, v, w, 0);
     places[v] = first as u8;
     if first < table[63 * v] as usize {
-        return 0;
+        0
+    } else {
+        masks::single(v as u64)
     }
-    masks::single(v as u64)
 }
 
 // Of a row of sets, in the first round from w: the empty set if site v has a slice inside w, else the set of v alone.
@@ -187,9 +184,10 @@ fn goes_unmet(table: &[u64], n: usize, v: usize, w: u64) -> u64
     ensures { result ≡ cond ((rules_of table.now).inside v w) 0 (single v) }
 {
     if sets::has_met(table, n, v, w) {
-        return 0;
+        0
+    } else {
+        masks::single(v as u64)
     }
-    masks::single(v as u64)
 }
 
 // Site v in the first round from w: the empty set if it has a slice inside w, else the set of v alone. If it lists slices, its place is the first such slice.
@@ -201,9 +199,10 @@ fn goes(table: &[u64], n: usize, v: usize, w: u64, places: &mut [u8; 64]) -> u64
     ensures placed { Placed table.now w v places.old places.new }
 {
     if sets::of_sets(table, n, v) {
-        return goes_unmet(table, n, v, w);
+        goes_unmet(table, n, v, w)
+    } else {
+        goes_listed(table, n, v, w, places)
     }
-    goes_listed(table, n, v, w, places)
 }
 
 // The first member of a set that is not empty.
@@ -211,7 +210,7 @@ fn first_member(m: u64) -> usize
     requires { m ≡ 0 → ⊥ }
     ensures { (result ≡ lowest m) × (result ∈ m) }
 {
-    u64::trailing_zeros(m) as usize
+    m.trailing_zeros() as usize
 }
 
 // A set that is not empty, without its first member.

@@ -35,20 +35,18 @@ fn put_calls(room: &mut [u8], at: usize, list: &[u8], answers: &[u8]) -> usize
     ensures { Writes (call_lines list.now answers.now) room.old at result room.new }
 {
     let mut end = at;
-    let mut i: usize = 0;
-    while i < answers.len() {
+    for (i, answer) in answers.iter().enumerate() {
         let k = 4 * i;
         end = put_call(
             room,
             end,
             i,
-            answers[i],
+            *answer,
             list[k],
             list[k + 1],
             list[k + 2],
             list[k + 3],
         );
-        i += 1;
     }
     end
 }

@@ -15,6 +15,7 @@ pub struct Call {
 }
 
 // Call i put in its place in a room for 4,096 calls, four bytes a call; past the room nothing changes.
+#[tactic(auto, unfolding(crate::specs::Inner::put_at))]
 fn put_call(room: &mut [u8; 16384], i: usize, c: Call)
     ensures { room.new ≡ put_at room.old i c }
 {
@@ -28,13 +29,11 @@ fn put_call(room: &mut [u8; 16384], i: usize, c: Call)
 }
 
 // How many calls of a list of n are packed: a list of more than 4,096 is refused by its length, and none of it is walked.
+#[tactic(auto, unfolding(crate::specs::Inner::packable))]
 fn packable(many: usize) -> usize
     ensures { result ≡ packable many }
 {
-    if 4096 < many {
-        return 0;
-    }
-    many
+    if many > 4096 { 0 } else { many }
 }
 
 // The calls as bytes, in a room for 4,096 of them.
@@ -42,9 +41,7 @@ pub fn pack(calls: &[Call], room: &mut [u8; 16384])
     ensures { room.new ≡ pack_to room.old calls.now (packable (length calls.now)) }
 {
     let n = packable(calls.len());
-    let mut i = 0;
-    while i < n {
+    for i in 0..n {
         put_call(room, i, calls[i]);
-        i += 1;
     }
 }

@@ -1,4 +1,5 @@
 -- The vote of 01 is lawful, from the laws of its rules.
+use Rattle.std.specs.Prelude.{Err}
 use Prim.Native.Nat.{ℕ, zero, suc, ◌-◌, ◌<◌}
 use mathlib.Core.Bool.{true}
 use mathlib.Core.List.{List}
@@ -11,7 +12,6 @@ use Rattle.ground.proofs.Numbers.{two}
 use Rattle.masks.proofs.Laws.Subsets.{mem}
 use Rattle.masks.specs.Mask.{has, ◌∈◌}
 use Rattle.refusals.specs.Refusal.{code}
-use Rattle.refusals.specs.declared.Check.TheVariants.{Refused}
 use Rattle.refusals.specs.declared.Refusal.{Refusal}
 use Rattle.rules.proofs.Answer.{Takes, takes, takes-answer, takes-later, Refuses, refused, answered, step-refused, step-cases}
 use Rattle.rules.proofs.Heard.{heard-grows, heard-proposal}
@@ -50,7 +50,7 @@ against-grows n c {s} {t} b e =
     and_i (and_l x y e) ((b.each (voted n (1 - c.side))).each c.to (mem (and_r x y e))).holds
 
 -- the refusals but 15 stay
-refuses-later : {n F : ℕ} {r : Refusal} (c : Call) {s t : List ℕ} → Refuses n F c s r → (code (Refused r) ≡ 15 → ⊥) → Below s t → Refuses n F c t r
+refuses-later : {n F : ℕ} {r : Refusal} (c : Call) {s t : List ℕ} → Refuses n F c s r → (code (Err r) ≡ 15 → ⊥) → Below s t → Refuses n F c t r
 refuses-later c (Refuses.range a) w b = Refuses.range a
 refuses-later c (Refuses.proposal a p) w b = Refuses.proposal a p
 refuses-later c (Refuses.receiver a p d) w b = Refuses.receiver a p d

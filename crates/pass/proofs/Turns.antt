@@ -1,4 +1,5 @@
 -- One turn of the loop over the calls of a pass, and its end.
+use Rattle.refusals.specs.Check.{Check}
 use Prim.Native.Nat.{ℕ, suc, ◌+◌, ◌-◌, ◌*◌, ◌≤◌, ◌<◌}
 use mathlib.Core.Bool.{Bool, true, false, ◌&&◌, ◌||◌, not}
 use mathlib.Core.List.{List, [], ◌∷◌, ◌++◌, append-nil}
@@ -10,7 +11,6 @@ use lib.Seq.{take-suc, length-take-le, take_all, get_or-append-add, get_or-drop}
 use Rattle.ground.proofs.Pieces.{fill_one}
 use Rattle.ground.specs.Alike.{alike}
 use Rattle.refusals.specs.Refusal.{code}
-use Rattle.refusals.specs.declared.Check.{Check}
 use Rattle.pass.proofs.Calls.{calls_at, calls-length}
 use Rattle.votes.proofs.Passes.{pass-more, answers-more}
 use Rattle.pass.specs.Calls.{calls, call_at}

@@ -9,7 +9,7 @@ ghost use Rattle.asking.specs.Inner.{Known};
 ghost use Rattle.sets.specs.Inner.Rows.{Rows, row_questions};
 ghost use Rattle.votes.specs.Inner.{Works};
 
-use refusals::Check;
+use refusals::Refusal;
 
 // Call i of the list, on a sound state.
 pub fn work_at(
@@ -30,12 +30,12 @@ pub fn work_at(
     ensures known_2 { Known (row_questions table.now n) known.new }
 {
     let at = 4 * i;
-    let kind = le::wide(list[at]);
-    let from = le::wide(list[at + 1]);
-    let to = le::wide(list[at + 2]);
-    let side = le::wide(list[at + 3]);
+    let kind = usize::from(list[at]);
+    let from = usize::from(list[at + 1]);
+    let to = usize::from(list[at + 2]);
+    let side = usize::from(list[at + 3]);
     let a = answers::answer(n, faulty, state, kind, from, to, side);
-    let Check::Sound = a else {
+    let Ok(()) = a else {
         return taking::Worked {
             answer: a,
             changed: false,
@@ -64,13 +64,11 @@ pub fn over_all(
     ensures known_2 { Known (row_questions table.now n) known.new }
 {
     let mut changed = false;
-    let mut i: usize = 0;
-    while i < answers.len() {
+    for i in 0..answers.len() {
         let worked = work_at(table, n, faulty, list, i, state, known);
         let answer = worked.answer;
         answers[i] = refusals::code(answer);
-        changed = changed | worked.changed;
-        i += 1;
+        changed |= worked.changed;
     }
     changed
 }

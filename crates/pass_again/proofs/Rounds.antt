@@ -1,4 +1,5 @@
 -- One turn of a later pass, which looks at the calls that wait alone, and its end.
+use Rattle.std.specs.Prelude.{Ok, Err}
 use Prim.Native.Nat.{ℕ, zero, suc, ◌+◌, ◌-◌, ◌≤◌, ◌<◌}
 use mathlib.Core.Bool.{Bool, true, false, ◌||◌, cond}
 use mathlib.Core.List.{List}
@@ -9,7 +10,6 @@ use lib.ListN.{length, get_or, set}
 use lib.Seq.{get_or-set_same, get_or-set_other, set-get_or}
 use borrow.Author.Tests.{eq-eqb, ne_eqb}
 use Rattle.refusals.specs.Refusal.{code}
-use Rattle.refusals.specs.declared.Check.TheVariants.{Sound, Refused}
 use Rattle.refusals.specs.declared.Refusal.TheVariants.{Unsent}
 use Rattle.waiting.proofs.Places.{listed-none, listed-past, listed_same, listed-gap, listed-end, listed-rest, listed-turn, listed-ahead, kept-few}
 use Rattle.pass.proofs.Turns.{after_none, after_more, after-byte, after-all}
@@ -24,7 +24,7 @@ use Rattle.votes.specs.Vote.{Vote}
 
 -- a call again that waits still, or that is taken
 module _ {X : Vote} {c : Call} {s s₁ : List ℕ} {b : Bool} (i : ℕ) (out : List ℕ) where
-  pub again-waits : Works X c s (Refused Unsent) b s₁ → get_or out i 0 ≡ 15 → Again X c i s out b true s₁ out
+  pub again-waits : Works X c s (Err Unsent) b s₁ → get_or out i 0 ≡ 15 → Again X c i s out b true s₁ out
   again-waits W g =
       let byte = ap code W.answers-so in
       record {
@@ -33,7 +33,7 @@ module _ {X : Vote} {c : Call} {s s₁ : List ℕ} {b : Bool} (i : ℕ) (out : L
         waits-so = sym (eq-eqb (code (X.answer c s)) 15 (sym byte));
       }
 
-  pub again-taken : Works X c s Sound b s₁ → Again X c i s out b false s₁ (set out i 0)
+  pub again-taken : Works X c s (Ok tt) b s₁ → Again X c i s out b false s₁ (set out i 0)
   again-taken W =
       let byte = ap code W.answers-so in
       record {

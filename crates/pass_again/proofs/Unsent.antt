@@ -1,4 +1,5 @@
 -- A call that was refused with 15 once can be refused with nothing else: it is answered by whether its sender has sent it.
+use Rattle.std.specs.Prelude.{Ok, Err}
 use Prim.Native.Nat.{ℕ, ◌≤◌}
 use mathlib.Core.Bool.{Bool, true, false, ◌&&◌, not, cond}
 use mathlib.Core.List.{List}
@@ -11,7 +12,6 @@ use Rattle.ground.proofs.Logic.{and_l, and_r, not_t, clash}
 use Rattle.ground.proofs.Numbers.{same?}
 use Rattle.masks.specs.Mask.{has}
 use Rattle.refusals.specs.Refusal.{code}
-use Rattle.refusals.specs.declared.Check.TheVariants.{Sound, Refused}
 use Rattle.refusals.specs.declared.Refusal.{Refusal}
 use Rattle.refusals.specs.declared.Refusal.TheVariants.{Unsent}
 use Rattle.rules.proofs.Answer.{Refuses, in-range, refused, answered, passes}
@@ -45,7 +45,7 @@ module _ (n F : ℕ) (c : Call) where
       (and_l (not (eqb c.kind 0)) (not (has F c.from) && not (has (get s (sent_at n c)) c.from)) e, and_l (not (has F c.from)) (not (has (get s (sent_at n c)) c.from)) p)
 
   -- 15 comes last: whoever is refused so passed the other tests
-  facts : (s : List ℕ) {r : Refusal} → Refuses n F c s r → code (Refused r) ≡ 15 → Sending n F c
+  facts : (s : List ℕ) {r : Refusal} → Refuses n F c s r → code (Err r) ≡ 15 → Sending n F c
   facts s (Refuses.range a) e = absurd (omega (arith, e))
   facts s (Refuses.proposal a b) e = absurd (omega (arith, e))
   facts s (Refuses.receiver a b d) e = absurd (omega (arith, e))
@@ -67,10 +67,10 @@ module _ (n F : ℕ) (c : Call) where
     unfolding unsent
     unsent-so e = rw (ne_eqb c.kind 0 S.no-proposal, S.sender) (ap not (sym e))
 
-    pub waits-still : {b : Bool} → b ≡ has (get s (sent_at n c)) c.from → b ≡ false → Refused Unsent ≡ answer n F c s
+    pub waits-still : {b : Bool} → b ≡ has (get s (sent_at n c)) c.from → b ≡ false → Err Unsent ≡ answer n F c s
     waits-still e f = sym (refused n F c s (Refuses.not-sent S.range S.straight S.correct no-vote (unsent-so e ∙ ap not f)))
 
-    pub taken-now : {b : Bool} → b ≡ has (get s (sent_at n c)) c.from → b ≡ true → answer n F c s ≡ Sound
+    pub taken-now : {b : Bool} → b ≡ has (get s (sent_at n c)) c.from → b ≡ true → answer n F c s ≡ Ok tt
     taken-now e f = passes n F c s S.range S.straight S.correct no-vote (unsent-so e ∙ ap not f)
 
   pub sending-range : Sending n F c → InRange n c

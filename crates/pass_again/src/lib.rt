@@ -39,16 +39,16 @@ fn work_again(
     ensures known_2 { Known (row_questions table.now n) known.new }
 {
     let at = 4 * i;
-    let kind = le::wide(list[at]);
-    let from = le::wide(list[at + 1]);
-    let side = le::wide(list[at + 3]);
+    let kind = usize::from(list[at]);
+    let from = usize::from(list[at + 1]);
+    let side = usize::from(list[at + 3]);
     if !answers::has_sent(n, state, kind, from, side) {
         return Turn {
             changed: false,
             waits: true,
         };
     }
-    let to = le::wide(list[at + 2]);
+    let to = usize::from(list[at + 2]);
     answers[i] = 0;
     let changed = taking::change(table, n, faulty, state, kind, from, to, side, known);
     Turn {
@@ -85,16 +85,14 @@ pub fn over_waiting(
 {
     let mut changed = false;
     let mut left: usize = 0;
-    let mut k: usize = 0;
-    while k < count {
+    for k in 0..count {
         let i = waiting::place(waiting[k]);
         let turn = work_again(table, n, faulty, list, i, state, answers, known);
-        changed = changed | turn.changed;
+        changed |= turn.changed;
         left = waiting::keep(waiting, left, i, turn.waits);
-        k += 1;
     }
     Round {
-        changed: changed,
+        changed,
         count: left,
     }
 }

@@ -1,7 +1,7 @@
 // Passes over a list of calls, from a fresh state, until one changes nothing.
 #![tactic(auto)]
 
-ghost use Rattle.std.specs.Prelude.{◌≡◌, ◌*◌, ◌≤◌, length, replicate};
+ghost use Rattle.std.specs.Prelude.{◌≡◌, ◌*◌, ◌≤◌, length};
 ghost use Rattle.rules.specs.Inner.{row_vote};
 ghost use Rattle.pass.specs.Calls.{calls};
 ghost use Rattle.passes.specs.Inner.{Begun, Whole};
@@ -38,17 +38,6 @@ fn run_on(
     }
 }
 
-// Zeros all over.
-fn clear(state: &mut [u64])
-    ensures { state.new ≡ replicate (length state.old) 0 }
-{
-    let mut i: usize = 0;
-    while i < state.len() {
-        state[i] = 0;
-        i += 1;
-    }
-}
-
 // Passes from a fresh state until one changes nothing, in rooms of the right size, whatever they held: how many, that one counted.
 pub fn run_fresh(
     table: &[u64],
@@ -64,7 +53,7 @@ pub fn run_fresh(
     requires answers_len_bound { length answers.old ≤ 4096 }
     ensures { Whole (row_vote table.now n faulty) (calls list.now) result state.new answers.new }
 {
-    clear(state);
+    state.fill(0);
     let mut known = [0u64; 4];
     let changed = pass::over_all(table, n, faulty, list, state, answers, &mut known);
     if !changed {

@@ -2,7 +2,7 @@
 use Prim.Native.Nat.{ℕ, ◌+◌, ◌-◌, ◌*◌, ◌/◌, ◌≤◌, ◌<◌}
 use mathlib.Core.Bool.{false, ◌&&◌, not}
 use mathlib.Core.List.{List}
-use mathlib.Core.Logic.{◌⊎◌, ⊎_elim}
+use mathlib.Core.Logic.{⊎_elim}
 use mathlib.Core.Path.{◌≡◌, sym, ap, ap₂, ◌∙◌, subst}
 use native.Mathlib.Nat.{not-suc-le-zero}
 use native.Mathlib.Omega.{arith}
@@ -47,13 +47,6 @@ module _ (m : ℕ) where
               (λ ne. h.right j y l ((and-⊆-l word rest).each j k) (less ly ne) iy ij) (same? y x);
           full = λ j l f.
               ∈-and (h.full j l (λ y ly. f y (up ly))) (mem (w.each j l ∙ ap not (is_false (has j x) (λ e. f x here i (mem e)))));
-        }
-
-    pub missing-out : has m x ≡ false → Missing m (x + 1) word
-    missing-out e =
-        record {
-          right = λ j y l k ly iy ij. ⊎_elim (λ z. clash (subst (λ (a : ℕ). a ∈ m) z iy).holds e) (λ ne. h.right j y l k (less ly ne) iy ij) (same? y x);
-          full = λ j l f. h.full j l (λ y ly. f y (up ly));
         }
 
 -- the sets of a word that have no site of m
@@ -126,9 +119,6 @@ module _ (sets : List ℕ) where
 
       high : {u : ℕ} → u < k * 64 + bound → bound ≤ 64 → u < k * 64 + 64
       high a b = omega arith
-
-  pub nothing-found : (end : ℕ) → ((u : ℕ) → 0 ≤ u → u < end → in_family sets u ≡ false) → LastBelow sets end 0
-  nothing-found end f = record { below = λ ne. absurd (ne (omega arith)); member = λ ne. absurd (ne (omega arith)); none = λ u a b. f u (omega arith) b }
 
   -- nothing in the word of end, below it
   pub go_on : (w end bound : ℕ) {r : ℕ} → w * 64 + bound ≡ end → bound ≤ 64 → ((y : ℕ) → y < bound → has (get_or sets w 0) y ≡ false) → LastBelow sets (w * 64) r → LastBelow sets end r

@@ -22,11 +22,9 @@ fn miss(m: u64, x: usize, word: u64) -> u64
 fn missing(m: u64) -> u64
     ensures { Missing m 6 result }
 {
-    let mut word = 18446744073709551615u64;
-    let mut x: usize = 0;
-    while x < 6 {
+    let mut word = u64::MAX;
+    for x in 0..6 {
         word = miss(m, x, word);
-        x += 1;
     }
     word
 }
@@ -35,10 +33,7 @@ fn missing(m: u64) -> u64
 fn chosen(high: u64, w: u64, low: u64) -> u64
     ensures { Chosen high w low result }
 {
-    if high & w == 0 {
-        return low;
-    }
-    0
+    if high & w == 0 { low } else { 0 }
 }
 
 // Of the sets those that have no site of m.
@@ -49,10 +44,8 @@ pub fn lack(m: u64, sets: &mut [u64; 64])
 {
     let high = m / 64;
     let low = missing(m);
-    let mut w: usize = 0;
-    while w < 64 {
-        sets[w] = sets[w] & chosen(high, w as u64, low);
-        w += 1;
+    for (w, word) in sets.iter_mut().enumerate() {
+        *word &= chosen(high, w as u64, low);
     }
 }
 
@@ -61,13 +54,11 @@ fn last_before(sets: &[u64; 64], w: usize) -> u64
     requires { w ≤ 64 }
     ensures { LastBelow sets.now (w * 64) result }
 {
-    let mut k = w;
-    while 0 < k {
-        let word = sets[k - 1];
+    for k in (0..w).rev() {
+        let word = sets[k];
         if word != 0 {
-            return ((k - 1) as u64) * 64 + set_words::last(word);
+            return k as u64 * 64 + set_words::last(word);
         }
-        k -= 1;
     }
     0
 }
@@ -80,7 +71,7 @@ pub fn last_below(sets: &[u64; 64], end: u64) -> u64
     let w = (end / 64) as usize;
     let word = sets[w] & masks::all_below(end % 64);
     if word != 0 {
-        return (w as u64) * 64 + set_words::last(word);
+        return w as u64 * 64 + set_words::last(word);
     }
     last_before(sets, w)
 }

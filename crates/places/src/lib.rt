@@ -84,6 +84,5 @@ pub fn put(state: &mut [u64], place: usize, m: u64)
     requires { place < length state.old }
     ensures { state.new ≡ add place m state.old }
 {
-    let old = state[place];
-    state[place] = old | m;
+    state[place] |= m;
 }

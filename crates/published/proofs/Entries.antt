@@ -1,4 +1,6 @@
 -- Where `desk missing` says `complete drill` first, all intact sites have one mark: the list is complete, the table meets, and one-mark says the rest.
+use Rattle.refusals.specs.Check.{Check}
+use Rattle.std.specs.Prelude.{Ok}
 use Prim.Native.Nat.{ℕ, ◌/◌}
 use mathlib.Core.Bool.{Bool, true, false}
 use mathlib.Core.List.{List, ◌++◌}
@@ -21,8 +23,6 @@ use Rattle.pass.specs.Calls.{calls}
 use Rattle.questions.specs.Answers.{verdict_check}
 use Rattle.refusals.proofs.First.{or_else-sound, kept}
 use Rattle.refusals.specs.First.{refuse}
-use Rattle.refusals.specs.declared.Check.{Check}
-use Rattle.refusals.specs.declared.Check.TheVariants.{Sound}
 use Rattle.refusals.specs.declared.Refusal as Refusal
 use Rattle.rules.specs.State.{accepted, confirmed, width, get}
 use Rattle.run.proofs.Public.{is-checked, state-is-run}
@@ -48,7 +48,7 @@ module _ (n whole : ℕ) (list : List ℕ) (drill : ℕ) (rest : List ℕ) where
       ⊎_elim (λ h. h) (λ h. absurd (missing-begins n whole 0 list drill h rest e)) (cases (is_complete n whole 0 list drill))
 
 -- of a run on a table, as the desk has it
-module _ (t : Groups) (F : ℕ) (list : List ℕ) (c : run_check t F (length list) (width 64) 4096 ≡ Sound) where
+module _ (t : Groups) (F : ℕ) (list : List ℕ) (c : run_check t F (length list) (width 64) 4096 ≡ Ok tt) where
   abbrev n : ℕ
   n = sites_of t
 

@@ -1,4 +1,5 @@
 -- What is read is what is filed; the lines of a verdict and of the register are the paper's.
+use Rattle.std.specs.Prelude.{Ok}
 use Prim.Native.Nat.{ℕ, ◌≤◌, ◌<◌}
 use mathlib.Core.Bool.{Bool, true, false, not, ◌&&◌, cond}
 use mathlib.Core.List.{List, ◌++◌}
@@ -21,7 +22,6 @@ use Rattle.masks.specs.Mask.{has, all_below, minus, ◌∈◌, ◌⊆◌}
 use Rattle.outcome.specs.Outcome.{end_lines}
 use Rattle.pass.proofs.Lawful.{table-vote}
 use Rattle.pass.specs.Calls.{calls}
-use Rattle.refusals.specs.declared.Check.TheVariants.{Sound}
 use Rattle.register.specs.Register.{worth_of, site_line}
 use Rattle.rules.proofs.WorkWays.{table-rests}
 use Rattle.rules.specs.State.{accepts, confirmed, get}
@@ -46,7 +46,7 @@ use Rattle.published.specs.Voting.{Confirms}
 pub image-sites : (image : List ℕ) → sites_of (table_on image) ≡ sites_on image
 image-sites image = loaded-sites image (sites_on image)
 
-pub image-checked : (image : List ℕ) → image_check image ≡ Sound → Checked (table_on image)
+pub image-checked : (image : List ℕ) → image_check image ≡ Ok tt → Checked (table_on image)
 image-checked image e = loaded image (sites_on image) (reads image e)
 
 pub read-as-filed : ReadAsFiled

@@ -1,4 +1,6 @@
 -- 7 and 9 never arise: what is refused block by block and site by site is 2 to 6 or 8, a checked table holds a quorum, and the desk's rooms are large enough.
+use Rattle.refusals.specs.Check.{Answer, Check}
+use Rattle.std.specs.Prelude.{Ok, Err}
 use Prim.Native.Nat.{ℕ, zero, suc, ◌*◌, ◌/◌, ◌%◌, ◌≤◌, ◌<◌}
 use mathlib.Core.Bool.{Bool, true, false, ◌||◌, not}
 use mathlib.Core.List.{List}
@@ -15,12 +17,9 @@ use Rattle.ground.specs.Pieces.{part}
 use Rattle.image.proofs.ReadLaws.{blocks-shape, loads-table, some-quorum}
 use Rattle.image_blocks.specs.Image.{image_misshapen, blocks_check, loads}
 use Rattle.image.specs.Read.{read, read_check, quorumless, to_reading}
-use Rattle.image.specs.declared.Reading as Reading
 use Rattle.masks.specs.Mask.{within, all_below}
 use Rattle.refusals.specs.First.{or_else, refuse, first}
 use Rattle.refusals.specs.Refusal.{number}
-use Rattle.refusals.specs.declared.Check.{Check}
-use Rattle.refusals.specs.declared.Check.TheVariants.{Sound, Refused}
 use Rattle.refusals.specs.declared.Refusal.{Refusal}
 use Rattle.refusals.specs.declared.Refusal.TheVariants.{Length, NoQuorum, Room, Set, Sums, Header, Count, Slice, Order, Filler, Threshold, Nesting}
 use Rattle.refusals.specs.declared.Refusal as Refusals
@@ -40,13 +39,13 @@ use Rattle.published.specs.Files.{SevenNever, NineNever}
 
 -- a check whose refusals have other numbers than k
 abbrev Avoids : ℕ → Check → Type 0
-Avoids k c = (r : Refusal) → c ≡ Refused r → number r ≡ k → ⊥
+Avoids k c = (r : Refusal) → c ≡ Err r → number r ≡ k → ⊥
 
-refused-inj : {r s : Refusal} → Refused r ≡ Refused s → r ≡ s
+refused-inj : {r s : Refusal} → ◌≡◌ {A = Check} (Err r) (Err s) → r ≡ s
 refused-inj e = cc
 
 module _ (k : ℕ) where
-  sound-avoids : Avoids k Sound
+  sound-avoids : Avoids k (Ok tt)
   sound-avoids r e h = let z : ◌≡◌ {A = ℕ} 0 1 = cc in omega (arith, z)
 
   refuse-avoids : (b : Bool) (s : Refusal) → (number s ≡ k → ⊥) → Avoids k (refuse b s)
@@ -54,8 +53,8 @@ module _ (k : ℕ) where
   refuse-avoids false s f = sound-avoids
 
   or_else-avoids : (a b : Check) → Avoids k a → Avoids k b → Avoids k (or_else a b)
-  or_else-avoids Sound b x y = y
-  or_else-avoids (Refused r) b x y = x
+  or_else-avoids (Ok _) b x y = y
+  or_else-avoids (Err r) b x y = x
 
   first-avoids : (f : ℕ → Check) (n : ℕ) → ((i : ℕ) → Avoids k (f i)) → Avoids k (first f n)
   unfolding first
@@ -148,19 +147,19 @@ module _ (k : ℕ) where
         or_else-avoids (groups_check t) (refuse out Set) (table-avoids t) (refuse-avoids out Set (other 10 (λ z. omega (arith, z)) (λ z. omega (arith, z))))
 
 -- the reader: 7
-reading-inv : (n : ℕ) (c : Check) (r : Refusal) → to_reading n c ≡ Reading.Reading.Refused r → c ≡ Refused r
-reading-inv n Sound r e = let z : ◌≡◌ {A = ℕ} 0 1 = cc in absurd (omega (arith, z))
-reading-inv n (Refused s) r e = ap Refused (inner e)
+reading-inv : (n : ℕ) (c : Check) (r : Refusal) → to_reading n c ≡ Err r → c ≡ Err r
+reading-inv n (Ok _) r e = let z : ◌≡◌ {A = ℕ} 0 1 = cc in absurd (omega (arith, z))
+reading-inv n (Err s) r e = ap Err (inner e)
   where
-    inner : Reading.Reading.Refused s ≡ Reading.Reading.Refused r → s ≡ r
+    inner : ◌≡◌ {A = Answer ℕ} (Err s) (Err r) → s ≡ r
     inner p = cc
 
 -- of a check in front of another: what comes behind is asked only where the first is sound
-behind : (k : ℕ) (a b : Check) → Avoids k a → (a ≡ Sound → Avoids k b) → Avoids k (or_else a b)
-behind k Sound b x y = y refl
-behind k (Refused r) b x y = x
+behind : (k : ℕ) (a b : Check) → Avoids k a → (a ≡ Ok tt → Avoids k b) → Avoids k (or_else a b)
+behind k (Ok _) b x y = y refl
+behind k (Err r) b x y = x
 
-unrefused : (b : Bool) (s : Refusal) → refuse b s ≡ Sound → b ≡ false
+unrefused : (b : Bool) (s : Refusal) → refuse b s ≡ Ok tt → b ≡ false
 unrefused true s e = let z : ◌≡◌ {A = ℕ} 0 1 = cc in absurd (omega (arith, z))
 unrefused false s e = refl
 

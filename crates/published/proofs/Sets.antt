@@ -1,4 +1,6 @@
 -- The public answers to set questions are the paper's, both ways: what was asked was proper and the computed answer decides the paper's statement.
+use Rattle.refusals.specs.Check.{Check}
+use Rattle.std.specs.Prelude.{Some, None, Ok, Err}
 use Prim.Native.Nat.{ℕ, zero, suc, ◌≤◌, ◌<◌}
 use mathlib.Core.Bool.{Bool, true, false, not}
 use mathlib.Core.Logic.{◌⊎◌, ⊎_elim}
@@ -10,15 +12,11 @@ use lib.Pow.{ones_lt}
 use Rattle.ground.proofs.Logic.{is_false, clash}
 use Rattle.masks.proofs.Laws.Subsets.{⊆-within, ⊆-antisym, ⊆-trans, ⊆-zero, ∈-below}
 use Rattle.masks.specs.Mask.{all_below, ◌∈◌, ◌⊆◌}
-use Rattle.questions.specs.Answers.{quorum, largest, blocks, shared, intact, to_holds, to_greatest, to_sharing, to_standing, verdict_check, set_site_check}
-use Rattle.questions.specs.declared.Greatest.TheVariants.{Set}
-use Rattle.questions.specs.declared.Holds.TheVariants.{Yes, No}
-use Rattle.questions.specs.declared.Sharing as Sharing
-use Rattle.questions.specs.declared.Standing as Standing
+use Rattle.questions.specs.Answers.{quorum, largest, blocks, shared, intact, to_holds, to_greatest, to_sharing, to_standing, verdict_check, set_site_check, pair_of, set_left}
 use Rattle.refusals.proofs.First.{or_else-sound, kept}
-use Rattle.refusals.specs.declared.Check.{Check}
-use Rattle.refusals.specs.declared.Check.TheVariants.{Sound, Refused}
 use Rattle.refusals.specs.declared.Refusal as Refusal
+use Rattle.rounds.specs.declared.SetLeft.{SetLeft}
+use Rattle.verdicts.specs.declared.Pair.{Pair}
 use Rattle.sets.proofs.Groups.{lawful, table-exact, table-decides, set-checked, set-of-sites, no-outsider}
 use Rattle.sets.proofs.Quorum.{round-⊆, round-slice, ∈-round, largest-after, rounds-drop, largest-still}
 use Rattle.sets.specs.Groups.{Groups, sites_of, fbqs_in, slices_in, groups_check, Checked, set_check}
@@ -30,15 +28,15 @@ use Rattle.verdicts.specs.Verdicts as Verdicts
 use Rattle.published.specs.Sets.{named, Proper, Round, Rounds, LargestInside, IntactSites, QuorumAsPublished, BlocksAsPublished, LargestAsPublished, SharedAsPublished, IntactAsPublished}
 
 -- what was asked was proper, and the other way
-pub proper-of : (t : Groups) (set : ℕ) → set_check t set ≡ Sound → Proper t set
+pub proper-of : (t : Groups) (set : ℕ) → set_check t set ≡ Ok tt → Proper t set
 proper-of t set e = ((table-exact t).0 (set-checked t set e), set-of-sites t set e)
 
-pub of-proper : (t : Groups) (set : ℕ) → Proper t set → set_check t set ≡ Sound
+pub of-proper : (t : Groups) (set : ℕ) → Proper t set → set_check t set ≡ Ok tt
 unfolding set_check
 of-proper t set p = rw ((table-exact t).1 p.0, no-outsider (sites_of t) set (⊆-within p.1)) refl
 
 -- at most twelve sites
-few-sites : (t : Groups) (c : Check) → verdict_check t c ≡ Sound → (c ≡ Sound) × (sites_of t ≤ 12)
+few-sites : (t : Groups) (c : Check) → verdict_check t c ≡ Ok tt → (c ≡ Ok tt) × (sites_of t ≤ 12)
 few-sites t c e =
     let x = or_else-sound c _ e in
     (x.0, le_of_not_lt (λ h. clash (lt-ltb 12 (sites_of t) h) (kept (ltb 12 (sites_of t)) Refusal.Refusal.Large x.1)))
@@ -47,15 +45,15 @@ few-sites t c e =
     le_of_not_lt f = omega (arith, f)
 
 -- yes and no
-yes-inv : (c : Check) (b : Bool) → to_holds c b ≡ Yes → (c ≡ Sound) × (b ≡ true)
-yes-inv Sound true e = (refl, refl)
-yes-inv Sound false e = let z : ◌≡◌ {A = ℕ} 0 1 = cc in absurd (omega arith)
-yes-inv (Refused r) b e = let z : ◌≡◌ {A = ℕ} 0 1 = cc in absurd (omega arith)
+yes-inv : (c : Check) (b : Bool) → to_holds c b ≡ Ok true → (c ≡ Ok tt) × (b ≡ true)
+yes-inv (Ok _) true e = (refl, refl)
+yes-inv (Ok _) false e = let z : ◌≡◌ {A = ℕ} 0 1 = cc in absurd (omega arith)
+yes-inv (Err r) b e = let z : ◌≡◌ {A = ℕ} 0 1 = cc in absurd (omega arith)
 
-no-inv : (c : Check) (b : Bool) → to_holds c b ≡ No → (c ≡ Sound) × (b ≡ false)
-no-inv Sound false e = (refl, refl)
-no-inv Sound true e = let z : ◌≡◌ {A = ℕ} 0 1 = cc in absurd (omega arith)
-no-inv (Refused r) b e = let z : ◌≡◌ {A = ℕ} 0 1 = cc in absurd (omega arith)
+no-inv : (c : Check) (b : Bool) → to_holds c b ≡ Ok false → (c ≡ Ok tt) × (b ≡ false)
+no-inv (Ok _) false e = (refl, refl)
+no-inv (Ok _) true e = let z : ◌≡◌ {A = ℕ} 0 1 = cc in absurd (omega arith)
+no-inv (Err r) b e = let z : ◌≡◌ {A = ℕ} 0 1 = cc in absurd (omega arith)
 
 pub quorum-as-published : QuorumAsPublished
 unfolding quorum
@@ -76,7 +74,7 @@ quorum-as-published t set =
       ),
     )
 
-site-inside : (t : Groups) (set site : ℕ) → set_site_check t set site ≡ Sound → Proper t set × (site < sites_of t)
+site-inside : (t : Groups) (set site : ℕ) → set_site_check t set site ≡ Ok tt → Proper t set × (site < sites_of t)
 unfolding set_site_check
 site-inside t set site e =
     let y = or_else-sound (set_check t set) _ e in
@@ -172,9 +170,9 @@ largest-inside t c w sub =
     let G = (table-decides t c).largest-decides w in
     record { none-or-quorum = G.none-or-quorum; inside = G.inside; contains = G.contains; rounds = rounds-are t c w sub }
 
-greatest-inv : (c : Check) (s k q j : ℕ) → to_greatest c s k ≡ Set q j → (c ≡ Sound) × (s ≡ q) × (k ≡ j)
-greatest-inv Sound s k q j e = (refl, cc, cc)
-greatest-inv (Refused r) s k q j e = let z : ◌≡◌ {A = ℕ} 0 1 = cc in absurd (omega arith)
+greatest-inv : (c : Check) (s k q j : ℕ) → to_greatest c s k ≡ Ok (set_left q j) → (c ≡ Ok tt) × (s ≡ q) × (k ≡ j)
+greatest-inv (Ok _) s k q j e = let l : set_left s k ≡ set_left q j = cc in (refl, ap (λ (x : SetLeft). x.set) l, ap (λ (x : SetLeft). x.rounds) l)
+greatest-inv (Err r) s k q j e = let z : ◌≡◌ {A = ℕ} 0 1 = cc in absurd (omega arith)
 
 pub largest-as-published : LargestAsPublished
 unfolding largest
@@ -194,15 +192,16 @@ largest-as-published t set q k =
     )
 
 -- shared sites
-meet-inv : (c : Check) (b : Bool) (p q : ℕ) → to_sharing c b p q ≡ Sharing.Sharing.Meet → (c ≡ Sound) × (b ≡ true)
-meet-inv Sound true p q e = (refl, refl)
-meet-inv Sound false p q e = let z : ◌≡◌ {A = ℕ} 0 1 = cc in absurd (omega arith)
-meet-inv (Refused r) b p q e = let z : ◌≡◌ {A = ℕ} 0 1 = cc in absurd (omega arith)
+meet-inv : (c : Check) (b : Bool) (p q : ℕ) → to_sharing c b p q ≡ Ok None → (c ≡ Ok tt) × (b ≡ true)
+meet-inv (Ok _) true p q e = (refl, refl)
+meet-inv (Ok _) false p q e = let z : ◌≡◌ {A = ℕ} 0 1 = cc in absurd (omega arith)
+meet-inv (Err r) b p q e = let z : ◌≡◌ {A = ℕ} 0 1 = cc in absurd (omega arith)
 
-apart-inv : (c : Check) (b : Bool) (p q x y : ℕ) → to_sharing c b p q ≡ Sharing.Sharing.Apart x y → (c ≡ Sound) × (b ≡ false) × (p ≡ x) × (q ≡ y)
-apart-inv Sound true p q x y e = let z : ◌≡◌ {A = ℕ} 0 1 = cc in absurd (omega arith)
-apart-inv Sound false p q x y e = (refl, refl, cc, cc)
-apart-inv (Refused r) b p q x y e = let z : ◌≡◌ {A = ℕ} 0 1 = cc in absurd (omega arith)
+apart-inv : (c : Check) (b : Bool) (p q x y : ℕ) → to_sharing c b p q ≡ Ok (Some (pair_of x y)) → (c ≡ Ok tt) × (b ≡ false) × (p ≡ x) × (q ≡ y)
+apart-inv (Ok _) true p q x y e = let z : ◌≡◌ {A = ℕ} 0 1 = cc in absurd (omega arith)
+apart-inv (Ok _) false p q x y e =
+    let l : pair_of p q ≡ pair_of x y = cc in (refl, refl, ap (λ (z : Pair). z.first) l, ap (λ (z : Pair). z.second) l)
+apart-inv (Err r) b p q x y e = let z : ◌≡◌ {A = ℕ} 0 1 = cc in absurd (omega arith)
 
 -- two quorums that 01 names are the only ones that it names
 one-pair : {S : Fbqs} {p q a b : ℕ} → Apart S p q → Apart S a b → (p ≡ a) × (q ≡ b)
@@ -231,14 +230,14 @@ shared-as-published t =
         λ x. let D = table-verdicts t ((table-exact t).1 x.0) in
             let f : m ≡ false = is_false m (λ e. D.meets-decides.0 e a b x.2.first x.2.second x.2.no-common) in
             let o = one-pair (D.apart-decides f) x.2 in
-            rw ((table-exact t).1 x.0, le-ltb 12 n x.1, f, o.0) (ap (Sharing.Sharing.Apart a) (ap (Verdicts.beside s n) (sym o.0) ∙ o.1)),
+            rw ((table-exact t).1 x.0, le-ltb 12 n x.1, f, o.0) (ap (λ (z : ℕ). Ok (Some (pair_of a z))) (ap (Verdicts.beside s n) (sym o.0) ∙ o.1)),
       ),
     )
 
 -- intact sites
-standing-inv : (c : Check) (s m : ℕ) → to_standing c s ≡ Standing.Standing.Intact m → (c ≡ Sound) × (s ≡ m)
-standing-inv Sound s m e = (refl, cc)
-standing-inv (Refused r) s m e = let z : ◌≡◌ {A = ℕ} 0 1 = cc in absurd (omega arith)
+standing-inv : (c : Check) (s m : ℕ) → to_standing c s ≡ Ok m → (c ≡ Ok tt) × (s ≡ m)
+standing-inv (Ok _) s m e = (refl, cc)
+standing-inv (Err r) s m e = let z : ◌≡◌ {A = ℕ} 0 1 = cc in absurd (omega arith)
 
 pub intact-as-published : IntactAsPublished
 unfolding intact

@@ -1,4 +1,5 @@
 -- Accepting and confirming are the paper's: the rules from the promises, and so every sound state, and every state that a run ends in.
+use Rattle.std.specs.Prelude.{Ok}
 use Prim.Native.Nat.{ℕ}
 use mathlib.Core.Bool.{Bool, true, ◌||◌}
 use mathlib.Core.List.{List}
@@ -11,7 +12,6 @@ use Rattle.masks.proofs.Laws.Single.{∈-or}
 use Rattle.masks.proofs.Laws.Subsets.{mem, ⊆-refl, or-⊆-l, or-⊆-r, minus-again}
 use Rattle.masks.specs.Mask.{single, others, ◌∈◌}
 use Rattle.refusals.proofs.First.{or_else-sound, kept}
-use Rattle.refusals.specs.declared.Check.TheVariants.{Sound}
 use Rattle.refusals.specs.declared.Refusal.TheVariants.{Unsound}
 use Rattle.rules.proofs.Exact.{sound-of}
 use Rattle.rules.proofs.WorkWays.{table-rests}
@@ -76,8 +76,8 @@ of-state {S} {Q} {n} {F} {s} R T v side hv hs f =
     )
 
 -- what is not refused with 18: the table and the set are taken, and the state is sound
-module _ (t : Groups) (F : ℕ) (s : List ℕ) (e : sound_check t F s ≡ Sound) where
-  pub set-taken : set_check t F ≡ Sound
+module _ (t : Groups) (F : ℕ) (s : List ℕ) (e : sound_check t F s ≡ Ok tt) where
+  pub set-taken : set_check t F ≡ Ok tt
   unfolding sound_check
   set-taken = (or_else-sound (set_check t F) _ e).0
 

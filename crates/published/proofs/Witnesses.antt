@@ -1,6 +1,8 @@
 -- The witnesses: answers, state and run by computation; the image by the round trip of writing and reading.
+use Rattle.refusals.specs.Check.{Check}
+use Rattle.std.specs.Prelude.{Some, None, Ok, Err}
 use Prim.Native.Nat.{ℕ, zero, suc, ◌+◌, ◌<◌, ◌/◌}
-use mathlib.Core.Bool.{Bool, true, ◌&&◌}
+use mathlib.Core.Bool.{Bool, true, false, ◌&&◌}
 use mathlib.Core.List.{List, [], ◌∷◌, ◌++◌}
 use mathlib.Core.Path.{◌≡◌, refl, sym, ap, ◌∙◌}
 use native.Mathlib.Omega.{arith}
@@ -18,17 +20,9 @@ use Rattle.image_blocks.specs.Image.{loads}
 use Rattle.image.specs.Read.{read, read_into, read_check, to_reading}
 use Rattle.image.specs.RoundTrip.{Words}
 use Rattle.image_write.specs.Write.{write, write_check}
-use Rattle.image.specs.declared.Reading as Reading
-use Rattle.image_write.specs.declared.Writing as Writing
 use Rattle.masks.specs.Mask.{has, within, minus, gather}
-use Rattle.questions.specs.Answers.{quorum, largest, blocks, shared, intact, set_site_check}
-use Rattle.questions.specs.declared.Greatest.TheVariants.{Set}
-use Rattle.questions.specs.declared.Holds.TheVariants.{Yes, No}
-use Rattle.questions.specs.declared.Sharing as Sharing
-use Rattle.questions.specs.declared.Standing as Standing
+use Rattle.questions.specs.Answers.{quorum, largest, blocks, shared, intact, set_site_check, pair_of, set_left}
 use Rattle.refusals.specs.First.{first}
-use Rattle.refusals.specs.declared.Check.{Check}
-use Rattle.refusals.specs.declared.Check.TheVariants.{Sound, Refused}
 use Rattle.rules.specs.Rules.{accepting, confirming, now_accepts, now_confirms, hears, taken, out_of_range, crooked, against, unsent, answer}
 use Rattle.rules.specs.State.{width, add}
 use Rattle.run.specs.Examples.{table_a, rows_b, table_b, table_apart}
@@ -56,50 +50,50 @@ unfolding check table_misshapen sites_check site_check row_check slice_check str
 b-sound = refl
 
 -- the table and the set are checked by computation; what is asked of the checked table is computed then
-a-quorum : quorum table_b 7 ≡ Yes
+a-quorum : quorum table_b 7 ≡ Ok true
 unfolding quorum set_check check table_misshapen sites_check site_check row_check slice_check strange unordered row_unfilled some every first has within slices_of Quorum.quorum
 a-quorum = refl
 
-no-quorum : quorum table_b 3 ≡ No
+no-quorum : quorum table_b 3 ≡ Ok false
 unfolding quorum set_check check table_misshapen sites_check site_check row_check slice_check strange unordered row_unfilled some every first has within slices_of Quorum.quorum
 no-quorum = refl
 
-blocked : blocks table_b 6 0 ≡ Yes
+blocked : blocks table_b 6 0 ≡ Ok true
 unfolding blocks set_site_check set_check check table_misshapen sites_check site_check row_check slice_check strange unordered row_unfilled some every first has within minus
     slices_of
 blocked = refl
 
-unblocked : blocks table_b 2 0 ≡ No
+unblocked : blocks table_b 2 0 ≡ Ok false
 unfolding blocks set_site_check set_check check table_misshapen sites_check site_check row_check slice_check strange unordered row_unfilled some every first has within minus
     slices_of
 unblocked = refl
 
-a-largest : largest table_a 23 ≡ Set 7 1
+a-largest : largest table_a 23 ≡ Ok (set_left 7 1)
 unfolding largest set_check check table_misshapen sites_check site_check row_check slice_check strange unordered row_unfilled some every first has within gather slices_of
     Quorum.round Quorum.left Quorum.dropping Quorum.largest Quorum.rounds
 a-largest = refl
 
-meeting : shared table_b ≡ Sharing.Sharing.Meet
+meeting : shared table_b ≡ Ok None
 unfolding shared check table_misshapen sites_check site_check row_check slice_check strange unordered row_unfilled some every least first has within minus gather slices_of
     Quorum.quorum Quorum.round Quorum.left Quorum.dropping Quorum.largest Quorum.rounds Verdicts.beside Verdicts.apart Verdicts.first_apart Verdicts.meets
 meeting = refl
 
-a-meets : shared table_a ≡ Sharing.Sharing.Meet
+a-meets : shared table_a ≡ Ok None
 unfolding shared check table_misshapen sites_check site_check row_check slice_check strange unordered row_unfilled some every least first has within minus gather slices_of
     Quorum.quorum Quorum.round Quorum.left Quorum.dropping Quorum.largest Quorum.rounds Verdicts.beside Verdicts.apart Verdicts.first_apart Verdicts.meets
 a-meets = refl
 
-not-meeting : shared table_apart ≡ Sharing.Sharing.Apart 3 12
+not-meeting : shared table_apart ≡ Ok (Some (pair_of 3 12))
 unfolding shared check table_misshapen sites_check site_check row_check slice_check strange unordered row_unfilled some every least first has within minus gather slices_of
     Quorum.quorum Quorum.round Quorum.left Quorum.dropping Quorum.largest Quorum.rounds Verdicts.beside Verdicts.apart Verdicts.first_apart Verdicts.meets
 not-meeting = refl
 
-some-intact : intact table_a 8 ≡ Standing.Standing.Intact 7
+some-intact : intact table_a 8 ≡ Ok 7
 unfolding intact set_check check table_misshapen sites_check site_check row_check slice_check strange unordered row_unfilled some every least first has within minus gather slices_of
     Quorum.quorum Quorum.round Quorum.left Quorum.dropping Quorum.largest Quorum.rounds Verdicts.beside Verdicts.apart Verdicts.first_apart Verdicts.meets Verdicts.dispensable Verdicts.is_intact Verdicts.intact
 some-intact = refl
 
-b-set : set_check table_b 8 ≡ Sound
+b-set : set_check table_b 8 ≡ Ok tt
 unfolding set_check check table_misshapen sites_check site_check row_check slice_check strange unordered row_unfilled some first has within
 b-set = refl
 
@@ -108,7 +102,7 @@ unfolding ran run_check roomless list_misshapen set_check check table_misshapen 
     gather Quorum.round Quorum.left Quorum.largest slices_of questions_of accepting confirming now_accepts now_confirms hears taken out_of_range crooked against unsent answer fresh add passes run run_of
 b-run = record { took = refl }
 
-b-runs : run_check table_b 0 (length late) (width 64) 4096 ≡ Sound
+b-runs : run_check table_b 0 (length late) (width 64) 4096 ≡ Ok tt
 unfolding run_check roomless list_misshapen set_check check table_misshapen sites_check site_check row_check slice_check strange unordered row_unfilled some first has within
 b-runs = refl
 
@@ -130,18 +124,18 @@ b-small = refl
 b-words : Words rows_b
 b-words i = let h = below_at rows_b b-small i in omega (arith, h)
 
-b-written : write rows_b (length (replicate {A = ℕ} 2048 0)) ≡ Writing.Writing.Sites 4
+b-written : write rows_b (length (replicate {A = ℕ} 2048 0)) ≡ Ok 4
 unfolding write write_check check table_misshapen sites_check site_check row_check slice_check strange unordered row_unfilled some first has within
 b-written = refl
 
-read_back : (read image_b 4032 ≡ Reading.Reading.Sites 4) × (read_into (Reading.Reading.Sites 4) image_b (replicate 4032 0) ≡ rows_b ++ drop 252 (replicate 4032 0))
+read_back : (read image_b 4032 ≡ Ok 4) × (read_into (Ok 4) image_b (replicate 4032 0) ≡ rows_b ++ drop 252 (replicate 4032 0))
 read_back = write-then-read rows_b (replicate 2048 0) (replicate 4032 0) 4 b-words b-written (omega arith)
 
-reads-sound : (n : ℕ) (c : Check) (m : ℕ) → to_reading n c ≡ Reading.Reading.Sites m → c ≡ Sound
-reads-sound n Sound m e = refl
-reads-sound n (Refused r) m e = let z : ◌≡◌ {A = ℕ} 0 1 = cc in absurd (omega (arith, z))
+reads-sound : (n : ℕ) (c : Check) (m : ℕ) → to_reading n c ≡ Ok m → c ≡ Ok tt
+reads-sound n (Ok _) m e = refl
+reads-sound n (Err r) m e = let z : ◌≡◌ {A = ℕ} 0 1 = cc in absurd (omega (arith, z))
 
-b-image : image_check image_b ≡ Sound
+b-image : image_check image_b ≡ Ok tt
 unfolding image_check read
 b-image = reads-sound _ (read_check image_b 4032) 4 read_back.0
 
@@ -158,7 +152,7 @@ b-loads =
 b-table : table_on image_b ≡ table_b
 b-table = ap lists (ap (λ (k : ℕ). loads k image_b) b-blocks ∙ b-loads)
 
-b-list : run_check (table_on image_b) 0 (length late) (width 64) 4096 ≡ Sound
+b-list : run_check (table_on image_b) 0 (length late) (width 64) 4096 ≡ Ok tt
 b-list = ap (λ (t : Groups). run_check t 0 (length late) (width 64) 4096) b-table ∙ b-runs
 
 pub witnesses : Witnesses

@@ -1,13 +1,11 @@
 -- From the bytes of an image to a printed line, in the words of 004.
-use Rattle.std.specs.Prelude.{ℕ, ◌≤◌, ◌<◌, Bool, true, List, ◌++◌, ◌↔◌, ◌≡◌, length}
+use Rattle.std.specs.Prelude.{ℕ, ◌≤◌, ◌<◌, Bool, true, List, ◌++◌, ◌↔◌, ◌≡◌, length, Ok, Err}
 use Rattle.check_text.specs.Table.{sites_on, image_check, table_on}
 use Rattle.ground.specs.Pieces.{part}
 use Rattle.image.specs.Read.{read}
-use Rattle.image.specs.declared.Reading as Reading
 use Rattle.lines.specs.Lines.{line}
 use Rattle.masks.specs.Mask.{minus, all_below, ◌∈◌, ◌⊆◌}
 use Rattle.outcome.specs.Outcome.{end_lines}
-use Rattle.refusals.specs.declared.Check.TheVariants.{Sound, Refused}
 use Rattle.refusals.specs.declared.Refusal.TheVariants.{NoQuorum, Room}
 use Rattle.register.specs.Register.{worth_of, site_line}
 use Rattle.rules.specs.State.{accepts, confirmed, width, get}
@@ -37,7 +35,7 @@ fbqs_read image = fbqs_in (table_on image)
 -- what is read is a sound table, of as many sites as there are blocks, and each site has the slices that its block names
 abbrev pub ReadAsFiled : Type 0
 ReadAsFiled =
-    (image : List ℕ) → image_check image ≡ Sound →
+    (image : List ℕ) → image_check image ≡ Ok tt →
     SoundTable (table_on image) × (sites_of (table_on image) ≡ sites_on image)
     × ((v q : ℕ) → v < sites_on image → (fbqs_on image).Slice v q ↔ (fbqs_read image).Slice v q)
 
@@ -56,7 +54,7 @@ pub record VerdictOf (S : Fbqs) (n F : ℕ) (text : List ℕ) : Type 0 where
 
 abbrev pub VerdictAsPublished : Type 0
 VerdictAsPublished =
-    (F : ℕ) (image : List ℕ) → image_check image ≡ Sound → F ⊆ all_below (sites_on image) → sites_on image ≤ 12 →
+    (F : ℕ) (image : List ℕ) → image_check image ≡ Ok tt → F ⊆ all_below (sites_on image) → sites_on image ≤ 12 →
     VerdictOf (fbqs_read image) (sites_on image) F (verdict_text F image)
 
 -- who is intact on the table that was read, when the sites of F are faulty
@@ -67,7 +65,7 @@ whole_on F image = Verdicts.intact (slices_in (table_on image)) (sites_on image)
 -- heard in the run of the list
 abbrev pub RegisterAsPublished : Type 0
 RegisterAsPublished =
-    (F : ℕ) (image list : List ℕ) → image_check image ≡ Sound → run_check (table_on image) F (length list) (width 64) 4096 ≡ Sound →
+    (F : ℕ) (image list : List ℕ) → image_check image ≡ Ok tt → run_check (table_on image) F (length list) (width 64) 4096 ≡ Ok tt →
     let n = sites_on image in
     let whole = whole_on F image in
     let r = the_run (table_on image) F list in
@@ -80,7 +78,7 @@ RegisterAsPublished =
 -- what an entry is worth: of a correct site it says intact exactly if the site is intact, and befouled exactly if it is befouled, by the paper
 abbrev pub WorthAsPublished : Type 0
 WorthAsPublished =
-    (F : ℕ) (image : List ℕ) → image_check image ≡ Sound → F ⊆ all_below (sites_on image) → sites_on image ≤ 12 →
+    (F : ℕ) (image : List ℕ) → image_check image ≡ Ok tt → F ⊆ all_below (sites_on image) → sites_on image ≤ 12 →
     let n = sites_on image in
     let whole = whole_on F image in
     (v : ℕ) → v < n → (v ∈ F → ⊥) →
@@ -89,10 +87,10 @@ WorthAsPublished =
 
 -- 7 ("the table holds no quorum") is never the reader's answer
 abbrev pub SevenNever : Type 0
-SevenNever = (image : List ℕ) (room : ℕ) → read image room ≡ Reading.Reading.Refused NoQuorum → ⊥
+SevenNever = (image : List ℕ) (room : ℕ) → read image room ≡ Err NoQuorum → ⊥
 
 -- 9 ("room lent too short") never arises at the desk, neither of an image nor of a list
 abbrev pub NineNever : Type 0
 NineNever =
-    ((image : List ℕ) → image_check image ≡ Refused Room → ⊥)
-    × ((t : Groups) (F : ℕ) (list : List ℕ) → run_check t F (length list) (width 64) 4096 ≡ Refused Room → ⊥)
+    ((image : List ℕ) → image_check image ≡ Err Room → ⊥)
+    × ((t : Groups) (F : ℕ) (list : List ℕ) → run_check t F (length list) (width 64) 4096 ≡ Err Room → ⊥)

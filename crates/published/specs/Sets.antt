@@ -1,11 +1,7 @@
 -- The set questions in the words of 004, section 3.1: each public answer, both ways, for every table of any length.
-use Rattle.std.specs.Prelude.{ℕ, suc, ◌≤◌, ◌<◌, ◌⊎◌, ◌↔◌, ◌≡◌}
+use Rattle.std.specs.Prelude.{ℕ, suc, ◌≤◌, ◌<◌, ◌⊎◌, ◌↔◌, ◌≡◌, Some, None, Ok, true, false}
 use Rattle.masks.specs.Mask.{minus, others, all_below, ◌∈◌, ◌⊆◌}
-use Rattle.questions.specs.Answers.{quorum, largest, blocks, shared, intact}
-use Rattle.questions.specs.declared.Greatest.TheVariants.{Set}
-use Rattle.questions.specs.declared.Holds.TheVariants.{Yes, No}
-use Rattle.questions.specs.declared.Sharing as Sharing
-use Rattle.questions.specs.declared.Standing as Standing
+use Rattle.questions.specs.Answers.{quorum, largest, blocks, shared, intact, pair_of, set_left}
 use Rattle.sets.specs.Groups.{Groups, fbqs_in, sites_of, SoundTable}
 use Rattle.sets.specs.Paper.{Fbqs, Quorum, Intersection, Intact, Befouled, Blocking}
 use Rattle.verdicts.specs.Decides.{Apart}
@@ -22,16 +18,16 @@ Proper t set = SoundTable t × (set ⊆ all_below (sites_of t))
 abbrev pub QuorumAsPublished : Type 0
 QuorumAsPublished =
     (t : Groups) (set : ℕ) →
-    ((quorum t set ≡ Yes) ↔ (Proper t set × Quorum (named t) set))
-    × ((quorum t set ≡ No) ↔ (Proper t set × (Quorum (named t) set → ⊥)))
+    ((quorum t set ≡ Ok true) ↔ (Proper t set × Quorum (named t) set))
+    × ((quorum t set ≡ Ok false) ↔ (Proper t set × (Quorum (named t) set → ⊥)))
 
 -- "B overlaps every one of v's slices, i.e. ∀q ∈ Q(v). q ∩ B ≠ ∅. We say that such B is v-blocking." So is what is left of the set when "the owner's bit is
 -- taken out".
 abbrev pub BlocksAsPublished : Type 0
 BlocksAsPublished =
     (t : Groups) (set site : ℕ) →
-    ((blocks t set site ≡ Yes) ↔ (Proper t set × (site < sites_of t) × Blocking (named t) site (others set site)))
-    × ((blocks t set site ≡ No) ↔ (Proper t set × (site < sites_of t) × (Blocking (named t) site (others set site) → ⊥)))
+    ((blocks t set site ≡ Ok true) ↔ (Proper t set × (site < sites_of t) × Blocking (named t) site (others set site)))
+    × ((blocks t set site ≡ Ok false) ↔ (Proper t set × (site < sites_of t) × (Blocking (named t) site (others set site) → ⊥)))
 
 -- "each round drops, all together, the members with no slice inside the set as it stood before the round": u is what a round leaves of w
 abbrev pub Round : Fbqs → ℕ → ℕ → Type 0
@@ -56,14 +52,14 @@ pub record LargestInside (S : Fbqs) (w q k : ℕ) : Type 0 where
 
 abbrev pub LargestAsPublished : Type 0
 LargestAsPublished =
-    (t : Groups) (set q k : ℕ) → (largest t set ≡ Set q k) ↔ (Proper t set × LargestInside (named t) set q k)
+    (t : Groups) (set q k : ℕ) → (largest t set ≡ Ok (set_left q k)) ↔ (Proper t set × LargestInside (named t) set q k)
 
 -- "quorum intersection, which states that any two quorums share a server"; if not, the two quorums that 01 names
 abbrev pub SharedAsPublished : Type 0
 SharedAsPublished =
     (t : Groups) →
-    ((shared t ≡ Sharing.Sharing.Meet) ↔ (SoundTable t × (sites_of t ≤ 12) × Intersection (named t)))
-    × ((p q : ℕ) → (shared t ≡ Sharing.Sharing.Apart p q) ↔ (SoundTable t × (sites_of t ≤ 12) × Apart (named t) p q))
+    ((shared t ≡ Ok None) ↔ (SoundTable t × (sites_of t ≤ 12) × Intersection (named t)))
+    × ((p q : ℕ) → (shared t ≡ Ok (Some (pair_of p q))) ↔ (SoundTable t × (sites_of t ≤ 12) × Apart (named t) p q))
 
 -- "a server v is intact iff there exists a DSet B containing all faulty servers and such that v ∉ B. Otherwise, v is befouled."
 pub record IntactSites (S : Fbqs) (n F m : ℕ) : Type 0 where
@@ -73,4 +69,4 @@ pub record IntactSites (S : Fbqs) (n F m : ℕ) : Type 0 where
 abbrev pub IntactAsPublished : Type 0
 IntactAsPublished =
     (t : Groups) (F m : ℕ) →
-    (intact t F ≡ Standing.Standing.Intact m) ↔ (Proper t F × (sites_of t ≤ 12) × IntactSites (named t) (sites_of t) F m)
+    (intact t F ≡ Ok m) ↔ (Proper t F × (sites_of t ≤ 12) × IntactSites (named t) (sites_of t) F m)

@@ -1,5 +1,5 @@
 -- What the union may hold us to, and how the desk shows whether it holds.
-use Rattle.std.specs.Prelude.{ℕ, ◌<◌, List, ◌++◌, ◌≡◌, length}
+use Rattle.std.specs.Prelude.{ℕ, ◌<◌, List, ◌++◌, ◌≡◌, length, None, Ok}
 use Rattle.agreement.specs.Agreement.{Premises, Agreed, steps_into, StepsAgree, RunAgrees}
 use Rattle.check_text.specs.Table.{sites_on, image_check, table_on}
 use Rattle.lines.specs.Lines.{line}
@@ -8,9 +8,6 @@ use Rattle.mark.specs.Mark.{mark}
 use Rattle.masks.specs.Mask.{◌∈◌}
 use Rattle.missing_text.specs.MissingText.{missing_check, missing_text}
 use Rattle.questions.specs.Answers.{shared, intact}
-use Rattle.questions.specs.declared.Sharing as Sharing
-use Rattle.questions.specs.declared.Standing as Standing
-use Rattle.refusals.specs.declared.Check.TheVariants.{Sound}
 use Rattle.register.specs.Register.{worth_of, site_line}
 use Rattle.rules.specs.State.{accepts, confirmed, width, get}
 use Rattle.run.specs.Run.{run_check, the_run}
@@ -32,8 +29,8 @@ pub record UnionPromise : Type 0 where
 
 -- The premises in the words of a verdict, for up to 12 sites: `meet yes`, and `intact` is not empty
 pub record Relied (t : Groups) (F m : ℕ) : Type 0 where
-  pub meet : shared t ≡ Sharing.Sharing.Meet
-  pub whole : intact t F ≡ Standing.Standing.Intact m
+  pub meet : shared t ≡ Ok None
+  pub whole : intact t F ≡ Ok m
   pub somebody : m ≡ 0 → ⊥
 
 -- then no two correct sites confirm different sides, and none both
@@ -46,7 +43,7 @@ AgreedByVerdict =
 -- Of the register: no line says drill while a correct site has confirmed live, by the published rule, from the accepts that it heard
 abbrev pub RegisterAgrees : Type 0
 RegisterAgrees =
-    (F : ℕ) (image list : List ℕ) → image_check image ≡ Sound → run_check (table_on image) F (length list) (width 64) 4096 ≡ Sound →
+    (F : ℕ) (image list : List ℕ) → image_check image ≡ Ok tt → run_check (table_on image) F (length list) (width 64) 4096 ≡ Ok tt →
     Premises (fbqs_read image) F →
     let n = sites_on image in
     let whole = whole_on F image in
@@ -58,7 +55,7 @@ RegisterAgrees =
 -- "the line `complete drill` says that all intact sites have one mark": where it is the first line that `desk missing` prints, so that the table meets too
 abbrev pub EntriesAgree : Type 0
 EntriesAgree =
-    (F : ℕ) (image list rest : List ℕ) → image_check image ≡ Sound → missing_check F (table_on image) (length list) ≡ Sound →
+    (F : ℕ) (image list rest : List ℕ) → image_check image ≡ Ok tt → missing_check F (table_on image) (length list) ≡ Ok tt →
     missing_text F image list ≡ line (ascii "complete ") (ascii "drill") ++ rest →
     let n = sites_on image in
     let s = (the_run (table_on image) F list).state in

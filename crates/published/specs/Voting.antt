@@ -1,7 +1,6 @@
 -- Accepting and confirming in the words of 004, section 3.2 and figure 1, of what a site heard.
-use Rattle.std.specs.Prelude.{ℕ, ◌<◌, true, List, ◌⊎◌, ◌↔◌, ◌≡◌}
+use Rattle.std.specs.Prelude.{ℕ, ◌<◌, true, List, ◌⊎◌, ◌↔◌, ◌≡◌, Ok}
 use Rattle.masks.specs.Mask.{others, ◌∈◌, ◌⊆◌}
-use Rattle.refusals.specs.declared.Check.TheVariants.{Sound}
 use Rattle.rules.specs.Rules.{accepting, confirming}
 use Rattle.rules.specs.State.{votes, accepts, accepted, confirmed, width, get}
 use Rattle.rules.specs.Theorems.{Rests}
@@ -44,7 +43,7 @@ Published S n F s =
 -- every state that is not refused with 18
 abbrev pub StateAsPublished : Type 0
 StateAsPublished =
-    (t : Groups) (F : ℕ) (s : List ℕ) → sound_check t F s ≡ Sound → Published (fbqs_in t) (sites_of t) F s
+    (t : Groups) (F : ℕ) (s : List ℕ) → sound_check t F s ≡ Ok tt → Published (fbqs_in t) (sites_of t) F s
 
 -- the state that the public run ends in
 abbrev pub EndAsPublished : Type 0
@@ -55,6 +54,6 @@ EndAsPublished =
 -- no public call refuses with 18 what a public call left: the fresh state, the state after a step, the state that a run ends in
 abbrev pub NeverUnsound : Type 0
 NeverUnsound =
-    ((t : Groups) (F : ℕ) → set_check t F ≡ Sound → sound_check t F (fresh (width (sites_of t))) ≡ Sound)
-    × ((t : Groups) (F : ℕ) (c : Call) (s : List ℕ) → sound_check t F s ≡ Sound → sound_check t F (step_into t F c s) ≡ Sound)
-    × ((t : Groups) (F : ℕ) (list state answers : List ℕ) (p : ℕ) → Taken t F list state answers p → sound_check t F (end_state t F list state p) ≡ Sound)
+    ((t : Groups) (F : ℕ) → set_check t F ≡ Ok tt → sound_check t F (fresh (width (sites_of t))) ≡ Ok tt)
+    × ((t : Groups) (F : ℕ) (c : Call) (s : List ℕ) → sound_check t F s ≡ Ok tt → sound_check t F (step_into t F c s) ≡ Ok tt)
+    × ((t : Groups) (F : ℕ) (list state answers : List ℕ) (p : ℕ) → Taken t F list state answers p → sound_check t F (end_state t F list state p) ≡ Ok tt)

@@ -10,118 +10,62 @@ ghost use Rattle.sets.specs.Quorum as Quorum;
 ghost use Rattle.sets.specs.Inner.Rows.{Rows, rules_of};
 ghost use Rattle.questions.specs.Answers.{to_holds, quorum, to_greatest, largest, blocks};
 
-use refusals::{Check, Refusal};
-
-// Whether it holds, or the refusal.
-#[derive(Clone, Copy)]
-pub enum Holds {
-    Yes,
-    No,
-    Refused(Refusal),
-}
-
-// The largest quorum inside a set (0 if there is none) and the number of rounds that dropped somebody, or the refusal.
-#[derive(Clone, Copy)]
-pub enum Greatest {
-    Set { set: u64, rounds: u64 },
-    Refused(Refusal),
-}
-
-// Every two quorums meet; or two that do not, the first of the smallest mask and the second the largest beside it; or the refusal.
-#[derive(Clone, Copy)]
-pub enum Sharing {
-    Meet,
-    Apart { first: u64, second: u64 },
-    Refused(Refusal),
-}
-
-// The intact sites, or the refusal.
-#[derive(Clone, Copy)]
-pub enum Standing {
-    Intact(u64),
-    Refused(Refusal),
-}
+use refusals::Refusal;
+pub use rounds::SetLeft;
+pub use verdicts::Pair;
 
 // Is the set a quorum? Of rows: 10, then the answer.
-pub fn quorum_of(rows: &[u64], n: usize, set: u64) -> Holds
+pub fn quorum_of(rows: &[u64], n: usize, set: u64) -> Result<bool, Refusal>
     requires { Rows rows.now n }
     ensures { result ≡ to_holds (outsider n set) (Quorum.quorum (rules_of rows.now).inside n set) }
 {
-    let q = sets::check_set(n, set);
-    if let Check::Refused(r) = q {
-        return Holds::Refused(r);
-    }
-    if sets::is_quorum(rows, n, set) {
-        return Holds::Yes;
-    }
-    Holds::No
+    sets::check_set(n, set)?;
+    Ok(sets::is_quorum(rows, n, set))
 }
 
 // Is the set a quorum?
-pub fn quorum(table: &[u64], set: u64) -> Holds
+pub fn quorum(table: &[u64], set: u64) -> Result<bool, Refusal>
     ensures { result ≡ quorum (lists table.now) set }
 {
-    let q = table::check(table);
-    if let Check::Refused(r) = q {
-        return Holds::Refused(r);
-    }
+    table::check(table)?;
     quorum_of(table, table.len() / 63, set)
 }
 
 // The largest quorum inside the set. Of rows: 10, then the answer.
-pub fn largest_of(rows: &[u64], n: usize, set: u64) -> Greatest
+pub fn largest_of(rows: &[u64], n: usize, set: u64) -> Result<SetLeft, Refusal>
     requires { Rows rows.now n }
     ensures { result ≡ to_greatest (outsider n set) (Quorum.largest (rules_of rows.now).inside n set)
         (Quorum.rounds (rules_of rows.now).inside n set) }
 {
-    let q = sets::check_set(n, set);
-    if let Check::Refused(r) = q {
-        return Greatest::Refused(r);
-    }
-    let l = rounds::largest(rows, n, set);
-    Greatest::Set {
-        set: l.set,
-        rounds: l.rounds,
-    }
+    sets::check_set(n, set)?;
+    Ok(rounds::largest(rows, n, set))
 }
 
 // The largest quorum inside the set.
-pub fn largest(table: &[u64], set: u64) -> Greatest
+pub fn largest(table: &[u64], set: u64) -> Result<SetLeft, Refusal>
     ensures { result ≡ largest (lists table.now) set }
 {
-    let q = table::check(table);
-    if let Check::Refused(r) = q {
-        return Greatest::Refused(r);
-    }
+    table::check(table)?;
     largest_of(table, table.len() / 63, set)
 }
 
 // Does the set block the site? Of rows: 10, 11, then the answer.
-pub fn blocks_of(rows: &[u64], n: usize, set: u64, site: u64) -> Holds
+pub fn blocks_of(rows: &[u64], n: usize, set: u64, site: u64) -> Result<bool, Refusal>
     requires { Rows rows.now n }
     ensures { result ≡ to_holds (or_else (outsider n set) (refuse (not (ltb site n)) (Refused.Refusal.Range 0))) ((rules_of rows.now).blocked site set) }
 {
-    let q = sets::check_set(n, set);
-    if let Check::Refused(r) = q {
-        return Holds::Refused(r);
-    }
+    sets::check_set(n, set)?;
     let sites = n as u64;
     if sites <= site {
-        return Holds::Refused(Refusal::Range(0));
+        return Err(Refusal::Range(0));
     }
-    if sets::blocks(rows, n, set, site as usize) {
-        return Holds::Yes;
-    }
-    Holds::No
+    Ok(sets::blocks(rows, n, set, site as usize))
 }
 
 // Does the set block the site?
-pub fn blocks(table: &[u64], set: u64, site: u64) -> Holds
+pub fn blocks(table: &[u64], set: u64, site: u64) -> Result<bool, Refusal>
     ensures { result ≡ blocks (lists table.now) set site }
 {
-    let q = table::check(table);
-    if let Check::Refused(r) = q {
-        return Holds::Refused(r);
-    }
+    table::check(table)?;
     blocks_of(table, table.len() / 63, set, site)
 }

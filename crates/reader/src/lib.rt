@@ -5,7 +5,6 @@ ghost use Rattle.std.specs.Prelude.{◌≡◌};
 ghost use Rattle.journal_next.specs.Next.{next};
 ghost use Rattle.reader.specs.Reader.{sound_part};
 
-use journal::Checked;
 use journal_next::Next;
 
 // The journal, and the place of the next call, counted in calls from 0.
@@ -19,13 +18,9 @@ pub struct Reader<'a> {
 pub fn sound_part<'a>(journal: &'a [u8]) -> &'a [u8]
     ensures { result.now ≡ sound_part journal.now }
 {
-    let q = journal::check(journal);
-    match q {
-        Checked::Sound {
-            blocks: _,
-            calls: _,
-        } => journal,
-        Checked::Refused(_) => &journal[..0],
+    match journal::check(journal) {
+        Ok(_) => journal,
+        Err(_) => &journal[..0],
     }
 }
 
@@ -40,7 +35,7 @@ pub fn open<'a>(journal: &'a [u8]) -> Reader<'a>
 }
 
 // The next call and the place behind it, or that none is left.
-pub fn next<'a>(r: Reader<'a>) -> Next
+pub fn next<'a>(r: Reader<'a>) -> Option<Next>
     ensures { result ≡ next r.entry.src.now r.entry.at }
 {
     journal_next::next_at(r.src, r.at)

@@ -1,5 +1,7 @@
 -- Two results that meet the contract of `run_records` coincide: the answer, and both rooms at exit. The claims are the clauses of the contract, as
 -- assertions: two of them together entail that the results are equal.
+use Prim.Native.Nat.{ℕ}
+use Rattle.refusals.specs.Check.{Answer}
 use mathlib.Core.Path.{◌≡◌, sym, ap, ◌∙◌}
 use base.Logic.{SProp, ent, sep, id⊢}
 use contract.Lifetimes.{Lfts}
@@ -14,7 +16,6 @@ use Rattle.packing.proofs.Facts.{both}
 use Rattle.records.specs.contracts.run_records as run-records
 use Rattle.packing.specs.Pack.{bytes_of}
 use Rattle.run.specs.Run.{state_into, answers_into}
-use Rattle.run.specs.declared.Ran.{Ran}
 use Rattle.sets.specs.Groups.{lists}
 
 module _ {M : Type 1} (𝓤 : Ura M) where
@@ -33,7 +34,7 @@ module _ {M : Type 1} {𝓤 : Ura M} (𝓛 : Logic 𝓤) (mem : Memory → SProp
         let e = p.0 ∙ sym q.0 in (
           e,
           (
-            p.1.0 ∙ ap (λ (r : Ran). state_into r (lists a.0.now) a.1.0 (bytes_of a.1.1.0.now) a.1.1.1.0.now) e ∙ sym q.1.0,
-            p.1.1 ∙ ap (λ (r : Ran). answers_into r (lists a.0.now) a.1.0 (bytes_of a.1.1.0.now) a.1.1.1.1.0.now) e ∙ sym q.1.1,
+            p.1.0 ∙ ap (λ (r : Answer ℕ). state_into r (lists a.0.now) a.1.0 (bytes_of a.1.1.0.now) a.1.1.1.0.now) e ∙ sym q.1.0,
+            p.1.1 ∙ ap (λ (r : Answer ℕ). answers_into r (lists a.0.now) a.1.0 (bytes_of a.1.1.0.now) a.1.1.1.1.0.now) e ∙ sym q.1.1,
           ),
         ))

@@ -9,8 +9,7 @@ ghost use Rattle.sets.specs.Inner.Rows.{Rows};
 ghost use Rattle.packing.specs.Pack.{bytes_of};
 
 use packing::Call;
-use refusals::{Check, Refusal};
-use run::Ran;
+use refusals::Refusal;
 
 // The run of n calls that stand packed. Of rows: a list of more than 4,096 calls is refused as one of 16,388 bytes is.
 pub fn run_packed_of(
@@ -21,17 +20,14 @@ pub fn run_packed_of(
     n: usize,
     state: &mut [u64],
     answers: &mut [u8],
-) -> Ran
+) -> Result<u64, Refusal>
     requires { Rows rows.now sites }
     ensures { RowEnded rows.now sites faulty room.now n state.old answers.old
         result state.new answers.new }
 {
     if 4096 < n {
-        let q = run::check_of(sites, faulty, 16388, state.len(), answers.len());
-        if let Check::Refused(r) = q {
-            return Ran::Refused(r);
-        }
-        return Ran::Refused(Refusal::List);
+        run::check_of(sites, faulty, 16388, state.len(), answers.len())?;
+        return Err(Refusal::List);
     }
     let bytes: &[u8] = room;
     let end = 4 * n;
@@ -46,14 +42,11 @@ fn run_packed(
     n: usize,
     state: &mut [u64],
     answers: &mut [u8],
-) -> Ran
+) -> Result<u64, Refusal>
     ensures { TableEnded (lists table.now) faulty room.now n state.old answers.old
         result state.new answers.new }
 {
-    let q = table::check(table);
-    if let Check::Refused(r) = q {
-        return Ran::Refused(r);
-    }
+    table::check(table)?;
     run_packed_of(table, table.len() / 63, faulty, room, n, state, answers)
 }
 
@@ -64,7 +57,7 @@ pub fn run_records(
     calls: &[Call],
     state: &mut [u64],
     answers: &mut [u8],
-) -> Ran
+) -> Result<u64, Refusal>
     ensures answer { result ≡ ran (lists table.now) faulty (bytes_of calls.now) (length state.old) (length answers.old) }
     ensures states { state.new ≡ state_into result (lists table.now) faulty (bytes_of calls.now) state.old }
     ensures bytes { answers.new ≡ answers_into result (lists table.now) faulty (bytes_of calls.now) answers.old }

@@ -1,3 +1,4 @@
 pub mod First
 pub mod Settle
 pub mod Coincide
+pub mod Passed

@@ -1,8 +1,8 @@
 -- The number of each refusal, and the block or site that it carries: "The refusal carries the block or site number for 2 to 8 (for 7: 0)
 -- and nothing else." And since there are journals: "From here on a fault in a block carries its number."
 use Rattle.std.specs.Prelude.{ℕ, ◌≡◌}
-use Rattle.refusals.specs.declared.Check.{Check}
-use Rattle.refusals.specs.declared.Check.TheVariants.{Sound, Refused}
+use Rattle.refusals.specs.Check.{Check}
+use Rattle.std.specs.Prelude.{Ok, Err}
 use Rattle.refusals.specs.declared.Refusal.{Refusal}
 use Rattle.refusals.specs.declared.Refusal.TheVariants.{Length, Sums, Header, Count, Slice, Order, NoQuorum, Filler, Room}
 use Rattle.refusals.specs.declared.Refusal.TheVariants.{Set, Range, Receiver, Proposal, Voted, Unsent, Large, List, Unsound, Journal, Numbering}
@@ -65,5 +65,5 @@ NumberSettles = (r s : Refusal) → number r ≡ number s → place r ≡ place 
 
 -- "A taken call answers 0": the byte of a check's answer, 0 or the refusal's number
 abbrev pub code : Check → ℕ
-code Sound = 0
-code (Refused r) = number r
+code (Ok _) = 0
+code (Err r) = number r

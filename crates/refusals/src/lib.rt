@@ -54,13 +54,6 @@ pub enum Refusal {
     Slices(u64),
 }
 
-// The answer of a check that has no value to give.
-#[derive(Clone, Copy)]
-pub enum Check {
-    Sound,
-    Refused(Refusal),
-}
-
 // The number that the owners' leaflet has for a refusal.
 pub fn number(r: Refusal) -> u64
     ensures { result ≡ number r }
@@ -124,11 +117,11 @@ pub fn place(r: Refusal) -> u64
 }
 
 // The byte of a check's answer: 0, or the refusal's number.
-pub fn code(c: Check) -> u8
+pub fn code(c: Result<(), Refusal>) -> u8
     ensures { result ≡ code c }
 {
     match c {
-        Check::Sound => 0,
-        Check::Refused(r) => number(r) as u8,
+        Ok(()) => 0,
+        Err(r) => number(r) as u8,
     }
 }

@@ -77,10 +77,8 @@ pub fn put_sites(
     ensures { Writes (cat (site_line n faulty whole drill live) n) room.old at result room.new }
 {
     let mut end = at;
-    let mut v: u64 = 0;
-    while v < n {
+    for v in 0..n {
         end = put_site(room, end, n, faulty, whole, drill, live, v);
-        v += 1;
     }
     end
 }

@@ -5,7 +5,7 @@ use Rattle.journal.specs.Journal.{journal_check}
 use Rattle.journal_blocks.specs.Journal.{list_of}
 use Rattle.refusal_lines.specs.Refused.{explained}
 use Rattle.refusals.specs.First.{or_else}
-use Rattle.refusals.specs.declared.Check.{Check}
+use Rattle.refusals.specs.Check.{Check}
 use Rattle.run_text.specs.Run.{run_text}
 use Rattle.sets.specs.Groups.{set_check}
 

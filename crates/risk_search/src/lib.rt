@@ -25,10 +25,7 @@ fn is_better(table: &[u64], n: usize, f: u64, best: u64) -> bool
     requires n_bound { n ≤ 12 }
     ensures { result ≡ ltb (size f) (size best) && ruinous (rules_of table.now) n f }
 {
-    if masks::size(best) <= masks::size(f) {
-        return false;
-    }
-    intact_sites::intact(table, n, f) == 0
+    masks::size(f) < masks::size(best) && intact_sites::intact(table, n, f) == 0
 }
 
 // The lowest of the smallest sets of faulty sites that leave nobody intact. All sites together are such a set.
@@ -39,12 +36,10 @@ pub fn first_ruin(table: &[u64], n: usize) -> u64
 {
     let end = masks::single(n as u64);
     let mut best = masks::all_below(n as u64);
-    let mut f: u64 = 0;
-    while f < end {
+    for f in 0..end {
         if is_better(table, n, f, best) {
             best = f;
         }
-        f += 1;
     }
     best
 }

@@ -1,4 +1,5 @@
 -- The ways out of the report of a risk, one law for each; and how long its lines are at most.
+use Rattle.std.specs.Prelude.{Ok, Err}
 use Prim.Native.Nat.{ℕ, ◌*◌, ◌≤◌, ◌<◌}
 use mathlib.Core.List.{List, ◌++◌, append_assoc}
 use mathlib.Core.Path.{◌≡◌, refl, sym, ap, ◌∙◌}
@@ -8,14 +9,12 @@ use borrow.Author.Tests.{lt-ltb, le-ltb}
 use Rattle.check_text.proofs.Ways.{image-sound, image-refused}
 use Rattle.ground.specs.Pieces.{cat}
 use Rattle.image.specs.Read.{read, read_into}
-use Rattle.image.specs.declared.Reading.{Reading}
 use Rattle.image_blocks.proofs.Load.{loads-front}
 use Rattle.image_blocks.specs.Image.{loads}
 use Rattle.lines.proofs.Lengths.{length-line}
 use Rattle.lines.specs.Lines.{newline, line}
 use Rattle.masks.specs.Mask.{size}
 use Rattle.refusal_lines.specs.Refused.{explained}
-use Rattle.refusals.specs.declared.Check.TheVariants.{Refused}
 use Rattle.refusals.specs.declared.Refusal.{Refusal}
 use Rattle.refusals.specs.declared.Refusal.TheVariants.{Large}
 use Rattle.risk.proofs.RiskLaws.{first-counts}
@@ -57,7 +56,7 @@ module _ (r : Slices) (n : ℕ) where
 
 -- on a table that is read
 module _ (t : Groups) where
-  pub read-refused : (r : Refusal) → groups_check t ≡ Refused r → explained r ≡ risk_read t
+  pub read-refused : (r : Refusal) → groups_check t ≡ Err r → explained r ≡ risk_read t
   unfolding risk_read
   read-refused r e = rw e refl
 
@@ -75,11 +74,11 @@ read-lines t e l = ap (risk_lines (sites_of (lists t))) (same-rules t e) ∙ tab
 
 -- on an image
 module _ (image : List ℕ) where
-  pub risk-refused : (r : Refusal) → read image 4032 ≡ Reading.Refused r → explained r ≡ risk_text image
+  pub risk-refused : (r : Refusal) → read image 4032 ≡ Err r → explained r ≡ risk_text image
   unfolding risk_text
   risk-refused r h = rw (image-refused image r h) refl
 
-  pub risk-taken : (n : ℕ) (t room : List ℕ) → read image 4032 ≡ Reading.Sites n → t ≡ take (63 * n) (read_into (Reading.Sites n) image room)
+  pub risk-taken : (n : ℕ) (t room : List ℕ) → read image 4032 ≡ Ok n → t ≡ take (63 * n) (read_into (Ok n) image room)
       → risk_read (lists t) ≡ risk_text image
   unfolding risk_text risk_read read_into
   risk-taken n t room h e =

@@ -12,8 +12,7 @@ ghost use Rattle.sets.specs.Inner.Rows.{Rows, rules_of};
 ghost use Rattle.text.specs.Written.{Writes};
 
 use check_text::ROOM;
-use image::Reading;
-use refusals::{Check, Refusal};
+use refusals::Refusal;
 
 // The risk is told for so many sites at most.
 const MOST: usize = 12;
@@ -77,7 +76,7 @@ fn risk_read(table: &[u64], room: &mut [u8]) -> usize
     ensures { Writes (risk_read (lists table.now)) room.old 0 result room.new }
 {
     let q = table::check(table);
-    if let Check::Refused(r) = q {
+    if let Err(r) = q {
         return refusal_lines::put_explained(room, 0, r);
     }
     let n = table.len() / 63;
@@ -95,7 +94,7 @@ pub fn risk(image: &[u8], room: &mut [u8; ROOM]) -> usize
     let mut table = [0u64; 4032];
     let q = image::read(image, &mut table);
     match q {
-        Reading::Sites(n) => risk_read(&table[..63 * (n as usize)], room),
-        Reading::Refused(r) => refusal_lines::put_explained(room, 0, r),
+        Ok(n) => risk_read(&table[..63 * (n as usize)], room),
+        Err(r) => refusal_lines::put_explained(room, 0, r),
     }
 }

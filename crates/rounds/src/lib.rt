@@ -60,10 +60,7 @@ pub fn in_largest(table: &[u64], n: usize, v: usize, w: u64) -> bool
     requires v_lt_n { v < n }
     ensures { result ≡ has (largest (rules_of table.now).inside n w) v }
 {
-    if !masks::has(w, v as u64) {
-        return false;
-    }
-    if !sets::has_slice(table, n, v, w) {
+    if !masks::has(w, v as u64) || !sets::has_slice(table, n, v, w) {
         return false;
     }
     let mut places = [0u8; 64];

@@ -13,8 +13,8 @@ use Rattle.masks.proofs.Laws.Subsets.{mem, ⊆-refl, ⊆-trans, within-⊆, ⊆-
 use Rattle.masks.specs.Mask.{has, within, all_below, ◌∈◌, ◌⊆◌}
 use Rattle.refusals.proofs.First.{or_else-sound, first-all, first-sound, first_alike, kept, missed}
 use Rattle.refusals.specs.First.{or_else, refuse, first}
-use Rattle.refusals.specs.declared.Check.{Check}
-use Rattle.refusals.specs.declared.Check.TheVariants.{Sound, Refused}
+use Rattle.refusals.specs.Check.{Check}
+use Rattle.std.specs.Prelude.{Ok, Err}
 use Rattle.refusals.specs.declared.Refusal.{Refusal}
 use Rattle.refusals.specs.declared.Refusal.TheVariants.{Count, Slice, Order, Filler}
 use Rattle.rows.specs.Inner.{behind_check}
@@ -25,24 +25,24 @@ pred-suc i = omega arith
 
 -- the owner's slice k, which is q, in a table of n sites, and the slice before it
 module _ (n owner place k before q : ℕ) where
-  pub lacks-owner : has q owner ≡ false → behind_check n owner place k before q ≡ Refused (Slice place)
+  pub lacks-owner : has q owner ≡ false → behind_check n owner place k before q ≡ Err (Slice place)
   unfolding behind_check strange
   lacks-owner e = rw e refl
 
-  pub names-above : within q (all_below n) ≡ false → behind_check n owner place k before q ≡ Refused (Slice place)
+  pub names-above : within q (all_below n) ≡ false → behind_check n owner place k before q ≡ Err (Slice place)
   unfolding behind_check strange
   names-above e = rw (e, or-true) refl
 
   module _ (p : has q owner ≡ true) (w : within q (all_below n) ≡ true) where
-    pub is-first : k ≡ 0 → behind_check n owner place k before q ≡ Sound
+    pub is-first : k ≡ 0 → behind_check n owner place k before q ≡ Ok tt
     unfolding behind_check strange
     is-first e = rw (p, w, eq-eqb k 0 e) refl
 
-    pub is-above : (k ≡ 0 → ⊥) → before < q → behind_check n owner place k before q ≡ Sound
+    pub is-above : (k ≡ 0 → ⊥) → before < q → behind_check n owner place k before q ≡ Ok tt
     unfolding behind_check strange
     is-above ne l = rw (p, w, ne_eqb k 0 ne, lt-ltb before q l) refl
 
-    pub not-above : (k ≡ 0 → ⊥) → q ≤ before → behind_check n owner place k before q ≡ Refused (Order place)
+    pub not-above : (k ≡ 0 → ⊥) → q ≤ before → behind_check n owner place k before q ≡ Err (Order place)
     unfolding behind_check strange
     not-above ne l = rw (p, w, ne_eqb k 0 ne, le-ltb before q l) refl
 
@@ -62,23 +62,23 @@ module _ (n owner place : ℕ) (slice : ℕ → ℕ) (k : ℕ) where
   slice-walked eb eq e = slice-behind ∙ sym (e ∙ ap₂ (behind_check n owner place k) eb eq)
 
   -- what a sound slice has
-  neither : slice_check n owner place slice k ≡ Sound → (strange n owner (slice k) ≡ false) × (unordered slice k ≡ false)
+  neither : slice_check n owner place slice k ≡ Ok tt → (strange n owner (slice k) ≡ false) × (unordered slice k ≡ false)
   unfolding slice_check
   neither h =
       let q = missed (strange n owner (slice k)) (Slice place) (refuse (unordered slice k) (Order place)) h in
       (q.0, kept (unordered slice k) (Order place) q.1)
 
-  pub slice-owner : slice_check n owner place slice k ≡ Sound → owner ∈ slice k
+  pub slice-owner : slice_check n owner place slice k ≡ Ok tt → owner ∈ slice k
   unfolding strange
   slice-owner h = mem (not-false (has (slice k) owner) (or-none (not (has (slice k) owner)) (not (within (slice k) (all_below n))) (neither h).0).0)
 
-  pub slice-below : slice_check n owner place slice k ≡ Sound → slice k ⊆ all_below n
+  pub slice-below : slice_check n owner place slice k ≡ Ok tt → slice k ⊆ all_below n
   unfolding strange
   slice-below h =
       within-⊆ (slice k) (all_below n)
       (not-false (within (slice k) (all_below n)) (or-none (not (has (slice k) owner)) (not (within (slice k) (all_below n))) (neither h).0).1)
 
-pub slice-ascends : (n owner place : ℕ) (slice : ℕ → ℕ) (i : ℕ) → slice_check n owner place slice (suc i) ≡ Sound → slice i < slice (suc i)
+pub slice-ascends : (n owner place : ℕ) (slice : ℕ → ℕ) (i : ℕ) → slice_check n owner place slice (suc i) ≡ Ok tt → slice i < slice (suc i)
 unfolding unordered
 slice-ascends n owner place slice i h =
     let e : not (ltb (slice i) (slice (suc i))) ≡ false = rw (eqb-suc-zero i, pred-suc i) at (neither n owner place slice (suc i) h).1 in
@@ -86,10 +86,10 @@ slice-ascends n owner place slice i h =
 
 -- slices that contain their owner, name no site at or above n and ascend are sound
 slices-sound : (n v place count : ℕ) (slice : ℕ → ℕ) → ((i : ℕ) → i < count → v ∈ slice i) → ((i : ℕ) → i < count → slice i ⊆ all_below n)
-    → ((i : ℕ) → suc i < count → slice i < slice (suc i)) → first (slice_check n v place slice) count ≡ Sound
+    → ((i : ℕ) → suc i < count → slice i < slice (suc i)) → first (slice_check n v place slice) count ≡ Ok tt
 slices-sound n v place count slice owner below ascend = first-sound (slice_check n v place slice) count each
   where
-    each : (i : ℕ) → i < count → slice_check n v place slice i ≡ Sound
+    each : (i : ℕ) → i < count → slice_check n v place slice i ≡ Ok tt
     each zero l = slice-behind n v place slice 0 ∙ is-first n v place 0 (slice 0) (slice 0) (owner 0 l).holds (⊆-within (below 0 l)) refl
     each (suc i) l =
         slice-behind n v place slice (suc i)
@@ -141,7 +141,7 @@ module _ (slice : ℕ → ℕ) where
       rw (h.0, h.1, eq) (with_slice k every some ascend up (h.2 ∙ ap₂ (λ (x y : ℕ). ascend && ltb x y) eb eq) g)
 
   pub gathers-sound : (n v count k every some : ℕ) (ascend r : Bool) → Gathers slice k every some ascend → count ≤ k
-      → r ≡ (ascend && has every v) && within some (all_below n) → r ≡ true → (place : ℕ) → first (slice_check n v place slice) count ≡ Sound
+      → r ≡ (ascend && has every v) && within some (all_below n) → r ≡ true → (place : ℕ) → first (slice_check n v place slice) count ≡ Ok tt
   gathers-sound n v count k every some ascend r g l e t place =
       let all = sym e ∙ t in
       let both = and_l (ascend && has every v) (within some (all_below n)) all in
@@ -160,32 +160,32 @@ pub record Row (n v count : ℕ) (slice : ℕ → ℕ) (unfilled : Bool) : Type 
 
 -- a row, whatever is refused of its slices
 module _ (each : ℕ → Check) (place count : ℕ) (unfilled : Bool) where
-  pub no-slice : count ≡ 0 → row_check each place count unfilled ≡ Refused (Count place)
+  pub no-slice : count ≡ 0 → row_check each place count unfilled ≡ Err (Count place)
   unfolding row_check
   no-slice e = rw (eq-eqb count 0 e) refl
 
-  pub many-slices : 62 < count → row_check each place count unfilled ≡ Refused (Count place)
+  pub many-slices : 62 < count → row_check each place count unfilled ≡ Err (Count place)
   unfolding row_check
   many-slices l = rw (lt-ltb 62 count l, or-true) refl
 
   module _ (ne : count ≡ 0 → ⊥) (l : count ≤ 62) where
-    pub bad-slice : {q : Check} {r : Refusal} → q ≡ first each count → q ≡ Refused r → row_check each place count unfilled ≡ Refused r
+    pub bad-slice : {q : Check} {r : Refusal} → q ≡ first each count → q ≡ Err r → row_check each place count unfilled ≡ Err r
     unfolding row_check
     bad-slice f e = rw (ne_eqb count 0 ne, le-ltb 62 count l, ← f, e) refl
 
-    pub good-slices : {q : Check} → q ≡ first each count → q ≡ Sound → row_check each place count unfilled ≡ refuse unfilled (Filler place)
+    pub good-slices : {q : Check} → q ≡ first each count → q ≡ Ok tt → row_check each place count unfilled ≡ refuse unfilled (Filler place)
     unfolding row_check
     good-slices f e = rw (ne_eqb count 0 ne, le-ltb 62 count l, ← f, e) refl
 
 module _ (n v place count : ℕ) (slice : ℕ → ℕ) (unfilled : Bool) where
-  pub row-sound : row_check (slice_check n v place slice) place count unfilled ≡ Sound → Row n v count slice unfilled
+  pub row-sound : row_check (slice_check n v place slice) place count unfilled ≡ Ok tt → Row n v count slice unfilled
   unfolding row_check
   row-sound h =
       let p = missed (eqb count 0 || ltb 62 count) (Count place) (or_else (first (slice_check n v place slice) count) (refuse unfilled (Filler place))) h in
       let q = or_else-sound (first (slice_check n v place slice) count) (refuse unfilled (Filler place)) p.1 in
       let c = or-none (eqb count 0) (ltb 62 count) p.0 in
       let ne = eqb-false count 0 c.0 in
-      let each : (i : ℕ) → i < count → slice_check n v place slice i ≡ Sound = λ i l. first-all (slice_check n v place slice) count i q.0 l in
+      let each : (i : ℕ) → i < count → slice_check n v place slice i ≡ Ok tt = λ i l. first-all (slice_check n v place slice) count i q.0 l in
       record {
         some-slice = omega arith;
         few-slices = ltb-false 62 count c.1;
@@ -195,7 +195,7 @@ module _ (n v place count : ℕ) (slice : ℕ → ℕ) (unfilled : Bool) where
         clean = kept unfilled (Filler place) q.1;
       }
 
-  pub sound-row : Row n v count slice unfilled → row_check (slice_check n v place slice) place count unfilled ≡ Sound
+  pub sound-row : Row n v count slice unfilled → row_check (slice_check n v place slice) place count unfilled ≡ Ok tt
   sound-row r =
       good-slices (slice_check n v place slice) place count unfilled (λ e. not-suc-le-zero (subst (λ (k : ℕ). 1 ≤ k) e r.some-slice)) r.few-slices refl
       (slices-sound n v place count slice r.owner r.below r.ascend)

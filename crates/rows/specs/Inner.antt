@@ -1,7 +1,7 @@
 -- What the functions that look at one slice after the other promise.
 use Rattle.std.specs.Prelude.{ℕ, ◌&&◌, not, eqb, ltb}
 use Rattle.refusals.specs.First.{or_else, refuse}
-use Rattle.refusals.specs.declared.Check.{Check}
+use Rattle.refusals.specs.Check.{Check}
 use Rattle.refusals.specs.declared.Refusal.TheVariants.{Slice, Order}
 use Rattle.rows.specs.Row.{strange}
 

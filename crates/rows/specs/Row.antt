@@ -4,7 +4,7 @@
 use Rattle.std.specs.Prelude.{ℕ, ◌-◌, Bool, ◌&&◌, ◌||◌, not, eqb, ltb}
 use Rattle.masks.specs.Mask.{has, within, all_below}
 use Rattle.refusals.specs.First.{or_else, refuse, first}
-use Rattle.refusals.specs.declared.Check.{Check}
+use Rattle.refusals.specs.Check.{Check}
 use Rattle.refusals.specs.declared.Refusal.TheVariants.{Count, Slice, Order, Filler}
 
 -- 5: "a slice lacks its owner or names a site at or above n"

@@ -1,7 +1,7 @@
 -- One site of the table in memory: "a site takes 63 64-bit numbers: the count, then 62 places, unused ones zero."
 use Rattle.std.specs.Prelude.{ℕ, ◌+◌, ◌-◌, Bool, not, List, eqb, get_or}
 use Rattle.ground.specs.Search.{some}
-use Rattle.refusals.specs.declared.Check.{Check}
+use Rattle.refusals.specs.Check.{Check}
 use Rattle.rows.specs.Row.{slice_check, row_check}
 
 -- of the 63 numbers of a site: the count of its slices, and place i

@@ -9,27 +9,34 @@ ghost use Rattle.rows.specs.Row.{slice_check};
 ghost use Rattle.rows.specs.Site.{count, slice, row_unfilled, site_check};
 ghost use Rattle.refusals.specs.First.{first};
 
-use refusals::{Check, Refusal};
+use refusals::Refusal;
 
 // The owner's slice k, which is q, and the slice before it: 5, then 6.
-pub fn check_slice(n: u64, owner: u64, place: u64, k: usize, before: u64, q: u64) -> Check
+pub fn check_slice(
+    n: u64,
+    owner: u64,
+    place: u64,
+    k: usize,
+    before: u64,
+    q: u64,
+) -> Result<(), Refusal>
     requires owner_bound { owner < 64 }
     requires n_bound { n ≤ 64 }
     ensures { result ≡ behind_check n owner place k before q }
 {
     if !masks::has(q, owner) {
-        return Check::Refused(Refusal::Slice(place));
+        return Err(Refusal::Slice(place));
     }
     if !masks::within(q, masks::all_below(n)) {
-        return Check::Refused(Refusal::Slice(place));
+        return Err(Refusal::Slice(place));
     }
     if k == 0 {
-        return Check::Sound;
+        return Ok(());
     }
     if before < q {
-        return Check::Sound;
+        return Ok(());
     }
-    Check::Refused(Refusal::Order(place))
+    Err(Refusal::Order(place))
 }
 
 // What is gathered of slices: what all have in common, what they name together, and whether each is above the one before.
@@ -77,19 +84,17 @@ fn are_sound(m: &[u64], n: u64, owner: u64, many: usize) -> bool
     requires many_bound { many ≤ 62 }
     requires owner_bound { owner < 64 }
     requires n_bound { n ≤ 64 }
-    ensures { result ≡ true → (place : ℕ) → first (slice_check n owner place (slice m.now)) many ≡ Check.Sound }
+    ensures { result ≡ true → (place : ℕ) → first (slice_check n owner place (slice m.now)) many ≡ Ok tt }
 {
     let mut g = gather_first(m[1]);
-    let mut k: usize = 1;
-    while k < many {
+    for k in 1..many {
         g = gather(g, m[k], m[1 + k]);
-        k += 1;
     }
     is_sound(g, n, owner)
 }
 
 // The owner's first many slices, in order: walked only where one is not sound.
-fn check_slices(m: &[u64], n: u64, owner: u64, place: u64, many: usize) -> Check
+fn check_slices(m: &[u64], n: u64, owner: u64, place: u64, many: usize) -> Result<(), Refusal>
     requires m_len { length m.now ≡ 63 }
     requires many_bound { many ≤ 62 }
     requires owner_bound { owner < 64 }
@@ -97,20 +102,15 @@ fn check_slices(m: &[u64], n: u64, owner: u64, place: u64, many: usize) -> Check
     ensures { result ≡ first (slice_check n owner place (slice m.now)) many }
 {
     if are_sound(m, n, owner, many) {
-        return Check::Sound;
+        return Ok(());
     }
     let mut before = m[1];
-    let mut k: usize = 0;
-    while k < many {
+    for k in 0..many {
         let q = m[1 + k];
-        let fault = check_slice(n, owner, place, k, before, q);
-        let Check::Sound = fault else {
-            return fault;
-        };
+        check_slice(n, owner, place, k, before, q)?;
         before = q;
-        k += 1;
     }
-    Check::Sound
+    Ok(())
 }
 
 // An unused place is not zero.
@@ -122,16 +122,14 @@ fn is_unfilled(m: &[u64]) -> bool
     let many = m[0] as usize;
     let left = 62 - many;
     let mut any: u64 = 0;
-    let mut j: usize = 0;
-    while j < left {
+    for j in 0..left {
         any |= m[1 + (many + j)];
-        j += 1;
     }
     any != 0
 }
 
 // The owner's 63 numbers in a table of n sites: 4, each slice 5 then 6, then 8, carrying the place.
-pub fn check_site(m: &[u64], n: u64, owner: u64, place: u64) -> Check
+pub fn check_site(m: &[u64], n: u64, owner: u64, place: u64) -> Result<(), Refusal>
     requires m_len { length m.now ≡ 63 }
     requires owner_bound { owner < 64 }
     requires n_bound { n ≤ 64 }
@@ -139,17 +137,14 @@ pub fn check_site(m: &[u64], n: u64, owner: u64, place: u64) -> Check
 {
     let many = m[0];
     if many == 0 {
-        return Check::Refused(Refusal::Count(place));
+        return Err(Refusal::Count(place));
     }
     if 62 < many {
-        return Check::Refused(Refusal::Count(place));
+        return Err(Refusal::Count(place));
     }
-    let q = check_slices(m, n, owner, place, many as usize);
-    let Check::Sound = q else {
-        return q;
-    };
+    check_slices(m, n, owner, place, many as usize)?;
     if is_unfilled(m) {
-        return Check::Refused(Refusal::Filler(place));
+        return Err(Refusal::Filler(place));
     }
-    Check::Sound
+    Ok(())
 }

@@ -1,4 +1,6 @@
 -- Laws of the answer: a call is taken exactly if it passes each test, and refused by the first that it fails.
+use Rattle.refusals.specs.Check.{Check}
+use Rattle.std.specs.Prelude.{Ok, Err}
 use Prim.Native.Nat.{ℕ, ◌-◌}
 use mathlib.Core.Bool.{true, false, ◌&&◌, ◌||◌, not}
 use mathlib.Core.List.{List}
@@ -13,8 +15,6 @@ use Rattle.masks.proofs.Laws.Single.{in?, not_in}
 use Rattle.masks.proofs.Laws.Subsets.{mem}
 use Rattle.masks.specs.Mask.{has, ◌∈◌}
 use Rattle.refusals.proofs.First.{missed}
-use Rattle.refusals.specs.declared.Check.{Check}
-use Rattle.refusals.specs.declared.Check.TheVariants.{Sound, Refused}
 use Rattle.refusals.specs.declared.Refusal.{Refusal}
 use Rattle.refusals.specs.declared.Refusal.TheVariants.{Range, Receiver, Proposal, Voted, Unsent}
 use Rattle.sets.specs.Promises.{Questions}
@@ -68,7 +68,7 @@ module _ (n F : ℕ) (c : Call) (s : List ℕ) where
     not-sent : out_of_range n c ≡ false → crooked c ≡ false → has F c.to ≡ false → against n c s ≡ false → unsent n F c s ≡ true → Refuses Unsent
 
   -- a call is refused by the first test that it fails
-  pub refused : {r : Refusal} → Refuses r → answer n F c s ≡ Refused r
+  pub refused : {r : Refusal} → Refuses r → answer n F c s ≡ Err r
   unfolding answer
   refused (range a) = rw a refl
   refused (proposal a b) = rw (a, b) refl
@@ -78,12 +78,12 @@ module _ (n F : ℕ) (c : Call) (s : List ℕ) where
 
   -- and taken if it passes each
   pub passes : out_of_range n c ≡ false → crooked c ≡ false → has F c.to ≡ false → against n c s ≡ false → unsent n F c s ≡ false →
-      answer n F c s ≡ Sound
+      answer n F c s ≡ Ok tt
   unfolding answer
   passes a b d e f = rw (a, b, d, e, f) refl
 
   -- one of the two
-  pub answered : (answer n F c s ≡ Sound) ⊎ ((r : Refusal) × Refuses r)
+  pub answered : (answer n F c s ≡ Ok tt) ⊎ ((r : Refusal) × Refuses r)
   answered =
       ⊎_elim (λ a. inr (Range 0, range a))
       (λ a. ⊎_elim (λ b. inr (Proposal, proposal a b))
@@ -136,14 +136,14 @@ module _ (n F : ℕ) (c : Call) (s : List ℕ) where
       ) at h in
       mem (not-false v k)
 
-  pub takes : answer n F c s ≡ Sound → Takes n F c s
+  pub takes : answer n F c s ≡ Ok tt → Takes n F c s
   unfolding answer
   takes h =
       let a = missed (out_of_range n c) (Range 0) _ h in
       let b = missed (crooked c) Proposal _ a.1 in
       let d = missed (has F c.to) Receiver _ b.1 in
       let e = missed (against n c s) Voted _ d.1 in
-      let f = missed (unsent n F c s) Unsent Sound (rw e.1 refl) in
+      let f = missed (unsent n F c s) Unsent (Ok tt) (rw e.1 refl) in
       record {
         range = in-range a.0;
         straight = crooked-no b.0;
@@ -162,7 +162,7 @@ module _ (n F : ℕ) (c : Call) (s : List ℕ) where
       (λ g. rw (ne_eqb c.kind 0 e, is_false (has F c.from) (λ z. f (mem z)), ne_eqb c.kind 1 g, (t.accept-sent (omega arith) f).holds) refl)
       (same? c.kind 1)) (in? c.from F)) (same? c.kind 0)
 
-  pub takes-answer : Takes n F c s → answer n F c s ≡ Sound
+  pub takes-answer : Takes n F c s → answer n F c s ≡ Ok tt
   takes-answer t = passes (range-in t.range) (no-crooked t.straight) (is_false (has F c.to) (λ e. t.correct (mem e))) (no-against t.free)
       (no-unsent t)
 
@@ -171,7 +171,7 @@ module _ (n F : ℕ) (c : Call) (s : List ℕ) where
     pub step-taken : Takes n F c s → step (vote Q n F) c s ≡ taken Q n c s
     step-taken t = rw (takes-answer t) refl
 
-    pub step-refused : {r : Refusal} → answer n F c s ≡ Refused r → step (vote Q n F) c s ≡ s
+    pub step-refused : {r : Refusal} → answer n F c s ≡ Err r → step (vote Q n F) c s ≡ s
     step-refused e = rw e refl
 
     pub step-cases : (step (vote Q n F) c s ≡ s) ⊎ (Takes n F c s × (step (vote Q n F) c s ≡ taken Q n c s))
@@ -182,7 +182,7 @@ module _ (n F : ℕ) (c : Call) (s : List ℕ) where
     step-not-taken f = ⊎_elim (λ e. e) (λ x. absurd (f x.0)) step-cases
 
 -- as the code finds it
-pub takes-found : {n F : ℕ} {c : Call} {s : List ℕ} {a : Check} → a ≡ answer n F c s → a ≡ Sound → Takes n F c s
+pub takes-found : {n F : ℕ} {c : Call} {s : List ℕ} {a : Check} → a ≡ answer n F c s → a ≡ Ok tt → Takes n F c s
 takes-found {n} {F} {c} {s} e f = takes n F c s (sym e ∙ f)
 
 -- a call that is taken is taken in each later state, if a proposal is still not for the other side

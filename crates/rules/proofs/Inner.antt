@@ -1,4 +1,6 @@
 -- Laws of the inner step: on a sound state a call whose bit is heard already changes nothing, and a taken call whose bit is not heard changes the state.
+use Rattle.refusals.specs.Check.{Check}
+use Rattle.std.specs.Prelude.{Ok, Err}
 use Prim.Native.Nat.{ℕ}
 use mathlib.Core.Bool.{Bool, true, false, not}
 use mathlib.Core.List.{List}
@@ -6,7 +8,6 @@ use mathlib.Core.Logic.{◌⊎◌, inl, inr, ⊎_elim}
 use mathlib.Core.Path.{◌≡◌, sym, ap, ◌∙◌, subst}
 use Rattle.ground.proofs.Alike.{eq-alike, ne-alike}
 use Rattle.ground.proofs.Logic.{clash}
-use Rattle.refusals.specs.declared.Check.{Check}
 use Rattle.refusals.specs.declared.Refusal.{Refusal}
 use Rattle.sets.specs.Promises.{Questions}
 use Rattle.rules.specs.Inner.{heard}
@@ -62,7 +63,7 @@ module _ {Q : Questions} {n F : ℕ} {s : List ℕ} (S : Sound Q n F s) (c : Cal
     still : s ≡ step (vote Q n F) c s → Works (vote Q n F) c s a false s
     still q = record { answers-so = e; changes = sym (ap not (eq-alike s (step (vote Q n F) c s) q)); state = q }
 
-    pub works-refused : {r : Refusal} → a ≡ Check.Refused r → Works (vote Q n F) c s a false s
+    pub works-refused : {r : Refusal} → a ≡ Err r → Works (vote Q n F) c s a false s
     works-refused f = still (sym (step-refused n F c s Q (sym e ∙ f)))
 
     -- h is whether the bit is heard already
@@ -70,7 +71,7 @@ module _ {Q : Questions} {n F : ℕ} {s : List ℕ} (S : Sound Q n F s) (c : Cal
       pub works-heard : h ≡ true → Works (vote Q n F) c s a false s
       works-heard f = still (sym (heard-still (sym eh ∙ f)))
 
-      pub works-taken : {t : List ℕ} → a ≡ Check.Sound → h ≡ false → t ≡ taken Q n c s → Works (vote Q n F) c s a true t
+      pub works-taken : {t : List ℕ} → a ≡ Ok tt → h ≡ false → t ≡ taken Q n c s → Works (vote Q n F) c s a true t
       works-taken f g q =
           let K = takes-found e f in
           record {

@@ -1,4 +1,5 @@
 -- Laws of the ways through the code: each rule and each change of the state as the functions compute them.
+use Rattle.refusals.specs.Check.{Check}
 use Prim.Native.Nat.{ℕ}
 use mathlib.Core.Bool.{Bool, true, false}
 use mathlib.Core.List.{List}
@@ -7,7 +8,6 @@ use lib.Bits.{bit_or}
 use Rattle.masks.proofs.Laws.AllBelow.{in_all}
 use Rattle.masks.proofs.Laws.Subsets.{mem}
 use Rattle.masks.specs.Mask.{has, single, minus, others, ◌∈◌}
-use Rattle.refusals.specs.declared.Check.{Check}
 use Rattle.sets.proofs.Groups.{lawful, table-promises}
 use Rattle.sets.specs.Promises.{Questions}
 use Rattle.rules.specs.Rules.{only, accepting, confirming, now_accepts, now_confirms, hears, taken}

@@ -1,9 +1,9 @@
 -- The rules of a vote, after 004, figure 1. The set questions come in as tests with the receiver first.
+use Rattle.refusals.specs.Check.{Check}
 use Rattle.std.specs.Prelude.{ℕ, ◌-◌, Bool, ◌&&◌, ◌||◌, not, cond, List, eqb, ltb}
 use Rattle.std.specs.Int.Bits.{bit_or}
 use Rattle.masks.specs.Mask.{has, single, others}
 use Rattle.refusals.specs.First.{or_else, refuse}
-use Rattle.refusals.specs.declared.Check.{Check}
 use Rattle.refusals.specs.declared.Refusal.TheVariants.{Range, Receiver, Proposal, Voted, Unsent}
 use Rattle.sets.specs.Promises.{Questions}
 use Rattle.rules.specs.State.{votes, accepts, voted, accepted, confirmed, get, add}

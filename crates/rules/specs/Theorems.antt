@@ -1,7 +1,6 @@
 -- What is proved of the rules, from the sets' promises alone.
-use Rattle.std.specs.Prelude.{ℕ, ◌<◌, false, List, ◌↔◌, ◌≡◌}
+use Rattle.std.specs.Prelude.{ℕ, ◌<◌, false, List, ◌↔◌, ◌≡◌, Ok}
 use Rattle.masks.specs.Mask.{◌∈◌}
-use Rattle.refusals.specs.declared.Check as Check
 use Rattle.sets.specs.Paper.{Fbqs}
 use Rattle.sets.specs.Promises.{Questions, Promises}
 use Rattle.rules.specs.Rules.{answer}
@@ -32,7 +31,7 @@ StepAdds = (Q : Questions) (n F : ℕ) (c : Call) (s : List ℕ) → Below s (st
 -- a call once taken changes nothing in any later sound state
 abbrev pub TakenStays : Type 1
 TakenStays =
-    (S : ℕ → Fbqs) (Q : Questions) (n F : ℕ) → Rests S Q n → (c : Call) (s t : List ℕ) → Sound Q n F s → answer n F c s ≡ Check.Check.Sound →
+    (S : ℕ → Fbqs) (Q : Questions) (n F : ℕ) → Rests S Q n → (c : Call) (s t : List ℕ) → Sound Q n F s → answer n F c s ≡ Ok tt →
     Below (step (vote Q n F) c s) t → Sound Q n F t → step (vote Q n F) c t ≡ t
 
 -- 18 is exactly "not sound"

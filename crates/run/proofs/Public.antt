@@ -1,4 +1,6 @@
 -- The theorems of the public run: what it leaves in its rooms is the run of the list, so what is true of the one is true of the other.
+use Rattle.refusals.specs.Check.{Check}
+use Rattle.std.specs.Prelude.{Ok, Err}
 use Prim.Native.Nat.{ℕ, suc, ◌/◌, ◌≤◌, ◌<◌}
 use mathlib.Core.List.{List}
 use mathlib.Core.Path.{◌≡◌, refl, sym, ap, subst, ◌∙◌}
@@ -9,15 +11,12 @@ use Rattle.pass.proofs.Calls.{calls_at, calls-length}
 use Rattle.pass.proofs.Lawful.{table-vote}
 use Rattle.pass.proofs.Turns.{length-answers}
 use Rattle.pass.specs.Calls.{calls, call_at}
-use Rattle.refusals.specs.declared.Check.{Check}
-use Rattle.refusals.specs.declared.Check.TheVariants.{Sound, Refused}
 use Rattle.rules.specs.Sound.{Sound as SoundState}
 use Rattle.rules.specs.State.{width}
 use Rattle.rules.specs.Vote.{vote_of}
 use Rattle.run.proofs.RunWays.{Fits, run-checked, run_fits}
 use Rattle.run.specs.Run.{run_check, the_run, to_ran, ran, state_into, answers_into}
 use Rattle.run.specs.Theorems.{Taken, end_state, end_answers, OrderFree, FewPasses, TheRun, FewerBelow}
-use Rattle.run.specs.declared.Ran.TheVariants.{Passes}
 use Rattle.sets.specs.Groups.{Groups, sites_of, Checked, questions}
 use Rattle.votes.proofs.AnyVote.{is-run, order-free, few-passes, fewer-below}
 use Rattle.votes.specs.Call.{Call}
@@ -25,16 +24,16 @@ use Rattle.votes.specs.Inner.{Lawful}
 use Rattle.votes.specs.Theorems.{IsRun}
 use Rattle.votes.specs.Vote.{Vote}
 
-taken-inv : (q : Check) (k p : ℕ) → to_ran q k ≡ Passes p → (q ≡ Sound) × (k ≡ p)
-taken-inv Sound k p e = (refl, cc)
-taken-inv (Refused r) k p e = let z : ◌≡◌ {A = ℕ} 0 1 = cc in absurd (omega arith)
+taken-inv : (q : Check) (k p : ℕ) → to_ran q k ≡ Ok p → (q ≡ Ok tt) × (k ≡ p)
+taken-inv (Ok _) k p e = (refl, cc)
+taken-inv (Err r) k p e = let z : ◌≡◌ {A = ℕ} 0 1 = cc in absurd (omega arith)
 
 -- what a taken run has shown of its table and its list
 module _ {t : Groups} {F : ℕ} {list state answers : List ℕ} {p : ℕ} (T : Taken t F list state answers p) where
   abbrev X : Vote
   X = vote_of t F
 
-  checks : (run_check t F (length list) (length state) (length answers) ≡ Sound) × ((the_run t F list).passes ≡ p)
+  checks : (run_check t F (length list) (length state) (length answers) ≡ Ok tt) × ((the_run t F list).passes ≡ p)
   unfolding ran
   checks = taken-inv (run_check t F (length list) (length state) (length answers)) (the_run t F list).passes p T.took
 

@@ -1,4 +1,6 @@
 -- One law for each way out of the check of a run and of the run itself.
+use Rattle.refusals.specs.Check.{Answer, Check}
+use Rattle.std.specs.Prelude.{Ok, Err}
 use Prim.Native.Nat.{ℕ, ◌+◌, ◌*◌, ◌/◌, ◌%◌, ◌≤◌, ◌<◌}
 use mathlib.Core.Bool.{not}
 use mathlib.Core.List.{List, ◌++◌}
@@ -10,16 +12,12 @@ use borrow.Author.Tests.{eq-eqb, ne_eqb, lt-ltb, le-ltb, eqb-true, ltb-false, no
 use Rattle.ground.proofs.Logic.{or-none}
 use Rattle.refusals.proofs.First.{or_else-sound, kept, missed}
 use Rattle.refusals.specs.First.{or_else, refuse}
-use Rattle.refusals.specs.declared.Check.{Check}
-use Rattle.refusals.specs.declared.Check.TheVariants.{Sound, Refused}
 use Rattle.refusals.specs.declared.Refusal as Refusal
 use Rattle.refusals.specs.declared.Refusal.TheVariants.{Room}
 use Rattle.pass.specs.Calls.{calls}
 use Rattle.passes.specs.Inner.{Whole}
 use Rattle.run.specs.Inner.{row_run_check, row_run, row_ran, row_state_into, row_answers_into}
 use Rattle.run.specs.Run.{list_misshapen, roomless, run_check, the_run, to_ran, ran, front, state_into, answers_into}
-use Rattle.run.specs.declared.Ran.{Ran}
-use Rattle.run.specs.declared.Ran.TheVariants.{Passes}
 use Rattle.sets.proofs.Groups.{same-questions}
 use Rattle.sets.specs.Groups.{Groups, sites_of, groups_check, Checked, outsider, set_check}
 use Rattle.sets.specs.Inner.AsRows.{AsRows}
@@ -32,31 +30,31 @@ use Rattle.votes.specs.Vote.{run_of}
 
 -- the check of a run of n sites: 10, 17, 9
 module _ (n F bytes state answers : ℕ) where
-  pub set-refused : (r : Refusal.Refusal) → outsider n F ≡ Refused r → Refused r ≡ row_run_check n F bytes state answers
+  pub set-refused : (r : Refusal.Refusal) → outsider n F ≡ Err r → Err r ≡ row_run_check n F bytes state answers
   unfolding row_run_check
   set-refused r e = rw e refl
 
-  module _ (e : outsider n F ≡ Sound) where
-    pub cut-refused : (bytes % 4 ≡ 0 → ⊥) → Refused Refusal.Refusal.List ≡ row_run_check n F bytes state answers
+  module _ (e : outsider n F ≡ Ok tt) where
+    pub cut-refused : (bytes % 4 ≡ 0 → ⊥) → Err Refusal.Refusal.List ≡ row_run_check n F bytes state answers
     unfolding row_run_check list_misshapen
     cut-refused f = rw (e, ne_eqb (bytes % 4) 0 f) refl
 
     module _ (f : bytes % 4 ≡ 0) where
-      pub long-refused : 16384 < bytes → Refused Refusal.Refusal.List ≡ row_run_check n F bytes state answers
+      pub long-refused : 16384 < bytes → Err Refusal.Refusal.List ≡ row_run_check n F bytes state answers
       unfolding row_run_check list_misshapen
       long-refused l = rw (e, eq-eqb (bytes % 4) 0 f, lt-ltb 16384 bytes l) refl
 
       module _ (l : bytes ≤ 16384) where
-        pub state-refused : state < 4 * n + 6 → Refused Room ≡ row_run_check n F bytes state answers
+        pub state-refused : state < 4 * n + 6 → Err Room ≡ row_run_check n F bytes state answers
         unfolding row_run_check list_misshapen roomless
         state-refused s = rw (e, eq-eqb (bytes % 4) 0 f, le-ltb 16384 bytes l, lt-ltb state (4 * n + 6) s) refl
 
-        pub answers-refused : 4 * n + 6 ≤ state → answers < bytes / 4 → Refused Room ≡ row_run_check n F bytes state answers
+        pub answers-refused : 4 * n + 6 ≤ state → answers < bytes / 4 → Err Room ≡ row_run_check n F bytes state answers
         unfolding row_run_check list_misshapen roomless
         answers-refused s a =
             rw (e, eq-eqb (bytes % 4) 0 f, le-ltb 16384 bytes l, le-ltb state (4 * n + 6) s, lt-ltb answers (bytes / 4) a) refl
 
-        pub none-refused : 4 * n + 6 ≤ state → bytes / 4 ≤ answers → Sound ≡ row_run_check n F bytes state answers
+        pub none-refused : 4 * n + 6 ≤ state → bytes / 4 ≤ answers → Ok tt ≡ row_run_check n F bytes state answers
         unfolding row_run_check list_misshapen roomless
         none-refused s a =
             rw (e, eq-eqb (bytes % 4) 0 f, le-ltb 16384 bytes l, le-ltb state (4 * n + 6) s, le-ltb answers (bytes / 4) a) refl
@@ -73,7 +71,7 @@ pub record Fits (n bytes state answers : ℕ) : Type 0 where
   pub states : width n ≤ state
   pub many : bytes / 4 ≤ answers
 
-pub fits : (n F bytes state answers : ℕ) → row_run_check n F bytes state answers ≡ Sound → Fits n bytes state answers
+pub fits : (n F bytes state answers : ℕ) → row_run_check n F bytes state answers ≡ Ok tt → Fits n bytes state answers
 unfolding row_run_check list_misshapen roomless
 fits n F bytes state answers e =
     let roomed = refuse (roomless n bytes state answers) Room in
@@ -93,20 +91,20 @@ fits n F bytes state answers e =
 
 -- the run of rows: refused, or whole
 module _ (rows : List ℕ) (n F : ℕ) (list state answers : List ℕ) where
-  pub row-refused : {r : Refusal.Refusal} → row_run_check n F (length list) (length state) (length answers) ≡ Refused r →
-      (Ran.Refused r ≡ row_ran rows n F list (length state) (length answers))
-      × (state ≡ row_state_into (Ran.Refused r) rows n F list state) × (answers ≡ row_answers_into (Ran.Refused r) rows n F list answers)
+  pub row-refused : {r : Refusal.Refusal} → row_run_check n F (length list) (length state) (length answers) ≡ Err r →
+      (Err r ≡ row_ran rows n F list (length state) (length answers))
+      × (state ≡ row_state_into (Err r) rows n F list state) × (answers ≡ row_answers_into (Err r) rows n F list answers)
   unfolding row_ran row_state_into row_answers_into
   row-refused e = (rw e refl, refl, refl)
 
-  pub row-passes : {p k : ℕ} {s b : List ℕ} → k ≡ width n → row_run_check n F (length list) (length state) (length answers) ≡ Sound →
+  pub row-passes : {p k : ℕ} {s b : List ℕ} → k ≡ width n → row_run_check n F (length list) (length state) (length answers) ≡ Ok tt →
       Whole (row_vote rows n F) (calls list) p s b →
-      (Passes p ≡ row_ran rows n F list (length state) (length answers))
-      × (s ++ drop k state ≡ row_state_into (Passes p) rows n F list state)
-      × (b ++ drop (length list / 4) answers ≡ row_answers_into (Passes p) rows n F list answers)
+      (Ok p ≡ row_ran rows n F list (length state) (length answers))
+      × (s ++ drop k state ≡ row_state_into (Ok p) rows n F list state)
+      × (b ++ drop (length list / 4) answers ≡ row_answers_into (Ok p) rows n F list answers)
   unfolding row_ran row_state_into row_answers_into
   row-passes {p} {k} {s} {b} w e W = (
-    rw e (ap Passes W.count),
+    rw e (ap Ok W.count),
     ap (λ (x : List ℕ). x ++ drop k state) W.state ∙ ap (λ (j : ℕ). (row_run rows n F list).state ++ drop j state) w,
     ap (λ (x : List ℕ). x ++ drop (length list / 4) answers) W.answers,
   )
@@ -114,13 +112,13 @@ module _ (rows : List ℕ) (n F : ℕ) (list state answers : List ℕ) where
 -- of a table that is refused
 
 module _ (t : Groups) (F : ℕ) where
-  pub check-refused : (bytes state answers : ℕ) {r : Refusal.Refusal} → groups_check t ≡ Refused r → run_check t F bytes state answers ≡ Refused r
+  pub check-refused : (bytes state answers : ℕ) {r : Refusal.Refusal} → groups_check t ≡ Err r → run_check t F bytes state answers ≡ Err r
   unfolding run_check set_check
   check-refused bytes state answers e = rw e refl
 
-  pub ran-refused : (list state answers : List ℕ) {r : Refusal.Refusal} → run_check t F (length list) (length state) (length answers) ≡ Refused r →
-      (Ran.Refused r ≡ ran t F list (length state) (length answers))
-      × (state ≡ state_into (Ran.Refused r) t F list state) × (answers ≡ answers_into (Ran.Refused r) t F list answers)
+  pub ran-refused : (list state answers : List ℕ) {r : Refusal.Refusal} → run_check t F (length list) (length state) (length answers) ≡ Err r →
+      (Err r ≡ ran t F list (length state) (length answers))
+      × (state ≡ state_into (Err r) t F list state) × (answers ≡ answers_into (Err r) t F list answers)
   unfolding ran state_into answers_into
   ran-refused list state answers e = (rw e refl, refl, refl)
 
@@ -130,11 +128,11 @@ module _ (t : Groups) (F : ℕ) where
   check-rest bytes state answers e = rw e refl
 
   -- what is not refused
-  pub run-checked : (bytes state answers : ℕ) → run_check t F bytes state answers ≡ Sound → Checked t
+  pub run-checked : (bytes state answers : ℕ) → run_check t F bytes state answers ≡ Ok tt → Checked t
   unfolding run_check set_check
   run-checked bytes state answers e = (or_else-sound (groups_check t) _ (or_else-sound (set_check t F) _ e).0).0
 
-  pub run_fits : (bytes state answers : ℕ) → run_check t F bytes state answers ≡ Sound → Fits (sites_of t) bytes state answers
+  pub run_fits : (bytes state answers : ℕ) → run_check t F bytes state answers ≡ Ok tt → Fits (sites_of t) bytes state answers
   run_fits bytes state answers e =
       fits (sites_of t) F bytes state answers (check-rest bytes state answers (run-checked bytes state answers e) ∙ e)
 
@@ -150,10 +148,10 @@ module _ {t : Groups} {rows : List ℕ} (a : AsRows t rows) (F : ℕ) (list : Li
       ap (λ (q : Check). to_ran q (row_run rows (sites_of t) F list).passes) (check-rest t F (length list) state answers a.checked)
       ∙ ap (λ (x : Run (List ℕ)). to_ran (run_check t F (length list) state answers) x.passes) run-rows
 
-  pub states-rows : (r : Ran) (room : List ℕ) → row_state_into r rows (sites_of t) F list room ≡ state_into r t F list room
+  pub states-rows : (r : Answer ℕ) (room : List ℕ) → row_state_into r rows (sites_of t) F list room ≡ state_into r t F list room
   unfolding row_state_into state_into
   states-rows r room = ap (λ (x : Run (List ℕ)). front r x.state (width (sites_of t)) room) run-rows
 
-  pub answers-rows : (r : Ran) (room : List ℕ) → row_answers_into r rows (sites_of t) F list room ≡ answers_into r t F list room
+  pub answers-rows : (r : Answer ℕ) (room : List ℕ) → row_answers_into r rows (sites_of t) F list room ≡ answers_into r t F list room
   unfolding row_answers_into answers_into
   answers-rows r room = ap (λ (x : Run (List ℕ)). front r x.answers (length list / 4) room) run-rows

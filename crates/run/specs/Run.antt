@@ -1,12 +1,9 @@
 -- The run as a public call: "Run: table, 10, 17, 9"; the answer, and what the two lent rooms hold then.
-use Rattle.std.specs.Prelude.{ℕ, ◌/◌, ◌%◌, Bool, ◌||◌, not, List, ◌++◌, eqb, ltb, length, drop}
+use Rattle.refusals.specs.Check.{Answer, Check}
+use Rattle.std.specs.Prelude.{ℕ, ◌/◌, ◌%◌, Bool, ◌||◌, not, List, ◌++◌, eqb, ltb, length, drop, Ok, Err}
 use Rattle.refusals.specs.First.{or_else, refuse}
-use Rattle.refusals.specs.declared.Check.{Check}
-use Rattle.refusals.specs.declared.Check.TheVariants.{Sound}
 use Rattle.refusals.specs.declared.Refusal.TheVariants.{Room}
 use Rattle.refusals.specs.declared.Refusal as Refusal
-use Rattle.run.specs.declared.Ran.{Ran}
-use Rattle.run.specs.declared.Ran.TheVariants.{Passes}
 use Rattle.pass.specs.Calls.{calls}
 use Rattle.rules.specs.State.{width}
 use Rattle.rules.specs.Vote.{vote_of}
@@ -34,24 +31,24 @@ run_check t F bytes state answers =
 abbrev pub the_run : Groups → ℕ → List ℕ → Run (List ℕ)
 the_run t F list = run_of (vote_of t F) (calls list)
 
-abbrev pub to_ran : Check → ℕ → Ran
-to_ran Sound passes = Passes passes
-to_ran (Check.Refused r) passes = Ran.Refused r
+abbrev pub to_ran : Check → ℕ → Answer ℕ
+to_ran (Ok _) passes = Ok passes
+to_ran (Err r) passes = Err r
 
 -- the answer: the number of passes, or the refusal
-unfoldable pub ran : Groups → ℕ → List ℕ → ℕ → ℕ → Ran
+unfoldable pub ran : Groups → ℕ → List ℕ → ℕ → ℕ → Answer ℕ
 unfolding run_check run_of
 ran t F list state answers = to_ran (run_check t F (length list) state answers) (the_run t F list).passes
 
 -- what a room holds then: the result in front and the rest kept; on refusal all is kept
-abbrev pub front : Ran → List ℕ → ℕ → List ℕ → List ℕ
-front (Passes p) result n room = result ++ drop n room
-front (Ran.Refused r) result n room = room
+abbrev pub front : Answer ℕ → List ℕ → ℕ → List ℕ → List ℕ
+front (Ok p) result n room = result ++ drop n room
+front (Err r) result n room = room
 
-unfoldable pub state_into : Ran → Groups → ℕ → List ℕ → List ℕ → List ℕ
+unfoldable pub state_into : Answer ℕ → Groups → ℕ → List ℕ → List ℕ → List ℕ
 unfolding run_of
 state_into r t F list room = front r (the_run t F list).state (width (sites_of t)) room
 
-unfoldable pub answers_into : Ran → Groups → ℕ → List ℕ → List ℕ → List ℕ
+unfoldable pub answers_into : Answer ℕ → Groups → ℕ → List ℕ → List ℕ → List ℕ
 unfolding run_of
 answers_into r t F list room = front r (the_run t F list).answers (length list / 4) room

@@ -1,11 +1,10 @@
 -- What is proved of the run: demand 3 and what stands beside it, each of the public call: its answer and its two rooms.
-use Rattle.std.specs.Prelude.{ℕ, suc, ◌+◌, ◌/◌, ◌≤◌, ◌<◌, List, ◌≡◌, length, get_or, take}
+use Rattle.std.specs.Prelude.{ℕ, suc, ◌+◌, ◌/◌, ◌≤◌, ◌<◌, List, ◌≡◌, length, get_or, take, Ok}
 use Rattle.masks.specs.Mask.{minus, all_below, size as count}
 use Rattle.pass.specs.Calls.{calls, call_at}
 use Rattle.rules.specs.State.{width, Below}
 use Rattle.rules.specs.Vote.{vote_of}
 use Rattle.run.specs.Run.{ran, state_into, answers_into}
-use Rattle.run.specs.declared.Ran.TheVariants.{Passes}
 use Rattle.sets.specs.Groups.{Groups, sites_of, Checked}
 use Rattle.votes.specs.Call.{Call}
 use Rattle.votes.specs.Passes.{Within, SameCalls}
@@ -14,14 +13,14 @@ use Rattle.votes.specs.Vote.{run_of, OneSided}
 
 -- a run of the public call: the table, the faulty set, the list and the two rooms lent, and that it was taken, with so many passes
 pub record Taken (t : Groups) (F : ℕ) (list state answers : List ℕ) (passes : ℕ) : Type 0 where
-  pub took : ran t F list (length state) (length answers) ≡ Passes passes
+  pub took : ran t F list (length state) (length answers) ≡ Ok passes
 
 -- what it leaves: the first 4n + 6 numbers of the state room, and one byte a call
 abbrev pub end_state : Groups → ℕ → List ℕ → List ℕ → ℕ → List ℕ
-end_state t F list state passes = take (width (sites_of t)) (state_into (Passes passes) t F list state)
+end_state t F list state passes = take (width (sites_of t)) (state_into (Ok passes) t F list state)
 
 abbrev pub end_answers : Groups → ℕ → List ℕ → List ℕ → ℕ → List ℕ
-end_answers t F list answers passes = take (length list / 4) (answers_into (Passes passes) t F list answers)
+end_answers t F list answers passes = take (length list / 4) (answers_into (Ok passes) t F list answers)
 
 -- Demand 3: "If the list proposes both sides to no correct site, then every list of the same calls within the length limit, in whichever order and with
 -- whichever repeats, ends in the same state by demand 2's rules, and each call has the same answer in its last pass."

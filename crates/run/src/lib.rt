@@ -8,47 +8,46 @@ ghost use Rattle.sets.specs.Inner.Rows.{Rows};
 ghost use Rattle.run.specs.Inner.{row_run_check, row_ran, row_state_into, row_answers_into};
 ghost use Rattle.run.specs.Run.{run_check, ran, state_into, answers_into};
 
-use refusals::{Check, Refusal};
-
-// The number of passes, or the refusal.
-#[derive(Clone, Copy)]
-pub enum Ran {
-    Passes(u64),
-    Refused(Refusal),
-}
+use refusals::Refusal;
 
 // Of n sites: 10, 17, 9, for a list of so many bytes and rooms of so many numbers and bytes.
-pub fn check_of(n: usize, faulty: u64, bytes: usize, state: usize, answers: usize) -> Check
+pub fn check_of(
+    n: usize,
+    faulty: u64,
+    bytes: usize,
+    state: usize,
+    answers: usize,
+) -> Result<(), Refusal>
     requires { n ≤ 64 }
     ensures { result ≡ row_run_check n faulty bytes state answers }
 {
-    let q = sets::check_set(n, faulty);
-    let Check::Sound = q else {
-        return q;
-    };
+    sets::check_set(n, faulty)?;
     if bytes % 4 != 0 {
-        return Check::Refused(Refusal::List);
+        return Err(Refusal::List);
     }
     if 16384 < bytes {
-        return Check::Refused(Refusal::List);
+        return Err(Refusal::List);
     }
     if state < places::width(n) {
-        return Check::Refused(Refusal::Room);
+        return Err(Refusal::Room);
     }
     if answers < bytes / 4 {
-        return Check::Refused(Refusal::Room);
+        return Err(Refusal::Room);
     }
-    Check::Sound
+    Ok(())
 }
 
 // Table, 10, 17, 9, for a list of so many bytes and rooms of so many numbers and bytes.
-pub fn check(table: &[u64], faulty: u64, bytes: usize, state: usize, answers: usize) -> Check
+pub fn check(
+    table: &[u64],
+    faulty: u64,
+    bytes: usize,
+    state: usize,
+    answers: usize,
+) -> Result<(), Refusal>
     ensures { result ≡ run_check (lists table.now) faulty bytes state answers }
 {
-    let q = table::check(table);
-    let Check::Sound = q else {
-        return q;
-    };
+    table::check(table)?;
     check_of(table.len() / 63, faulty, bytes, state, answers)
 }
 
@@ -61,16 +60,13 @@ pub fn run_of(
     list: &[u8],
     state: &mut [u64],
     answers: &mut [u8],
-) -> Ran
+) -> Result<u64, Refusal>
     requires { Rows rows.now n }
     ensures answer { result ≡ row_ran rows.now n faulty list.now (length state.old) (length answers.old) }
     ensures states { state.new ≡ row_state_into result rows.now n faulty list.now state.old }
     ensures bytes { answers.new ≡ row_answers_into result rows.now n faulty list.now answers.old }
 {
-    let q = check_of(n, faulty, list.len(), state.len(), answers.len());
-    if let Check::Refused(r) = q {
-        return Ran::Refused(r);
-    }
+    check_of(n, faulty, list.len(), state.len(), answers.len())?;
     let size = places::width(n);
     let many = list.len() / 4;
     let passes = passes::run_fresh(
@@ -81,18 +77,21 @@ pub fn run_of(
         &mut state[..size],
         &mut answers[..many],
     );
-    Ran::Passes(passes)
+    Ok(passes)
 }
 
 // The run of a list of calls, four bytes a call, from a fresh state: table, 10, 17, 9, then the run.
-pub fn run(table: &[u64], faulty: u64, list: &[u8], state: &mut [u64], answers: &mut [u8]) -> Ran
+pub fn run(
+    table: &[u64],
+    faulty: u64,
+    list: &[u8],
+    state: &mut [u64],
+    answers: &mut [u8],
+) -> Result<u64, Refusal>
     ensures answer { result ≡ ran (lists table.now) faulty list.now (length state.old) (length answers.old) }
     ensures states { state.new ≡ state_into result (lists table.now) faulty list.now state.old }
     ensures bytes { answers.new ≡ answers_into result (lists table.now) faulty list.now answers.old }
 {
-    let q = table::check(table);
-    if let Check::Refused(r) = q {
-        return Ran::Refused(r);
-    }
+    table::check(table)?;
     run_of(table, table.len() / 63, faulty, list, state, answers)
 }

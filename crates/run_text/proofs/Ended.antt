@@ -1,4 +1,6 @@
 -- The ways out of the report of a run: one law for each.
+use Rattle.refusals.specs.Check.{Check}
+use Rattle.std.specs.Prelude.{Ok, Err}
 use Prim.Native.Nat.{ℕ, ◌*◌, ◌/◌, ◌≤◌}
 use mathlib.Core.Bool.{Bool, false}
 use mathlib.Core.List.{List, ◌++◌}
@@ -13,11 +15,8 @@ use Rattle.ground.proofs.Logic.{cases}
 use Rattle.image_blocks.proofs.Load.{loads-front}
 use Rattle.image_blocks.specs.Image.{loads}
 use Rattle.image.specs.Read.{read, read_into}
-use Rattle.image.specs.declared.Reading.{Reading}
 use Rattle.refusal_lines.specs.Refused.{explained}
 use Rattle.refusals.specs.First.{refuse}
-use Rattle.refusals.specs.declared.Check.{Check}
-use Rattle.refusals.specs.declared.Check.TheVariants.{Sound, Refused}
 use Rattle.refusals.specs.declared.Refusal.{Refusal}
 use Rattle.refusals.specs.declared.Refusal.TheVariants.{Large}
 use Rattle.outcome.proofs.Lengths.{end-above-twelve}
@@ -31,18 +30,17 @@ use Rattle.run_text.specs.Inner.{whole_of}
 use Rattle.run_text.specs.Run.{ran_text, run_text}
 use Rattle.run.proofs.RunWays.{Fits, run_fits}
 use Rattle.run.specs.Run.{run_check, the_run, to_ran, ran, state_into, answers_into}
-use Rattle.run.specs.declared.Ran.{Ran}
 use Rattle.sets.specs.Groups.{Groups, lists, sites_of, slices_in, set_check}
 use Rattle.verdicts.specs.Verdicts as Verdicts
 use Rattle.rules.specs.State.{width}
 
-ran-taken : (s : Check) (q p : ℕ) → Ran.Passes p ≡ to_ran s q → (s ≡ Sound) × (p ≡ q)
-ran-taken Sound q p h = (refl, cc)
-ran-taken (Refused r) q p h = let z : ◌≡◌ {A = ℕ} 0 1 = cc in absurd (omega arith)
+ran-taken : (s : Check) (q p : ℕ) → Ok p ≡ to_ran s q → (s ≡ Ok tt) × (p ≡ q)
+ran-taken (Ok _) q p h = (refl, cc)
+ran-taken (Err r) q p h = let z : ◌≡◌ {A = ℕ} 0 1 = cc in absurd (omega arith)
 
-pub ran-stopped : (s : Check) (q : ℕ) (r : Refusal) → Ran.Refused r ≡ to_ran s q → s ≡ Refused r
-ran-stopped Sound q r h = let z : ◌≡◌ {A = ℕ} 0 1 = cc in absurd (omega arith)
-ran-stopped (Refused x) q r h = cc
+pub ran-stopped : (s : Check) (q : ℕ) (r : Refusal) → Err r ≡ to_ran s q → s ≡ Err r
+ran-stopped (Ok _) q r h = let z : ◌≡◌ {A = ℕ} 0 1 = cc in absurd (omega arith)
+ran-stopped (Err x) q r h = cc
 
 -- a result in front of a room that keeps its length is as long as what it replaces
 in-front : (result room left : List ℕ) (k : ℕ) → k ≤ length room → left ≡ result ++ drop k room → length left ≡ length room → take k left ≡ result
@@ -51,7 +49,7 @@ in-front result room left k h e l =
     ap (take k) e ∙ take_at result (drop k room) k n
 
 -- up to 12 sites a verdict is given where the run is
-judged : (t : Groups) (F : ℕ) → set_check t F ≡ Sound → ltb 12 (sites_of t) ≡ false → verdict_check t (set_check t F) ≡ Sound
+judged : (t : Groups) (F : ℕ) → set_check t F ≡ Ok tt → ltb 12 (sites_of t) ≡ false → verdict_check t (set_check t F) ≡ Ok tt
 judged t F c l = ap (λ (x : Check). verdict_check t x) c ∙ ap (λ (b : Bool). refuse b Large) l
 
 -- equal parts give equal lines
@@ -60,18 +58,18 @@ same_lines F n n' w w' p p' s s' list a a' en ew ep es ea = cc
 
 -- on a table that is read
 module _ (t : Groups) (F : ℕ) (list : List ℕ) where
-  pub ran-refused : (r : Refusal) → Ran.Refused r ≡ ran t F list 262 4096 → explained r ≡ ran_text F t list
+  pub ran-refused : (r : Refusal) → Err r ≡ ran t F list 262 4096 → explained r ≡ ran_text F t list
   unfolding ran_text ran
   ran-refused r h = rw (ran-stopped (run_check t F (length list) 262 4096) (the_run t F list).passes r h) refl
 
-  given-lines : run_check t F (length list) 262 4096 ≡ Sound
+  given-lines : run_check t F (length list) 262 4096 ≡ Ok tt
       → end_lines F (sites_of t) (Verdicts.intact (slices_in t) (sites_of t) F) (the_run t F list).passes (the_run t F list).state list (the_run t F list).answers ≡ ran_text F t list
   unfolding ran_text
   given-lines c =
       sym (ap (λ (x : Check). unless x explained (end_lines F (sites_of t) (Verdicts.intact (slices_in t) (sites_of t) F) (the_run t F list).passes (the_run t F list).state list (the_run t F list).answers)) c)
 
-  module _ (p : ℕ) (h : Ran.Passes p ≡ ran t F list 262 4096) where
-    pub whole : (run_check t F (length list) 262 4096 ≡ Sound) × (p ≡ (the_run t F list).passes)
+  module _ (p : ℕ) (h : Ok p ≡ ran t F list 262 4096) where
+    pub whole : (run_check t F (length list) 262 4096 ≡ Ok tt) × (p ≡ (the_run t F list).passes)
     unfolding ran
     whole = ran-taken (run_check t F (length list) 262 4096) (the_run t F list).passes p h
 
@@ -81,7 +79,7 @@ module _ (t : Groups) (F : ℕ) (list : List ℕ) where
     unfolding run_check Answers.intact
     known-lines p s a =
         let n = sites_of t in
-        let c : set_check t F ≡ Sound = (or_else-sound (set_check t F) _ whole.0).0 in
+        let c : set_check t F ≡ Ok tt = (or_else-sound (set_check t F) _ whole.0).0 in
         ⊎_elim
         (λ l. end-above-twelve F n (whole_of (Answers.intact t F)) (Verdicts.intact (slices_in t) n F) p s list a (ltb-true 12 n l))
         (λ l. ap (λ (x : Check). end_lines F n (whole_of (to_standing x (Verdicts.intact (slices_in t) n F))) p s list a) (judged t F c l))
@@ -91,7 +89,7 @@ module _ (t : Groups) (F : ℕ) (list : List ℕ) where
     fitting = run_fits t F (length list) 262 4096 whole.0
 
     -- the state that stands in front of its room
-    pub ended-state : (states s : List ℕ) → length states ≡ 262 → length s ≡ 262 → s ≡ state_into (Ran.Passes p) t F list states →
+    pub ended-state : (states s : List ℕ) → length states ≡ 262 → length s ≡ 262 → s ≡ state_into (Ok p) t F list states →
         take (width (sites_of t)) s ≡ (the_run t F list).state
     unfolding state_into
     ended-state states s ls ks es =
@@ -99,7 +97,7 @@ module _ (t : Groups) (F : ℕ) (list : List ℕ) where
 
     pub ran-ended : (n w k : ℕ) (states answers s a : List ℕ) → n ≡ sites_of t → w ≡ whole_of (Answers.intact t F) → k ≡ width n → length states ≡ 262 → length answers ≡ 4096
         → length s ≡ 262 → length a ≡ 4096
-        → s ≡ state_into (Ran.Passes p) t F list states → a ≡ answers_into (Ran.Passes p) t F list answers
+        → s ≡ state_into (Ok p) t F list states → a ≡ answers_into (Ok p) t F list answers
         → end_lines F n w p (take k s) list (take (length list / 4) a) ≡ ran_text F t list
     unfolding answers_into
     ran-ended n w k states answers s a en ew ek ls la ks ka es ea =
@@ -113,11 +111,11 @@ module _ (t : Groups) (F : ℕ) (list : List ℕ) where
 
 -- on an image
 module _ (F : ℕ) (image list : List ℕ) where
-  pub run-refused : (r : Refusal) → read image 4032 ≡ Reading.Refused r → explained r ≡ run_text F image list
+  pub run-refused : (r : Refusal) → read image 4032 ≡ Err r → explained r ≡ run_text F image list
   unfolding run_text
   run-refused r h = rw (image-refused image r h) refl
 
-  pub run-taken : (n : ℕ) (t room : List ℕ) → read image 4032 ≡ Reading.Sites n → t ≡ take (63 * n) (read_into (Reading.Sites n) image room)
+  pub run-taken : (n : ℕ) (t room : List ℕ) → read image 4032 ≡ Ok n → t ≡ take (63 * n) (read_into (Ok n) image room)
       → ran_text F (lists t) list ≡ run_text F image list
   unfolding run_text read_into
   run-taken n t room h e =

@@ -1,9 +1,8 @@
 -- What the answer on intact sites says to the lines of a run.
-use Rattle.std.specs.Prelude.{ℕ}
-use Rattle.questions.specs.declared.Standing.{Standing}
-use Rattle.questions.specs.declared.Standing.TheVariants.{Intact}
+use Rattle.refusals.specs.Check.{Answer}
+use Rattle.std.specs.Prelude.{ℕ, Ok, Err}
 
 -- the intact sites, or nobody where the answer is a refusal
-abbrev pub whole_of : Standing → ℕ
-whole_of (Intact set) = set
-whole_of (Standing.Refused r) = 0
+abbrev pub whole_of : Answer ℕ → ℕ
+whole_of (Ok set) = set
+whole_of (Err r) = 0

@@ -9,10 +9,6 @@ ghost use Rattle.run_text.specs.Inner.{whole_of};
 ghost use Rattle.run_text.specs.Run.{ran_text, run_text};
 ghost use Rattle.sets.specs.Groups.{lists};
 
-use image::Reading;
-use questions::Standing;
-use run::Ran;
-
 // Room for the longest text, that of 64 sites and 4,096 calls.
 pub const ROOM: usize = 589824;
 
@@ -22,8 +18,8 @@ fn whole(table: &[u64], faulty: u64) -> u64
 {
     let standing = verdict_questions::intact(table, faulty);
     match standing {
-        Standing::Intact(set) => set,
-        Standing::Refused(_) => 0,
+        Ok(set) => set,
+        Err(_) => 0,
     }
 }
 
@@ -38,8 +34,8 @@ fn run_read(table: &[u64], n: usize, faulty: u64, list: &[u8], room: &mut [u8]) 
     let mut answers = [0u8; 4096];
     let ran = run::run(table, faulty, list, &mut state, &mut answers);
     match ran {
-        Ran::Refused(r) => refusal_lines::put_explained(room, 0, r),
-        Ran::Passes(passes) => {
+        Err(r) => refusal_lines::put_explained(room, 0, r),
+        Ok(passes) => {
             let whole = whole(table, faulty);
             let end = places::width(n);
             outcome::put_run(
@@ -64,10 +60,10 @@ pub fn run(faulty: u64, image: &[u8], list: &[u8], room: &mut [u8; ROOM]) -> usi
     let mut table = [0u64; 4032];
     let q = image::read(image, &mut table);
     match q {
-        Reading::Sites(n) => {
+        Ok(n) => {
             let n = n as usize;
             run_read(&table[..63 * n], n, faulty, list, room)
         }
-        Reading::Refused(r) => refusal_lines::put_explained(room, 0, r),
+        Err(r) => refusal_lines::put_explained(room, 0, r),
     }
 }

@@ -5,21 +5,11 @@ use mathlib.Core.Path.{sym, ◌∙◌}
 use Rattle.ground.specs.Coincide.{All}
 use Rattle.said_journal.proofs.checked.Kinds as checked-kinds
 use Rattle.said_journal.proofs.checked.Reads as checked-reads
-use Rattle.said_journal.proofs.kept.Kinds as kept-kinds
-use Rattle.said_journal.proofs.kept.Reads as kept-reads
-use Rattle.said_journal.proofs.listed.Kinds as listed-kinds
-use Rattle.said_journal.proofs.listed.Reads as listed-reads
 use Rattle.said_journal.proofs.taken.Kinds as taken-kinds
 use Rattle.said_journal.proofs.taken.Reads as taken-reads
 
 pub checked-coincide : All checked-kinds.ps checked-kinds.r (List ℕ) (λ κs s. s.1.0.now) checked-reads.Post
 checked-coincide κs a x y s t p q = (p.0 ∙ sym q.0, p.1 ∙ sym q.1)
-
-pub kept-coincide : All kept-kinds.ps kept-kinds.r (List ℕ) (λ κs s. s.1.0.now) kept-reads.Post
-kept-coincide κs a x y s t p q = (p.0 ∙ sym q.0, p.1 ∙ sym q.1)
-
-pub listed-coincide : All listed-kinds.ps listed-kinds.r (List ℕ) (λ κs s. s.1.0.now) listed-reads.Post
-listed-coincide κs a x y s t p q = (p.0 ∙ sym q.0, p.1 ∙ sym q.1)
 
 pub taken-coincide : All taken-kinds.ps taken-kinds.r (List ℕ) (λ κs s. s.1.1.0.now) taken-reads.Post
 taken-coincide κs a x y s t p q = (p.0 ∙ sym q.0, p.1 ∙ sym q.1)

@@ -9,8 +9,6 @@ use Rattle.said_sets.proofs.greatest.Kinds as greatest-kinds
 use Rattle.said_sets.proofs.greatest.Reads as greatest-reads
 use Rattle.said_sets.proofs.sharing.Kinds as sharing-kinds
 use Rattle.said_sets.proofs.sharing.Reads as sharing-reads
-use Rattle.said_sets.proofs.standing.Kinds as standing-kinds
-use Rattle.said_sets.proofs.standing.Reads as standing-reads
 
 pub holds-coincide : All holds-kinds.ps holds-kinds.r (List ℕ) (λ κs s. s.1.0.now) holds-reads.Post
 holds-coincide κs a x y s t p q = (p.0 ∙ sym q.0, p.1 ∙ sym q.1)
@@ -20,6 +18,3 @@ greatest-coincide κs a x y s t p q = (p.0 ∙ sym q.0, p.1 ∙ sym q.1)
 
 pub sharing-coincide : All sharing-kinds.ps sharing-kinds.r (List ℕ) (λ κs s. s.1.0.now) sharing-reads.Post
 sharing-coincide κs a x y s t p q = (p.0 ∙ sym q.0, p.1 ∙ sym q.1)
-
-pub standing-coincide : All standing-kinds.ps standing-kinds.r (List ℕ) (λ κs s. s.1.0.now) standing-reads.Post
-standing-coincide κs a x y s t p q = (p.0 ∙ sym q.0, p.1 ∙ sym q.1)

@@ -1,3 +1,2 @@
-pub mod Has
 pub mod Listed
 pub mod Coincide

@@ -36,10 +36,8 @@ pub fn put_lacks(room: &mut [u8], at: usize, word: &[u8], a: &[u8], b: &[u8]) ->
 {
     let n = a.len() / 4;
     let mut end = at;
-    let mut i: usize = 0;
-    while i < n {
+    for i in 0..n {
         end = put_lack(room, end, word, a, b, i);
-        i += 1;
     }
     end
 }
@@ -64,10 +62,8 @@ pub fn put_boths(room: &mut [u8], at: usize, a: &[u8], b: &[u8]) -> usize
     ensures { Writes (cat (both_line a.now b.now) 256) room.old at result room.new }
 {
     let mut end = at;
-    let mut v: usize = 0;
-    while v < 256 {
-        end = put_both(room, end, a, b, v as u8);
-        v += 1;
+    for v in 0..=u8::MAX {
+        end = put_both(room, end, a, b, v);
     }
     end
 }

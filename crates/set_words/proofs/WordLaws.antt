@@ -19,7 +19,7 @@ use Rattle.masks.proofs.Laws.Apart.{apart_of}
 use Rattle.masks.proofs.Laws.Members.{has-minus, has-zero}
 use Rattle.masks.proofs.Laws.Single.{∈-single, single-∈, single-⊆}
 use Rattle.masks.proofs.Laws.Subsets.{mem, ⊆-zero, within-⊆, ⊆-within, ∈-below, or-within}
-use Rattle.masks.specs.Mask.{has, single, minus, within, ◌∈◌}
+use Rattle.masks.specs.Mask.{has, single, minus, within}
 use Rattle.set_words.specs.Inner.{Says, in_family, Written, Without, Lacking, Above}
 use Rattle.set_words.proofs.Places.{low-has, high-has}
 

@@ -9,22 +9,14 @@ pub fn without(x: usize) -> u64
     requires { x < 6 }
     ensures { Without x result }
 {
-    if x == 0 {
-        return 6148914691236517205;
+    match x {
+        0 => 0x5555_5555_5555_5555,
+        1 => 0x3333_3333_3333_3333,
+        2 => 0x0f0f_0f0f_0f0f_0f0f,
+        3 => 0x00ff_00ff_00ff_00ff,
+        4 => 0x0000_ffff_0000_ffff,
+        _ => 0x0000_0000_ffff_ffff,
     }
-    if x == 1 {
-        return 3689348814741910323;
-    }
-    if x == 2 {
-        return 1085102592571150095;
-    }
-    if x == 3 {
-        return 71777214294589695;
-    }
-    if x == 4 {
-        return 281470681808895;
-    }
-    4294967295
 }
 
 // The sets of word w without site v.
@@ -39,7 +31,7 @@ pub fn lacking(v: usize, w: usize) -> u64
     if masks::has(w as u64, (v - 6) as u64) {
         return 0;
     }
-    18446744073709551615
+    u64::MAX
 }
 
 // The sets with site x too: those that contain i, and of them those with x.
@@ -50,10 +42,8 @@ fn above_with(x: usize, list: &mut [u64; 64])
 {
     let half = masks::single(x as u64) as usize;
     let rest = without(x);
-    let mut i: usize = 0;
-    while i < half {
+    for i in 0..half {
         list[half + i] = masks::minus(list[i], rest);
-        i += 1;
     }
 }
 
@@ -62,11 +52,9 @@ pub fn above(list: &mut [u64; 64])
     requires { length list.old ≡ 64 }
     ensures { Above 64 list.new }
 {
-    list[0] = 18446744073709551615;
-    let mut x: usize = 0;
-    while x < 6 {
+    list[0] = u64::MAX;
+    for x in 0..6 {
         above_with(x, list);
-        x += 1;
     }
 }
 
@@ -75,7 +63,7 @@ pub fn first(word: u64) -> u64
     requires { word ≡ 0 → ⊥ }
     ensures { FirstSet word result }
 {
-    u64::trailing_zeros(word) as u64
+    u64::from(word.trailing_zeros())
 }
 
 // The last of the sets of a word that has one.
@@ -83,5 +71,5 @@ pub fn last(word: u64) -> u64
     requires { word ≡ 0 → ⊥ }
     ensures { LastSet word result }
 {
-    63 - u64::leading_zeros(word) as u64
+    63 - u64::from(word.leading_zeros())
 }

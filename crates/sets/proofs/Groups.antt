@@ -1,4 +1,5 @@
 -- A checked table of whichever form is lawful; and one in memory stands in rows, whose answers are its own.
+use Rattle.std.specs.Prelude.{Ok, Err}
 use Prim.Native.Nat.{ℕ, ◌≤◌, ◌<◌}
 use mathlib.Core.Bool.{true, false}
 use mathlib.Core.List.{List}
@@ -10,7 +11,6 @@ use Rattle.ground.proofs.Logic.{clash, is_false}
 use Rattle.masks.proofs.Laws.Subsets.{within-⊆}
 use Rattle.masks.specs.Mask.{within, all_below, ◌⊆◌}
 use Rattle.refusals.proofs.First.{or_else-sound, kept}
-use Rattle.refusals.specs.declared.Check.TheVariants.{Sound, Refused}
 use Rattle.refusals.specs.declared.Refusal.TheVariants.{Set}
 use Rattle.sets.specs.Decides.{TableIsFbqs, TableDecides, TablePromises}
 use Rattle.sets.specs.Groups.{Groups, lists, thresholds, sites_of, fbqs_in, slices_in, groups_check, SoundTable, Checked, outsider, set_check, questions}
@@ -105,7 +105,7 @@ same-questions {t} a = ap (λ r. questions_of r (sites_of t)) a.same-rules
 
 -- a set that is taken: the table is, and the set is of its sites
 
-module _ (t : Groups) (set : ℕ) (e : set_check t set ≡ Sound) where
+module _ (t : Groups) (set : ℕ) (e : set_check t set ≡ Ok tt) where
   pub set-checked : Checked t
   unfolding set_check
   set-checked = (or_else-sound (groups_check t) _ e).0
@@ -118,10 +118,10 @@ module _ (t : Groups) (set : ℕ) (e : set_check t set ≡ Sound) where
 -- a set of n sites, or not
 
 module _ (n set : ℕ) where
-  pub no-outsider : within set (all_below n) ≡ true → outsider n set ≡ Sound
+  pub no-outsider : within set (all_below n) ≡ true → outsider n set ≡ Ok tt
   unfolding outsider
   no-outsider e = rw e refl
 
-  pub some-outsider : within set (all_below n) ≡ false → outsider n set ≡ Refused Set
+  pub some-outsider : within set (all_below n) ≡ false → outsider n set ≡ Err Set
   unfolding outsider
   some-outsider e = rw e refl

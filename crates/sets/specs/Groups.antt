@@ -1,9 +1,8 @@
 -- A table of groups in whichever form it is handed over. A new form is one constructor here, and one line in each definition by cases.
-use Rattle.std.specs.Prelude.{ℕ, not, List, ◌≡◌, length}
+use Rattle.refusals.specs.Check.{Check}
+use Rattle.std.specs.Prelude.{ℕ, not, List, ◌≡◌, length, Ok}
 use Rattle.masks.specs.Mask.{within, all_below}
 use Rattle.refusals.specs.First.{or_else, refuse}
-use Rattle.refusals.specs.declared.Check.{Check}
-use Rattle.refusals.specs.declared.Check.TheVariants.{Sound}
 use Rattle.refusals.specs.declared.Refusal.TheVariants.{Set}
 use Rattle.sets.specs.Paper.{Fbqs}
 use Rattle.sets.specs.Promises.{Questions, questions_of}
@@ -44,7 +43,7 @@ SoundTable (thresholds image) = Thresholds image (image_sites (length image))
 
 -- it is not refused
 abbrev pub Checked : Groups → Type 0
-Checked t = groups_check t ≡ Sound
+Checked t = groups_check t ≡ Ok tt
 
 -- 10: "a set names a site at or above n"
 unfoldable pub outsider : ℕ → ℕ → Check

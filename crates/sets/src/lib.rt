@@ -10,17 +10,17 @@ ghost use Rattle.sets.specs.Groups.{outsider};
 ghost use Rattle.sets.specs.Inner.Rows.{of_sets, ListedRow, Rows, rules_of};
 ghost use Rattle.sets.specs.Quorum.{quorum};
 
-use refusals::{Check, Refusal};
+use refusals::Refusal;
 
 // 10: the set names a site at or above n.
-pub fn check_set(n: usize, set: u64) -> Check
+pub fn check_set(n: usize, set: u64) -> Result<(), Refusal>
     requires { n ≤ 64 }
     ensures { result ≡ outsider n set }
 {
     if masks::within(set, masks::all_below(n as u64)) {
-        return Check::Sound;
+        return Ok(());
     }
-    Check::Refused(Refusal::Set)
+    Err(Refusal::Set)
 }
 
 // The row of site v holds sets with thresholds.
@@ -63,12 +63,10 @@ fn blocks_listed(table: &[u64], n: usize, w: u64, v: usize) -> bool
 {
     let others = masks::minus(w, masks::single(v as u64));
     let many = table[63 * v] as usize;
-    let mut i: usize = 0;
-    while i < many {
+    for i in 0..many {
         if table[63 * v + 1 + i] & others == 0 {
             return false;
         }
-        i += 1;
     }
     true
 }
@@ -96,12 +94,10 @@ pub fn next_inside(table: &[u64], n: usize, v: usize, u: u64, start: u8) -> usiz
     ensures lower_bound { result < count_of table.now v → start ≤ result }
 {
     let many = table[63 * v] as usize;
-    let mut i = start as usize;
-    while i < many {
+    for i in usize::from(start)..many {
         if masks::within(table[63 * v + 1 + i], u) {
             return i;
         }
-        i += 1;
     }
     many
 }
@@ -152,14 +148,10 @@ pub fn is_quorum(table: &[u64], n: usize, q: u64) -> bool
     if !masks::within(q, masks::all_below(n as u64)) {
         return false;
     }
-    let mut v: usize = 0;
-    while v < n {
-        if masks::has(q, v as u64) {
-            if !has_slice(table, n, v, q) {
-                return false;
-            }
+    for v in 0..n {
+        if masks::has(q, v as u64) && !has_slice(table, n, v, q) {
+            return false;
         }
-        v += 1;
     }
     true
 }

@@ -1,9 +1,6 @@
 // What the two programs do with tables and lists: read, have the text made, print it. Nothing here decides anything of the rules.
 #![tactic(auto)]
 
-use files::Fetched;
-use text::Typed;
-
 // The verdict program, on standard input, which holds the faulty mask and an image. One byte more than the most that is taken is asked for, so that a
 // longer input shows.
 pub fn verdict(rt: &HostRuntime) {
@@ -19,7 +16,7 @@ pub fn verdict(rt: &HostRuntime) {
 pub fn check(rt: &HostRuntime, k: usize) {
     let mut image = io::large_buffer();
     let whole = files::fetch(rt, b"desk check TABLE", k, &mut image);
-    let Fetched::Bytes(n) = whole else {
+    let Some(n) = whole else {
         return;
     };
     let image = &image[..n];
@@ -32,12 +29,12 @@ pub fn check(rt: &HostRuntime, k: usize) {
 pub fn verdict_of(rt: &HostRuntime, table: usize, sites: usize) {
     let mut image = io::large_buffer();
     let whole = files::fetch(rt, b"desk verdict TABLE FAULTY", table, &mut image);
-    let Fetched::Bytes(n) = whole else {
+    let Some(n) = whole else {
         return;
     };
     let image = &image[..n];
     let typed = files::faulty(rt, b"desk verdict TABLE FAULTY", sites);
-    let Typed::Mask(faulty) = typed else {
+    let Some(faulty) = typed else {
         return;
     };
     let mut room = [0u8; 196608];

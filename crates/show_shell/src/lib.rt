@@ -1,13 +1,11 @@
 // What the desk does to show a table, and what is at stake on it: read, have the text made, print it. Nothing here decides anything of the rules.
 #![tactic(auto)]
 
-use files::Fetched;
-
 // desk show TABLE, where TABLE is an argument's number
 pub fn show_of(rt: &HostRuntime, k: usize) {
     let mut image = io::large_buffer();
     let whole = files::fetch(rt, b"desk show TABLE", k, &mut image);
-    let Fetched::Bytes(n) = whole else {
+    let Some(n) = whole else {
         return;
     };
     let image = &image[..n];
@@ -20,7 +18,7 @@ pub fn show_of(rt: &HostRuntime, k: usize) {
 pub fn risk_of(rt: &HostRuntime, k: usize) {
     let mut image = io::large_buffer();
     let whole = files::fetch(rt, b"desk risk TABLE", k, &mut image);
-    let Fetched::Bytes(n) = whole else {
+    let Some(n) = whole else {
         return;
     };
     let image = &image[..n];

@@ -1,4 +1,5 @@
 -- Laws of one block's check: a way out each, and that a block is refused for its slices and filler as its 63 numbers are.
+use Rattle.std.specs.Prelude.{Ok, Err}
 use Prim.Native.Nat.{ℕ, ◌+◌, ◌-◌, ◌*◌, ◌/◌, ◌%◌, ◌≤◌, ◌<◌}
 use mathlib.Core.Bool.{true, false, ◌||◌, not, or-true}
 use mathlib.Core.List.{List}
@@ -15,7 +16,6 @@ use Rattle.site_block.specs.Block.{site_field, sites_field, count_field, zero_fi
 use Rattle.site_block.proofs.Load.{load-slice}
 use Rattle.le.proofs.Laws.{field-zeros, zeros-field}
 use Rattle.refusals.proofs.First.{missed, passed}
-use Rattle.refusals.specs.declared.Check.TheVariants.{Sound, Refused}
 use Rattle.refusals.specs.declared.Refusal.TheVariants.{Sums, Header}
 use Rattle.rows.proofs.Row.{row-alike}
 use Rattle.rows.proofs.Site.{unused-zero, zero-unused, zero-above, clean-above}
@@ -65,20 +65,20 @@ row-site n owner place b =
 
 -- the ways out
 module _ (n site place : ℕ) (b : List ℕ) where
-  pub wrong-sums : sealed b ≡ false → block_check n site place b ≡ Refused (Sums place)
+  pub wrong-sums : sealed b ≡ false → block_check n site place b ≡ Err (Sums place)
   unfolding block_check
   wrong-sums e = rw e refl
 
   module _ (s : sealed b ≡ true) where
-    pub wrong-site : (site_field b ≡ site → ⊥) → block_check n site place b ≡ Refused (Header place)
+    pub wrong-site : (site_field b ≡ site → ⊥) → block_check n site place b ≡ Err (Header place)
     unfolding block_check misheaded
     wrong-site ne = rw (s, ne_eqb (site_field b) site ne) refl
 
-    pub wrong-n : (sites_field b ≡ n → ⊥) → block_check n site place b ≡ Refused (Header place)
+    pub wrong-n : (sites_field b ≡ n → ⊥) → block_check n site place b ≡ Err (Header place)
     unfolding block_check misheaded
     wrong-n ne = rw (s, ne_eqb (sites_field b) n ne, or-true) refl
 
-    pub wrong-zero : (zero_field b ≡ 0 → ⊥) → block_check n site place b ≡ Refused (Header place)
+    pub wrong-zero : (zero_field b ≡ 0 → ⊥) → block_check n site place b ≡ Err (Header place)
     unfolding block_check misheaded
     wrong-zero ne = rw (s, ne_eqb (zero_field b) 0 ne, or-true, or-true) refl
 
@@ -87,8 +87,8 @@ module _ (n site place : ℕ) (b : List ℕ) where
     right-head p q z = rw (s, eq-eqb (site_field b) site p, eq-eqb (sites_field b) n q, eq-eqb (zero_field b) 0 z) refl
 
   -- what a block that passes has
-  pub block-sound : block_check n site place b ≡ Sound
-      → (sealed b ≡ true) × (site_field b ≡ site) × (sites_field b ≡ n) × (zero_field b ≡ 0) × (site_check n site place (load b) ≡ Sound)
+  pub block-sound : block_check n site place b ≡ Ok tt
+      → (sealed b ≡ true) × (site_field b ≡ site) × (sites_field b ≡ n) × (zero_field b ≡ 0) × (site_check n site place (load b) ≡ Ok tt)
   unfolding block_check misheaded
   block-sound h =
       let p = passed (sealed b) (Sums place) _ h in

@@ -1,11 +1,11 @@
 -- One block of the table on file: "Blocks of 512 bytes, one a site, in site order; numbers little-endian."
+use Rattle.refusals.specs.Check.{Check}
 use Rattle.std.specs.Prelude.{ℕ, ◌+◌, ◌-◌, ◌*◌, Bool, ◌||◌, not, List, [], ◌∷◌, ◌++◌, eqb, get_or}
 use Rattle.block.specs.Block.{seal, sealed}
 use Rattle.ground.specs.Pieces.{cat}
 use Rattle.ground.specs.Search.{some}
 use Rattle.le.specs.Le.{digits, field}
 use Rattle.refusals.specs.First.{or_else, refuse}
-use Rattle.refusals.specs.declared.Check.{Check}
 use Rattle.refusals.specs.declared.Refusal.TheVariants.{Sums, Header}
 use Rattle.rows.specs.Row.{slice_check, row_check}
 use Rattle.rows.specs.Site.{count, slice}

@@ -6,7 +6,7 @@ ghost use Rattle.site_block.specs.Block.{count_field, slice_field, block_unfille
 ghost use Rattle.refusals.specs.First.{first};
 ghost use Rattle.rows.specs.Row.{slice_check};
 
-use refusals::{Check, Refusal};
+use refusals::Refusal;
 
 // The 63 numbers of a block.
 pub fn load_block(b: &[u8], m: &mut [u64])
@@ -15,10 +15,8 @@ pub fn load_block(b: &[u8], m: &mut [u64])
     ensures { m.new ≡ load b.now }
 {
     m[0] = le::get16(b, 4) as u64;
-    let mut k: usize = 0;
-    while k < 62 {
+    for k in 0..62 {
         m[1 + k] = le::get64(b, 8 + 8 * k);
-        k += 1;
     }
 }
 
@@ -28,19 +26,17 @@ fn are_sound(b: &[u8], n: u64, owner: u64, many: usize) -> bool
     requires many_bound { many ≤ 62 }
     requires owner_bound { owner < 64 }
     requires n_bound { n ≤ 64 }
-    ensures { result ≡ true → (place : ℕ) → first (slice_check n owner place (slice_field b.now)) many ≡ Check.Sound }
+    ensures { result ≡ true → (place : ℕ) → first (slice_check n owner place (slice_field b.now)) many ≡ Ok tt }
 {
     let mut g = rows::gather_first(le::get64(b, 8));
-    let mut k: usize = 1;
-    while k < many {
+    for k in 1..many {
         g = rows::gather(g, le::get64(b, 8 * k), le::get64(b, 8 + 8 * k));
-        k += 1;
     }
     rows::is_sound(g, n, owner)
 }
 
 // The first many slices of the owner's block, in order: walked only where one is not sound.
-fn check_slices(b: &[u8], n: u64, owner: u64, place: u64, many: usize) -> Check
+fn check_slices(b: &[u8], n: u64, owner: u64, place: u64, many: usize) -> Result<(), Refusal>
     requires b_len { length b.now ≡ 512 }
     requires many_bound { many ≤ 62 }
     requires owner_bound { owner < 64 }
@@ -48,20 +44,15 @@ fn check_slices(b: &[u8], n: u64, owner: u64, place: u64, many: usize) -> Check
     ensures { result ≡ first (slice_check n owner place (slice_field b.now)) many }
 {
     if are_sound(b, n, owner, many) {
-        return Check::Sound;
+        return Ok(());
     }
     let mut before = le::get64(b, 8);
-    let mut k: usize = 0;
-    while k < many {
+    for k in 0..many {
         let q = le::get64(b, 8 + 8 * k);
-        let fault = rows::check_slice(n, owner, place, k, before, q);
-        let Check::Sound = fault else {
-            return fault;
-        };
+        rows::check_slice(n, owner, place, k, before, q)?;
         before = q;
-        k += 1;
     }
-    Check::Sound
+    Ok(())
 }
 
 // Filler is not zero: the bytes behind the last of the slices, read as the unused places.
@@ -73,16 +64,14 @@ fn is_unfilled(b: &[u8], many: usize) -> bool
 {
     let left = 62 - many;
     let mut any: u64 = 0;
-    let mut j: usize = 0;
-    while j < left {
+    for j in 0..left {
         any |= le::get64(b, 8 + 8 * (many + j));
-        j += 1;
     }
     any != 0
 }
 
 // The slices that the owner's block holds, and its filler: 4, each slice 5 then 6, then 8, carrying the place.
-fn check_row(b: &[u8], n: u64, owner: u64, place: u64) -> Check
+fn check_row(b: &[u8], n: u64, owner: u64, place: u64) -> Result<(), Refusal>
     requires b_len { length b.now ≡ 512 }
     requires owner_bound { owner < 64 }
     requires n_bound { n ≤ 64 }
@@ -90,39 +79,36 @@ fn check_row(b: &[u8], n: u64, owner: u64, place: u64) -> Check
 {
     let many = le::get16(b, 4) as usize;
     if many == 0 {
-        return Check::Refused(Refusal::Count(place));
+        return Err(Refusal::Count(place));
     }
     if 62 < many {
-        return Check::Refused(Refusal::Count(place));
+        return Err(Refusal::Count(place));
     }
-    let q = check_slices(b, n, owner, place, many);
-    let Check::Sound = q else {
-        return q;
-    };
+    check_slices(b, n, owner, place, many)?;
     if is_unfilled(b, many) {
-        return Check::Refused(Refusal::Filler(place));
+        return Err(Refusal::Filler(place));
     }
-    Check::Sound
+    Ok(())
 }
 
 // The block of a site in a table of n sites: 2, 3, then the slices that it holds, carrying the place.
-pub fn check_block(b: &[u8], n: u64, site: u64, place: u64) -> Check
+pub fn check_block(b: &[u8], n: u64, site: u64, place: u64) -> Result<(), Refusal>
     requires b_len { length b.now ≡ 512 }
     requires site_bound { site < 64 }
     requires n_bound { n ≤ 64 }
     ensures { result ≡ block_check n site place b.now }
 {
     if block::check(b) != 0 {
-        return Check::Refused(Refusal::Sums(place));
+        return Err(Refusal::Sums(place));
     }
     if (le::get16(b, 0) as u64) != site {
-        return Check::Refused(Refusal::Header(place));
+        return Err(Refusal::Header(place));
     }
     if (le::get16(b, 2) as u64) != n {
-        return Check::Refused(Refusal::Header(place));
+        return Err(Refusal::Header(place));
     }
     if le::get16(b, 6) != 0 {
-        return Check::Refused(Refusal::Header(place));
+        return Err(Refusal::Header(place));
     }
     check_row(b, n, site, place)
 }

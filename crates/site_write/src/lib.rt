@@ -22,10 +22,8 @@ fn put_places(b: &mut [u8], m: &[u64])
     requires m_len { length m.now ≡ 63 }
     ensures { b.new ≡ (take 8 b.old ++ places m.now 62) ++ drop 504 b.old }
 {
-    let mut j: usize = 0;
-    while j < 62 {
+    for j in 0..62 {
         le::put64(b, 8 + 8 * j, m[1 + j]);
-        j += 1;
     }
 }
 

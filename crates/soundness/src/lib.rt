@@ -13,15 +13,14 @@ fn together(state: &[u64]) -> u64
     ensures { (u : ℕ) → not (within result u) ≡ some (length state.now) (λ i. not (within (get state.now i) u)) }
 {
     let mut any = 0u64;
-    let mut i: usize = 0;
-    while i < state.len() {
-        any = any | state[i];
-        i += 1;
+    for number in state {
+        any |= *number;
     }
     any
 }
 
 // The state is unsound.
+#[tactic(auto, unfolding(rules::specs::Sound::unsound))]
 pub fn is_unsound(table: &[u64], n: usize, faulty: u64, state: &[u64]) -> bool
     requires { Rows table.now n }
     ensures { result ≡ unsound (row_questions table.now n) n faulty state.now }

@@ -12,11 +12,11 @@ fn join(words: &mut [u64; 64], start: usize, step: usize)
     let a = words[start];
     let b = words[start + step] | a;
     let c = words[start + 2 * step] | a;
-    let d = (words[start + 3 * step] | b) | c;
+    let d = words[start + 3 * step] | b | c;
     let e = words[start + 4 * step] | a;
-    let f = (words[start + 5 * step] | b) | e;
-    let g = (words[start + 6 * step] | c) | e;
-    let h = ((words[start + 7 * step] | d) | f) | g;
+    let f = words[start + 5 * step] | b | e;
+    let g = words[start + 6 * step] | c | e;
+    let h = words[start + 7 * step] | d | f | g;
     words[start + step] = b;
     words[start + 2 * step] = c;
     words[start + 3 * step] = d;
@@ -31,10 +31,8 @@ fn near(words: &mut [u64; 64])
     requires { length words.old ≡ 64 }
     ensures { Joined near_place words.old 8 words.new }
 {
-    let mut k: usize = 0;
-    while k < 8 {
+    for k in 0..8 {
         join(words, k * 8, 1);
-        k += 1;
     }
 }
 
@@ -43,10 +41,8 @@ fn far(words: &mut [u64; 64])
     requires { length words.old ≡ 64 }
     ensures { Joined far_place words.old 8 words.new }
 {
-    let mut k: usize = 0;
-    while k < 8 {
+    for k in 0..8 {
         join(words, k, 8);
-        k += 1;
     }
 }
 

@@ -1,55 +1,25 @@
--- Laws of strange calls: one for each way out, how many they are, and that they are those that answer 11.
-use Prim.Native.Nat.{ℕ, zero, suc, ◌+◌, ◌/◌, ◌≤◌, ◌<◌}
-use mathlib.Core.Bool.{Bool, true, false, ◌||◌, not, cond}
+-- Laws of strange calls: how many they are, and that they are those that answer 11.
+use Prim.Native.Nat.{ℕ, zero, suc, ◌+◌, ◌/◌, ◌≤◌}
+use mathlib.Core.Bool.{Bool, true, false, cond}
 use mathlib.Core.List.{List}
 use mathlib.Core.Logic.{⊎_elim}
 use mathlib.Core.Path.{◌≡◌, refl, sym, ap, ◌∙◌}
 use native.Mathlib.Numerals.{add-one}
 use native.Mathlib.Omega.{arith}
-use lib.Dec.{eqb, ltb}
 use lib.ListN.{length}
-use borrow.Author.Tests.{lt-ltb, le-ltb}
-use Rattle.ground.proofs.Logic.{cases, clash}
+use Rattle.ground.proofs.Logic.{cases}
 use Rattle.masks.specs.Mask.{has}
 use Rattle.pass.specs.Calls.{call_at}
 use Rattle.refusals.specs.First.{or_else, refuse}
-use Rattle.refusals.specs.Refusal.{code, number}
-use Rattle.refusals.specs.declared.Check.{Check}
-use Rattle.refusals.specs.declared.Check.TheVariants.{Sound, Refused}
-use Rattle.refusals.specs.declared.Refusal.TheVariants.{Range, Receiver, Proposal, Voted, Unsent}
+use Rattle.refusals.specs.Refusal.{code}
+use Rattle.refusals.specs.declared.Refusal.TheVariants.{Receiver, Proposal, Voted, Unsent}
 use Rattle.rules.specs.Rules.{out_of_range, crooked, against, unsent, answer}
 use Rattle.strange_calls.specs.Strange.{how_many, strange_calls}
 use Rattle.strange_calls.specs.Theorems.{StrangeIsEleven}
-use Rattle.votes.specs.Call.{Call, call}
 
 -- 1 where a test holds
 abbrev pub one : Bool → ℕ
 one b = cond b 1 0
-
--- whether a call is out of range: one law for each way out
-module _ (n kind from to side : ℕ) where
-  pub out-from : n ≤ from → out_of_range n (call kind from to side) ≡ true
-  unfolding out_of_range
-  out-from h = rw (le-ltb from n h) refl
-
-  module _ (f : from < n) where
-    pub out-to : n ≤ to → out_of_range n (call kind from to side) ≡ true
-    unfolding out_of_range
-    out-to h = rw (lt-ltb from n f, le-ltb to n h) refl
-
-    module _ (t : to < n) where
-      pub out-kind : 2 < kind → out_of_range n (call kind from to side) ≡ true
-      unfolding out_of_range
-      out-kind h = rw (lt-ltb from n f, lt-ltb to n t, lt-ltb 2 kind h) refl
-
-      module _ (k : kind ≤ 2) where
-        pub out-side : 1 < side → out_of_range n (call kind from to side) ≡ true
-        unfolding out_of_range
-        out-side h = rw (lt-ltb from n f, lt-ltb to n t, le-ltb 2 kind k, lt-ltb 1 side h) refl
-
-        pub in-all-four : side ≤ 1 → out_of_range n (call kind from to side) ≡ false
-        unfolding out_of_range
-        in-all-four h = rw (lt-ltb from n f, lt-ltb to n t, le-ltb 2 kind k, le-ltb 1 side h) refl
 
 -- one number more
 pub how-many-more : (k m : ℕ) (p : ℕ → Bool) → m ≡ how_many k p → m + cond (p k) 1 0 ≡ how_many (k + 1) p

@@ -1,11 +1,11 @@
 -- The check takes exactly the sound tables.
+use Rattle.std.specs.Prelude.{Ok}
 use Prim.Native.Nat.{ℕ, ◌*◌, ◌≤◌, ◌<◌}
 use mathlib.Core.List.{List}
 use mathlib.Core.Path.{◌≡◌, ap, ◌∙◌}
 use native.Mathlib.Omega.{arith}
 use lib.ListN.{length}
 use Rattle.refusals.proofs.First.{first-all, first-sound, missed}
-use Rattle.refusals.specs.declared.Check.TheVariants.{Sound}
 use Rattle.refusals.specs.declared.Refusal.TheVariants.{Length}
 use Rattle.rows.specs.Site.{slice, row_unfilled, site_check}
 use Rattle.rows.proofs.Row.{Row, row-sound, sound-row}
@@ -15,7 +15,7 @@ use Rattle.table.specs.Theorems.{CheckExact}
 use Rattle.table.proofs.Table.{well-shaped, shape, sites-of, right-length}
 
 -- site by site, for a caller that knows n
-pub checked-sites : (t : List ℕ) (n : ℕ) → length t ≡ 63 * n → 1 ≤ n → n ≤ 64 → sites_check n t ≡ Sound → Table t n
+pub checked-sites : (t : List ℕ) (n : ℕ) → length t ≡ 63 * n → 1 ≤ n → n ≤ 64 → sites_check n t ≡ Ok tt → Table t n
 unfolding sites_check site_check
 checked-sites t n e p q h =
     let row : (v : ℕ) → v < n → Row n v (count_of t v) (slice (site_of t v)) (row_unfilled (site_of t v)) =
@@ -32,7 +32,7 @@ checked-sites t n e p q h =
       unused = λ v i l. zero-above (site_of t v) (row v l).clean i;
     }
 
-pub sound-sites : {t : List ℕ} {n : ℕ} → Table t n → sites_check n t ≡ Sound
+pub sound-sites : {t : List ℕ} {n : ℕ} → Table t n → sites_check n t ≡ Ok tt
 unfolding sites_check site_check
 sound-sites {t} {n} s =
     first-sound (λ v. site_check n v v (site_of t v)) n
@@ -47,7 +47,7 @@ sound-sites {t} {n} s =
     }))
 
 -- what gets through is sound
-pub checked : (t : List ℕ) → check t ≡ Sound → Table t (sites (length t))
+pub checked : (t : List ℕ) → check t ≡ Ok tt → Table t (sites (length t))
 unfolding check
 checked t h =
     let p = missed (table_misshapen (length t)) Length (sites_check (sites (length t)) t) h in
@@ -55,7 +55,7 @@ checked t h =
     checked-sites t (sites (length t)) q.0 q.1 q.2 p.1
 
 -- what is sound gets through
-pub sound : {t : List ℕ} {n : ℕ} → Table t n → check t ≡ Sound
+pub sound : {t : List ℕ} {n : ℕ} → Table t n → check t ≡ Ok tt
 sound {t} {n} s =
     let e = sites-of s in
     let z = s.long in

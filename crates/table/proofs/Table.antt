@@ -1,4 +1,5 @@
 -- Laws of the table in memory: where its numbers stand, its length, and the ways out of its check.
+use Rattle.std.specs.Prelude.{Err}
 use Prim.Native.Nat.{ℕ, ◌+◌, ◌*◌, ◌%◌, ◌^◌, ◌≤◌, ◌<◌}
 use mathlib.Core.Bool.{true, false, ◌||◌, not, or-true}
 use mathlib.Core.List.{List}
@@ -12,7 +13,6 @@ use lib.Seq.{get_or-take, get_or-drop}
 use borrow.Author.Tests.{eqb-true, eqb-false, eq-eqb, ne_eqb, ltb-true, ltb-false, lt-ltb, le-ltb, not-false}
 use Rattle.ground.proofs.Logic.{or-none, cases}
 use Rattle.masks.proofs.Laws.Subsets.{below-⊆}
-use Rattle.refusals.specs.declared.Check.TheVariants.{Refused}
 use Rattle.refusals.specs.declared.Refusal.TheVariants.{Length}
 use Rattle.table.specs.Table.{site_of, count_of, slice_of, sites, table_misshapen, sites_check, check, Table}
 
@@ -59,7 +59,7 @@ sites-of {t} {n} s = let e = s.long in omega arith
 
 -- the ways out of the check
 
-pub wrong-length : (t : List ℕ) → table_misshapen (length t) ≡ true → check t ≡ Refused Length
+pub wrong-length : (t : List ℕ) → table_misshapen (length t) ≡ true → check t ≡ Err Length
 unfolding check
 wrong-length t e = rw e refl
 

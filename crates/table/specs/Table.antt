@@ -1,9 +1,9 @@
 -- The table in memory: "a site takes 63 64-bit numbers: the count, then 62 places, unused ones zero."
+use Rattle.refusals.specs.Check.{Check}
 use Rattle.std.specs.Prelude.{ℕ, suc, ◌*◌, ◌/◌, ◌%◌, ◌≤◌, ◌<◌, Bool, ◌||◌, not, List, ◌≡◌, eqb, ltb, length}
 use Rattle.ground.specs.Pieces.{part}
 use Rattle.masks.specs.Mask.{all_below, ◌∈◌, ◌⊆◌}
 use Rattle.refusals.specs.First.{or_else, refuse, first}
-use Rattle.refusals.specs.declared.Check.{Check}
 use Rattle.refusals.specs.declared.Refusal.TheVariants.{Length}
 use Rattle.rows.specs.Site.{count, slice, site_check}
 

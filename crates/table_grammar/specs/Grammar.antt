@@ -4,7 +4,7 @@
 --   head   = `sites` n                          n from 1 to 64
 --   line v = v `:` group { `|` group }          1 to 62 groups, in any order, no two the same
 --   group  = site { site }                      sites below n, v among them, in any order, none twice
-use Rattle.std.specs.Prelude.{ℕ, ◌+◌, ◌-◌, ◌≤◌, Bool, true, false, ◌||◌, not, cond, eqb, ltb}
+use Rattle.std.specs.Prelude.{ℕ, ◌+◌, ◌-◌, ◌≤◌, Bool, ◌||◌, not, cond, eqb, ltb}
 use Rattle.std.specs.Int.Bits.{bit_or}
 use Rattle.masks.specs.Mask.{has, single}
 use Rattle.refusals.specs.declared.Refusal.TheVariants.{Slice}

@@ -51,11 +51,9 @@ pub fn at(s: Spot, p: Phase) -> Spot
     ensures { result ≡ at s p }
 {
     Spot {
-        line: s.line,
-        n: s.n,
-        v: s.v,
         q: 0,
         phase: p,
+        ..s
     }
 }
 
@@ -63,10 +61,7 @@ pub fn at(s: Spot, p: Phase) -> Spot
 pub fn own(v: u64) -> u64
     ensures { result ≡ own v }
 {
-    if v < 1 {
-        return 0;
-    }
-    v - 1
+    v.saturating_sub(1)
 }
 
 // What was expected: behind the last site's line nothing more.
@@ -88,18 +83,15 @@ pub fn expected(p: Phase, more: bool) -> Why
 fn next_line(more: bool) -> Why
     ensures { result ≡ next_line more }
 {
-    if more {
-        return Why::Owner;
-    }
-    Why::Nothing
+    if more { Why::Owner } else { Why::Nothing }
 }
 
 // What is heard is not what was expected.
+#[tactic(auto, unfolding(crate::specs::Grammar::missed))]
 fn missed(s: Spot) -> Spot
     ensures { result ≡ missed s }
 {
-    let p = s.phase;
-    at(s, Phase::Wrong(expected(p, s.v < s.n)))
+    at(s, Phase::Wrong(expected(s.phase, s.v < s.n)))
 }
 
 // The next line.
@@ -109,21 +101,18 @@ fn onward(s: Spot, p: Phase) -> Spot
 {
     Spot {
         line: s.line + 1,
-        n: s.n,
-        v: s.v,
         q: 0,
         phase: p,
+        ..s
     }
 }
 
 // The number of sites.
+#[tactic(auto, unfolding(crate::specs::Grammar::many))]
 fn many(s: Spot, x: u64) -> Spot
     ensures { result ≡ many s x }
 {
-    if x < 1 {
-        return missed(s);
-    }
-    if 64 < x {
+    if x < 1 || 64 < x {
         return missed(s);
     }
     Spot {
@@ -136,26 +125,24 @@ fn many(s: Spot, x: u64) -> Spot
 }
 
 // The number that begins a site's line.
+#[tactic(auto, unfolding(crate::specs::Grammar::owner))]
 fn owner(s: Spot, x: u64) -> Spot
     requires { Sane s }
     ensures { result ≡ owner s x }
 {
-    if s.n <= x {
-        return missed(s);
-    }
-    if x != s.v {
+    if s.n <= x || x != s.v {
         return missed(s);
     }
     Spot {
-        line: s.line,
-        n: s.n,
         v: s.v + 1,
         q: 0,
         phase: Phase::Mark,
+        ..s
     }
 }
 
 // One site more in the group.
+#[tactic(auto, unfolding(crate::specs::Grammar::member))]
 fn member(s: Spot, x: u64) -> Spot
     requires { Sane s }
     ensures { result ≡ member s x }
@@ -167,15 +154,14 @@ fn member(s: Spot, x: u64) -> Spot
         return at(s, Phase::Wrong(Why::Other));
     }
     Spot {
-        line: s.line,
-        n: s.n,
-        v: s.v,
         q: s.q | masks::single(x),
         phase: Phase::More,
+        ..s
     }
 }
 
 // The first site of a group.
+#[tactic(auto, unfolding(crate::specs::Grammar::first_member))]
 fn first_member(s: Spot, full: bool, x: u64) -> Spot
     requires { Sane s }
     ensures { result ≡ first_member s full x }
@@ -191,16 +177,12 @@ fn numbered(s: Spot, full: bool, x: u64) -> Spot
     requires { Sane s }
     ensures { result ≡ numbered s.phase s full x }
 {
-    let p = s.phase;
-    match p {
-        Phase::Head => missed(s),
+    match s.phase {
         Phase::Count => many(s, x),
-        Phase::Tail => missed(s),
         Phase::Owner => owner(s, x),
-        Phase::Mark => missed(s),
         Phase::First => first_member(s, full, x),
         Phase::More => member(s, x),
-        Phase::Wrong(_) => missed(s),
+        _ => missed(s),
     }
 }
 
@@ -208,16 +190,9 @@ fn numbered(s: Spot, full: bool, x: u64) -> Spot
 fn sited(s: Spot) -> Spot
     ensures { result ≡ sited s.phase s }
 {
-    let p = s.phase;
-    match p {
+    match s.phase {
         Phase::Head => at(s, Phase::Count),
-        Phase::Count => missed(s),
-        Phase::Tail => missed(s),
-        Phase::Owner => missed(s),
-        Phase::Mark => missed(s),
-        Phase::First => missed(s),
-        Phase::More => missed(s),
-        Phase::Wrong(_) => missed(s),
+        _ => missed(s),
     }
 }
 
@@ -225,16 +200,9 @@ fn sited(s: Spot) -> Spot
 fn coloned(s: Spot) -> Spot
     ensures { result ≡ coloned s.phase s }
 {
-    let p = s.phase;
-    match p {
-        Phase::Head => missed(s),
-        Phase::Count => missed(s),
-        Phase::Tail => missed(s),
-        Phase::Owner => missed(s),
+    match s.phase {
         Phase::Mark => at(s, Phase::First),
-        Phase::First => missed(s),
-        Phase::More => missed(s),
-        Phase::Wrong(_) => missed(s),
+        _ => missed(s),
     }
 }
 
@@ -242,16 +210,9 @@ fn coloned(s: Spot) -> Spot
 fn barred(s: Spot) -> Spot
     ensures { result ≡ barred s.phase s }
 {
-    let p = s.phase;
-    match p {
-        Phase::Head => missed(s),
-        Phase::Count => missed(s),
-        Phase::Tail => missed(s),
-        Phase::Owner => missed(s),
-        Phase::Mark => missed(s),
-        Phase::First => missed(s),
+    match s.phase {
         Phase::More => at(s, Phase::First),
-        Phase::Wrong(_) => missed(s),
+        _ => missed(s),
     }
 }
 
@@ -260,16 +221,10 @@ fn line_end(s: Spot) -> Spot
     requires { s.line + 1 < 2 ^ 64 }
     ensures { result ≡ line_end s.phase s }
 {
-    let p = s.phase;
-    match p {
+    match s.phase {
         Phase::Head => onward(s, Phase::Head),
-        Phase::Count => missed(s),
-        Phase::Tail => onward(s, Phase::Owner),
-        Phase::Owner => onward(s, Phase::Owner),
-        Phase::Mark => missed(s),
-        Phase::First => missed(s),
-        Phase::More => onward(s, Phase::Owner),
-        Phase::Wrong(_) => missed(s),
+        Phase::Tail | Phase::Owner | Phase::More => onward(s, Phase::Owner),
+        _ => missed(s),
     }
 }
 

@@ -1,16 +1,15 @@
 // A table from a person's text.
 #![tactic(auto)]
 
-ghost use Rattle.std.specs.Prelude.{◌++◌, ◌≡◌, ◌≤◌, length, take, drop};
-ghost use Rattle.table_made.specs.Made.{is_whole, answer_of, numbers, made, leaves};
+ghost use Rattle.std.specs.Prelude.{◌≡◌, length};
+ghost use Rattle.table_made.specs.Made.{is_whole, answer_of, made, leaves};
 
 use table_grammar::{Phase, Spot, Why};
 
-// What a text is: a table of so many sites, or none, with the line and what was expected there; or the room lent for the table is too short.
+// Why there is no table: the text is none, with the line and what was expected there; or the room lent for the table is too short.
 #[derive(Clone, Copy)]
-pub enum Made {
-    Sites(u64),
-    Fault(u64, Why),
+pub enum Fault {
+    Line(u64, Why),
     Room,
 }
 
@@ -18,66 +17,34 @@ pub enum Made {
 fn is_whole(p: Phase, more: bool) -> bool
     ensures { result ≡ is_whole p more }
 {
-    match p {
-        Phase::Head => false,
-        Phase::Count => false,
-        Phase::Tail => false,
-        Phase::Owner => !more,
-        Phase::Mark => false,
-        Phase::First => false,
-        Phase::More => false,
-        Phase::Wrong(_) => false,
-    }
+    matches!(p, Phase::Owner) && !more
 }
 
-// A table, or the fault and its line.
-fn answer_of(s: Spot) -> Made
+// A table of so many sites, or the fault and its line.
+#[tactic(auto, unfolding(crate::specs::Made::answer_of))]
+fn answer_of(s: Spot) -> Result<u64, Fault>
     ensures { result ≡ answer_of s }
 {
-    let p = s.phase;
-    if is_whole(p, s.v < s.n) {
-        return Made::Sites(s.n);
-    }
-    Made::Fault(s.line, table_grammar::expected(p, s.v < s.n))
-}
-
-// How many numbers the table has.
-fn numbers(m: Made) -> usize
-    requires { numbers m ≤ 4032 }
-    ensures { result ≡ numbers m }
-{
-    match m {
-        Made::Sites(n) => 63 * n as usize,
-        Made::Fault(_, _) => 0,
-        Made::Room => 0,
+    let more = s.v < s.n;
+    if is_whole(s.phase, more) {
+        Ok(s.n)
+    } else {
+        Err(Fault::Line(s.line, table_grammar::expected(s.phase, more)))
     }
 }
 
-// The first k numbers.
-fn copy(room: &mut [u64], t: &[u64], k: usize)
-    requires k_in_bounds { k ≤ length t.now }
-    requires k_in_bounds_2 { k ≤ length room.old }
-    ensures { room.new ≡ take k t.now ++ drop k room.old }
-{
-    let mut i: usize = 0;
-    while i < k {
-        room[i] = t[i];
-        i += 1;
-    }
-}
-
-// The answer for a text, and its table in the lent room; a fault leaves the room alone.
-pub fn make(text: &[u8], room: &mut [u64]) -> Made
+// How many sites the table of a text has, and the table in the lent room; a fault leaves the room alone.
+pub fn make(text: &[u8], room: &mut [u64]) -> Result<u64, Fault>
     ensures answer { result ≡ made text.now (length room.old) }
     ensures memory { room.new ≡ leaves text.now room.old }
 {
     let mut t = [0u64; 4032];
     let s = table_reading::walk(text, &mut t);
-    let m = answer_of(s);
-    let k = numbers(m);
+    let n = answer_of(s)?;
+    let k = 63 * n as usize;
     if room.len() < k {
-        return Made::Room;
+        return Err(Fault::Room);
     }
-    copy(room, &t, k);
-    m
+    room[..k].copy_from_slice(&t[..k]);
+    Ok(n)
 }

@@ -1,6 +1,7 @@
 -- The code's steps are those of the definition.
-use Prim.Native.Nat.{ℕ, suc, ◌+◌, ◌-◌, ◌*◌, ◌≤◌, ◌<◌}
-use mathlib.Core.Bool.{Bool, true, false, cond, not}
+use Rattle.std.specs.Prelude.{Ok, Err}
+use Prim.Native.Nat.{ℕ, ◌+◌, ◌-◌, ◌*◌, ◌≤◌, ◌<◌}
+use mathlib.Core.Bool.{Bool, true, false, cond}
 use mathlib.Core.List.{List, [], ◌∷◌, ◌++◌}
 use mathlib.Core.Path.{◌≡◌, refl, sym, ap, subst, ◌∙◌}
 use native.Mathlib.Numerals.{add-one}
@@ -12,9 +13,8 @@ use borrow.Author.Tests.{ltb-false}
 use Rattle.ground.proofs.Pieces.{part_cut}
 use Rattle.ground.specs.Pieces.{part}
 use Rattle.group_order.specs.Joined.{joined}
+use Rattle.refusals.specs.Check.{Check}
 use Rattle.refusals.proofs.First.{missed}
-use Rattle.refusals.specs.declared.Check.{Check}
-use Rattle.refusals.specs.declared.Check.TheVariants.{Sound, Refused}
 use Rattle.refusals.specs.declared.Refusal.{Refusal}
 use Rattle.rows.specs.Site.{count}
 use Rattle.table_words.specs.Words.{sign_of, turn, spelled, whole, ended, said, closing, stopped}
@@ -29,15 +29,15 @@ use Rattle.table_grammar.specs.Grammar.{Sane, at, own, spoken}
 use Rattle.table_grammar.specs.declared.Phase.TheVariants.{Wrong}
 use Rattle.table_grammar.specs.declared.Why.TheVariants.{Rule}
 use Rattle.table_grammar.specs.declared.Spot.{Spot}
-use Rattle.table_grammar.proofs.Saneness.{After, ends, told-after}
-use Rattle.table_reading.specs.Groups.{group_check, closes, row_of, check_of, ruled, entered, spot_after, table_after, judged, kept}
+use Rattle.table_grammar.proofs.Saneness.{ends, told-after}
+use Rattle.table_reading.specs.Groups.{group_check, closes, check_of, ruled, entered, spot_after, table_after, judged, kept}
 use Rattle.table_reading.specs.Reading.{Here, here, full, heard_as, hearing, read_on, start, finished, text_read}
 
 pub sane-eq : {r s : Spot} → r ≡ s → Sane s → Sane r
 sane-eq e f = subst (λ (x : Spot). Sane x) (sym e) f
 
 -- a group that is not refused finds a place
-pub few : (v q : ℕ) (m : List ℕ) → group_check v q m ≡ Sound → count m < 62
+pub few : (v q : ℕ) (m : List ℕ) → group_check v q m ≡ Ok tt → count m < 62
 unfolding group_check
 few v q m e = let h = ltb-false 61 (count m) (missed (ltb 61 (count m)) _ _ e).0 in omega arith
 
@@ -49,7 +49,7 @@ module _ (s : Spot) (t : List ℕ) (u : ℕ) (p : Check) (o : u ≡ own s.v) (f 
   unfolding check_of
   same = f ∙ ap (group_check u s.q) (part_cut 63 u t) ∙ ap (λ (x : ℕ). group_check x s.q (part 63 x t)) o
 
-  pub few-here : p ≡ Sound → count (cut u t) < 62
+  pub few-here : p ≡ Ok tt → count (cut u t) < 62
   few-here e = few u s.q (cut u t) (sym f ∙ e)
 
   behind : drop (63 * u + 63 - 63 * u) (drop (63 * u) t) ≡ drop (63 * u + 63) t
@@ -57,18 +57,18 @@ module _ (s : Spot) (t : List ℕ) (u : ℕ) (p : Check) (o : u ≡ own s.v) (f 
       let e : 63 * u + (63 * u + 63 - 63 * u) ≡ 63 * u + 63 = omega arith in
       drop-drop (63 * u + 63 - 63 * u) (63 * u) t ∙ ap (λ (k : ℕ). drop k t) e
 
-  pub joins : (x : List ℕ) → p ≡ Sound → x ≡ joined s.q (cut u t)
+  pub joins : (x : List ℕ) → p ≡ Ok tt → x ≡ joined s.q (cut u t)
       → (s ≡ spot_after s t) × (take (63 * u) t ++ (x ++ drop (63 * u + 63 - 63 * u) (drop (63 * u) t)) ≡ table_after s t)
   joins x e j =
-      let z : check_of s t ≡ Sound = sym same ∙ e in (
+      let z : check_of s t ≡ Ok tt = sym same ∙ e in (
         sym (ap (λ (c : Check). ruled c s) z),
         rw (j, part_cut 63 u t, behind) (ap (λ (k : ℕ). take (63 * k) t ++ (joined s.q (part 63 k t) ++ drop (63 * k + 63) t)) o)
             ∙ sym (ap (λ (c : Check). entered c s t) z),
       )
 
-  pub stops : (x : Spot) (r : Refusal) → p ≡ Refused r → x ≡ at s (Wrong (Rule r)) → (x ≡ spot_after s t) × (t ≡ table_after s t)
+  pub stops : (x : Spot) (r : Refusal) → p ≡ Err r → x ≡ at s (Wrong (Rule r)) → (x ≡ spot_after s t) × (t ≡ table_after s t)
   stops x r e j =
-      let z : check_of s t ≡ Refused r = sym same ∙ e in
+      let z : check_of s t ≡ Err r = sym same ∙ e in
       (j ∙ sym (ap (λ (c : Check). ruled c s) z), sym (ap (λ (c : Check). entered c s t) z))
 
 pub complete : (s : Spot) (k : Token) (t : List ℕ) → closes s.phase k ≡ true → (spot_after s t ≡ judged s k t) × (table_after s t ≡ kept s k t)
@@ -114,12 +114,12 @@ sign-ends Part = omega arith
 
 -- a group that is judged leaves the spot sane, in the same line
 ruled-sane : (c : Check) (s : Spot) → Sane s → Sane (ruled c s)
-ruled-sane Sound s f = f
-ruled-sane (Refused r) s f = f
+ruled-sane (Ok _) s f = f
+ruled-sane (Err r) s f = f
 
 ruled-line : (c : Check) (s : Spot) → (ruled c s).line ≡ s.line
-ruled-line Sound s = refl
-ruled-line (Refused r) s = refl
+ruled-line (Ok _) s = refl
+ruled-line (Err r) s = refl
 
 pub judged-sane : (s : Spot) (k : Token) (t : List ℕ) → Sane s → Sane (judged s k t)
 unfolding judged

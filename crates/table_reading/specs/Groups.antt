@@ -1,10 +1,9 @@
 -- A group that is complete: refused, or taken into the table.
-use Rattle.std.specs.Prelude.{ℕ, ◌+◌, ◌*◌, Bool, true, false, not, cond, List, ◌++◌, ltb, take, drop}
+use Rattle.refusals.specs.Check.{Check}
+use Rattle.std.specs.Prelude.{ℕ, ◌+◌, ◌*◌, Bool, true, false, not, cond, List, ◌++◌, ltb, take, drop, Ok, Err}
 use Rattle.group_order.specs.Joined.{joined, known}
 use Rattle.masks.specs.Mask.{has}
 use Rattle.refusals.specs.First.{or_else, refuse}
-use Rattle.refusals.specs.declared.Check.{Check}
-use Rattle.refusals.specs.declared.Check.TheVariants.{Sound, Refused}
 use Rattle.refusals.specs.declared.Refusal.TheVariants.{Slice, Order}
 use Rattle.refusals.specs.declared.Refusal.TheVariants.{Count as Groups}
 use Rattle.rows.specs.Site.{count}
@@ -52,12 +51,12 @@ check_of s t = group_check (own s.v) s.q (row_of s t)
 
 -- refused, the spot says so and the table stays; otherwise the group joins its site
 abbrev pub ruled : Check → Spot → Spot
-ruled Sound s = s
-ruled (Refused r) s = at s (Wrong (Rule r))
+ruled (Ok _) s = s
+ruled (Err r) s = at s (Wrong (Rule r))
 
 abbrev pub entered : Check → Spot → List ℕ → List ℕ
-entered Sound s t = take (63 * own s.v) t ++ (joined s.q (row_of s t) ++ drop (63 * own s.v + 63) t)
-entered (Refused r) s t = t
+entered (Ok _) s t = take (63 * own s.v) t ++ (joined s.q (row_of s t) ++ drop (63 * own s.v + 63) t)
+entered (Err r) s t = t
 
 abbrev pub spot_after : Spot → List ℕ → Spot
 spot_after s t = ruled (check_of s t) s

@@ -1,5 +1,5 @@
 -- The reading of a text: byte after byte.
-use Rattle.std.specs.Prelude.{ℕ, ◌+◌, ◌*◌, Bool, List, [], ◌∷◌, ltb, get_or}
+use Rattle.std.specs.Prelude.{ℕ, ◌*◌, Bool, List, [], ◌∷◌, ltb, get_or}
 use Rattle.table_words.specs.Words.{sign_of, turn, ended, said, closing, stopped}
 use Rattle.table_words.specs.declared.Begun.{Begun}
 use Rattle.table_words.specs.declared.Begun.TheVariants.{Fresh}

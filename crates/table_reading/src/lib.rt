@@ -6,57 +6,40 @@ ghost use Rattle.table_grammar.specs.Grammar.{Sane};
 ghost use Rattle.table_reading.specs.Groups.{group_check, completes, closes, spot_after, table_after, judged, kept};
 ghost use Rattle.table_reading.specs.Reading.{here, heard_as, finished, text_read};
 
-use refusals::{Check, Refusal};
+use refusals::Refusal;
 use table_grammar::{Phase, Spot, Why};
 use table_words::{Begun, Sign, Token};
 
 // A group q of site v, whose 63 numbers are m: 4, 5, 6.
-fn group_check(v: u64, q: u64, m: &[u64]) -> Check
+fn group_check(v: u64, q: u64, m: &[u64]) -> Result<(), Refusal>
     requires m_len { length m.now ≡ 63 }
     requires v_bound { v < 64 }
     ensures { result ≡ group_check v q m.now }
 {
     if 61 < m[0] {
-        return Check::Refused(Refusal::Count(v));
+        return Err(Refusal::Count(v));
     }
     if !masks::has(q, v) {
-        return Check::Refused(Refusal::Slice(v));
+        return Err(Refusal::Slice(v));
     }
     if group_order::known(q, m) {
-        return Check::Refused(Refusal::Order(v));
+        return Err(Refusal::Order(v));
     }
-    Check::Sound
+    Ok(())
 }
 
 // A bar and the end of the line complete a group.
 fn completes(k: Token) -> bool
     ensures { result ≡ completes k }
 {
-    match k {
-        Token::Silence => false,
-        Token::Sites => false,
-        Token::Number(_) => false,
-        Token::Colon => false,
-        Token::Bar => true,
-        Token::End => true,
-        Token::Strange => false,
-    }
+    matches!(k, Token::Bar | Token::End)
 }
 
 // A group is complete.
 fn closes(p: Phase, k: Token) -> bool
     ensures { result ≡ closes p k }
 {
-    match p {
-        Phase::Head => false,
-        Phase::Count => false,
-        Phase::Tail => false,
-        Phase::Owner => false,
-        Phase::Mark => false,
-        Phase::First => false,
-        Phase::More => completes(k),
-        Phase::Wrong(_) => false,
-    }
+    matches!(p, Phase::More) && completes(k)
 }
 
 // A complete group goes into the table, or is refused.
@@ -70,7 +53,7 @@ fn take_group(s: Spot, t: &mut [u64]) -> Spot
     let a = 63 * u as usize;
     let e = a + 63;
     let p = group_check(u, q, &t[a..e]);
-    let Check::Refused(r) = p else {
+    let Err(r) = p else {
         group_order::join(&mut t[a..e], q);
         return s;
     };
@@ -78,16 +61,17 @@ fn take_group(s: Spot, t: &mut [u64]) -> Spot
 }
 
 // Where a group is complete.
+#[tactic(auto, unfolding(crate::specs::Groups::judged, crate::specs::Groups::kept))]
 fn settle(s: Spot, k: Token, t: &mut [u64]) -> Spot
     requires t_len { length t.old ≡ 4032 }
     requires sane { Sane s }
     ensures { (result ≡ judged s k t.old) × (t.new ≡ kept s k t.old) }
 {
-    let p = s.phase;
-    if closes(p, k) {
-        return take_group(s, t);
+    if closes(s.phase, k) {
+        take_group(s, t)
+    } else {
+        s
     }
-    s
 }
 
 // A byte is heard: the word that ends there, then the byte itself.
@@ -118,13 +102,10 @@ pub fn walk(text: &[u8], t: &mut [u64]) -> Spot
         q: 0,
         phase: Phase::Head,
     };
-    let mut i: usize = 0;
-    while i < text.len() {
-        let b = text[i];
-        let c = table_words::sign_of(w, b);
+    for b in text {
+        let c = table_words::sign_of(w, *b);
         s = hear(c, w, s, t);
-        w = table_words::turn(c, w, b);
-        i += 1;
+        w = table_words::turn(c, w, *b);
     }
     hear(table_words::closing(w), table_words::stopped(w), s, t)
 }

@@ -1,4 +1,6 @@
 -- The line of a site is heard as that site's row.
+use Rattle.refusals.specs.Check.{Check}
+use Rattle.std.specs.Prelude.{Ok}
 use Prim.Native.Nat.{ℕ, zero, suc, ◌+◌, ◌-◌, ◌*◌, ◌^◌, ◌≤◌, ◌<◌}
 use mathlib.Core.Bool.{Bool, true, false}
 use mathlib.Core.List.{List, [], ◌∷◌, ◌++◌}
@@ -18,15 +20,13 @@ use Rattle.masks.proofs.Laws.Single.{∈-eq}
 use Rattle.masks.proofs.Laws.Subsets.{not-in-zero}
 use Rattle.masks.specs.Mask.{has, ◌∈◌}
 use Rattle.members.specs.Members.{members}
-use Rattle.refusals.specs.declared.Check.{Check}
-use Rattle.refusals.specs.declared.Check.TheVariants.{Sound}
 use Rattle.rows.specs.Site.{count, slice}
 use Rattle.table.specs.Table.{site_of}
 use Rattle.table_words.specs.declared.Begun.TheVariants.{Fresh, Gap, Digits}
 use Rattle.table_words.specs.declared.Token.{Token}
 use Rattle.table_words.specs.declared.Token.TheVariants.{Number, Colon, Bar, End}
 use Rattle.table_grammar.proofs.Ways.{owner-next}
-use Rattle.table_grammar.specs.Grammar.{own, owner, spoken}
+use Rattle.table_grammar.specs.Grammar.{own, spoken}
 use Rattle.table_grammar.specs.declared.Phase.TheVariants.{Owner, Mark, First, More}
 use Rattle.table_grammar.specs.declared.Spot.{Spot}
 use Rattle.table_reading.proofs.Steps.{complete}
@@ -72,7 +72,7 @@ module _ (A Z l : List ℕ) (L n v u q : ℕ) (a : length A ≡ 63 * u) (o : own
       each_none (length l) (λ i. eqb (slice (filled l) i) q)
       (λ i h. ap (λ (x : ℕ). eqb x q) (slice_in l i h) ∙ ne_eqb (get_or l i 0) q (λ e. omega (arith, each_at above i h)))
 
-  checked : check_of S B ≡ Sound
+  checked : check_of S B ≡ Ok tt
   unfolding check_of
   checked = ap (λ (i : ℕ). group_check i q (site_of B i)) o ∙ ap (group_check u q) (row_here A Z l u a (omega arith)) ∙ group-new u q (filled l) (omega arith) p new
 

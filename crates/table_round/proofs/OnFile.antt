@@ -1,4 +1,5 @@
 -- What a text makes is taken on file; what is shown of a table on file makes the same file, since what is read is written as it was.
+use Rattle.std.specs.Prelude.{Ok}
 use Prim.Native.Nat.{ℕ, ◌+◌, ◌-◌, ◌*◌, ◌/◌, ◌%◌, ◌^◌, ◌≤◌, ◌<◌}
 use mathlib.Core.List.{List, ◌++◌}
 use mathlib.Core.Logic.{⊎_elim}
@@ -17,13 +18,10 @@ use Rattle.image.proofs.ReadLaws.{blocks-shape, read_taken, loads-sound}
 use Rattle.image.proofs.RoundTrip.{read-then-write, write-then-read}
 use Rattle.image.specs.Read.{read, read_into}
 use Rattle.image.specs.RoundTrip.{Words}
-use Rattle.image.specs.declared.Reading as Reading
 use Rattle.image_blocks.proofs.Load.{length-loads, loads-front}
 use Rattle.image_blocks.specs.Image.{loads}
 use Rattle.image_write.proofs.WriteLaws.{write-all}
 use Rattle.image_write.specs.Write.{write, write_into}
-use Rattle.image_write.specs.declared.Writing as Writing
-use Rattle.refusals.specs.declared.Check.TheVariants.{Sound}
 use Rattle.table.proofs.Exact.{checked-sites, sound-sites, sound}
 use Rattle.table.proofs.Table.{count_at, slice_at, slice-lt}
 use Rattle.table.specs.Table.{Table}
@@ -58,14 +56,14 @@ pub made-then-checked : MadeThenChecked
 made-then-checked text out n e o =
     let t : List ℕ = table_in text in
     let s = made-sound text n e in
-    let w : write t (length out) ≡ Writing.Writing.Sites n = write-all t (length out) n s.long s.some-site s.few-sites o (sound-sites s) in
+    let w : write t (length out) ≡ Ok n = write-all t (length out) n s.long s.some-site s.few-sites o (sound-sites s) in
     let f = s.few-sites in
     let z : List ℕ = replicate 4032 0 in
     let k = length-replicate {A = ℕ} 4032 0 in
     let r = (write-then-read t out z n (words t n s) w (rw k (omega arith))).0 in
     (w, (image-sound _ n (sym (ap (read _) k) ∙ r)).0)
 
-module _ (image : List ℕ) (c : image_check image ≡ Sound) where
+module _ (image : List ℕ) (c : image_check image ≡ Ok tt) where
   same : table_in (show (rows_on image)) ≡ rows_on image
   same =
       let n : ℕ = sites_on image in
@@ -87,5 +85,5 @@ show-then-write image out bytes c room =
     let e : table_in (show (rows_on image)) ≡ take (63 * n) (loads n image ++ drop (63 * n) z) =
     same image c ∙ sym (loads-front n image (drop (63 * n) z)) in (
       ap (λ (t : List ℕ). write t (length out)) e ∙ w.0,
-      ap (λ (t : List ℕ). write_into (Writing.Writing.Sites n) t out) e ∙ w.1 ∙ ap (λ (j : ℕ). image ++ drop j out) (sym k),
+      ap (λ (t : List ℕ). write_into (Ok n) t out) e ∙ w.1 ∙ ap (λ (j : ℕ). image ++ drop j out) (sym k),
     )

@@ -24,8 +24,9 @@ use Rattle.table_reading.proofs.Steps.{undone}
 use Rattle.table_reading.specs.Groups.{judged, kept}
 use Rattle.table_reading.specs.Reading.{Here, here, full, hearing, read_on, start, finished, text_read}
 use Rattle.table_made.specs.Made.{answer_of, made_of, numbers, or_short, made, leaves, table_in}
-use Rattle.table_made.specs.declared.Made.{Made}
-use Rattle.table_made.specs.declared.Made.TheVariants.{Sites, Room}
+use Rattle.std.specs.Prelude.{Result, Ok, Err}
+use Rattle.table_made.specs.declared.Fault.{Fault}
+use Rattle.table_made.specs.declared.Fault.TheVariants.{Room}
 use Rattle.table_round.proofs.Group.{spot}
 use Rattle.table_round.proofs.Heard.{gap, heard-quiet, read-both, read_byte, read_none, read_number, ready-number, line}
 use Rattle.table_round.proofs.Line.{SoundRow, line_read}
@@ -129,7 +130,7 @@ module _ (t : List ℕ) (n : ℕ) (s : Table t n) where
   unfolding text_read
   text-read z e = ap finished (shown_read z e) ∙ done
 
-  answer : answer_of (after n).spot ≡ Sites n
+  answer : answer_of (after n).spot ≡ Ok n
   unfolding answer_of
   answer = rw (le-ltb n n (omega arith)) refl
 
@@ -140,7 +141,7 @@ module _ (t : List ℕ) (n : ℕ) (s : Table t n) where
       take_at (take (63 * n) t) (Z n) (63 * n) (ap length e ∙ L) ∙ e
 
 made_as : (t : List ℕ) (n : ℕ) → Table t n → sites (length t) ≡ n
-    → (answer_of (made_of (show t)).spot ≡ Sites n) × (take (63 * n) (made_of (show t)).table ≡ t)
+    → (answer_of (made_of (show t)).spot ≡ Ok n) × (take (63 * n) (made_of (show t)).table ≡ t)
 unfolding made_of show
 made_as t n s e =
     let h : text_read (head_line (sites (length t)) ++ rows t (sites (length t))) (replicate 4032 0) ≡ after t n s n =
@@ -151,7 +152,7 @@ pub show-then-make : ShowThenMake
 unfolding table_in
 show-then-make t c =
     let m = made_as t (sites (length t)) (checked t c) refl in
-    (m.0, ap (λ (x : Made). take (numbers x) (made_of (show t)).table) m.0 ∙ m.1)
+    (m.0, ap (λ (x : Result ℕ Fault). take (numbers x) (made_of (show t)).table) m.0 ∙ m.1)
 
 pub show-then-left : ShowThenLeft
 unfolding made leaves
@@ -160,9 +161,9 @@ show-then-left t room c h =
     let s = checked t c in
     let m = made_as t n s refl in
     let L = s.long in
-    let e : made (show t) (length room) ≡ Sites n =
-    ap (or_short (length room)) m.0 ∙ ap (λ (b : Bool). cond b Room (Sites n)) (le-ltb (length room) (63 * n) (omega arith)) in (
+    let e : made (show t) (length room) ≡ Ok n =
+    ap (or_short (length room)) m.0 ∙ ap (λ (b : Bool). cond b (Err Room) (Ok n)) (le-ltb (length room) (63 * n) (omega arith)) in (
       e,
-      ap (λ (x : Made). take (numbers x) (made_of (show t)).table ++ drop (numbers x) room) e
+      ap (λ (x : Result ℕ Fault). take (numbers x) (made_of (show t)).table ++ drop (numbers x) room) e
           ∙ ap (λ (x : List ℕ). x ++ drop (63 * n) room) m.1 ∙ ap (λ (k : ℕ). t ++ drop k room) (sym L),
     )

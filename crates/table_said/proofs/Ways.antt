@@ -10,12 +10,13 @@ use Rattle.table_grammar.specs.declared.Why.{Why}
 use Rattle.table_grammar.specs.declared.Why.TheVariants.{LineEnd, Nothing, Member, Further, Other, Rule}
 use Rattle.table_grammar.specs.declared.Why.TheVariants.{Sites as NoSites, Count as NoCount, Owner as NoOwner, Colon as NoColon}
 use Rattle.table_made.specs.Made.{made}
-use Rattle.table_made.specs.declared.Made.{Made}
+use Rattle.table_made.specs.declared.Fault.{Fault}
+use Rattle.std.specs.Prelude.{Result}
 use Rattle.table_said.specs.MakeText.{opening, make_lines, make_text}
 use Rattle.text.proofs.Written.{then, written-nothing}
 use Rattle.text.specs.Written.{Writes}
 
-pub by_answer : (text : List ℕ) (m : Made) → made text 4032 ≡ m → make_lines m ≡ make_text text
+pub by_answer : (text : List ℕ) (m : Result ℕ Fault) → made text 4032 ≡ m → make_lines m ≡ make_text text
 unfolding make_text
 by_answer text m e = sym (ap make_lines e)
 

@@ -1,13 +1,13 @@
 -- What `desk make` says of a text.
-use Rattle.std.specs.Prelude.{ℕ, Bool, true, false, List, [], ◌++◌}
+use Rattle.std.specs.Prelude.{ℕ, Bool, true, false, List, [], ◌++◌, Result, Ok, Err}
 use Rattle.lines.specs.Lines.{newline, line}
 use Rattle.refusal_lines.specs.Refused.{refused}
 use Rattle.table_grammar.specs.declared.Why.{Why}
 use Rattle.table_grammar.specs.declared.Why.TheVariants.{LineEnd, Nothing, Member, Further, Other, Rule}
 use Rattle.table_grammar.specs.declared.Why.TheVariants.{Sites as NoSites, Count as NoCount, Owner as NoOwner, Colon as NoColon}
 use Rattle.table_made.specs.Made.{made}
-use Rattle.table_made.specs.declared.Made.{Made}
-use Rattle.table_made.specs.declared.Made.TheVariants.{Sites, Fault, Room}
+use Rattle.table_made.specs.declared.Fault.{Fault}
+use Rattle.table_made.specs.declared.Fault.TheVariants.{Line, Room}
 use Rattle.table_wanted.specs.Wanted.{wanted}
 use Rattle.text.specs.Text.{ascii, decimal}
 
@@ -30,10 +30,10 @@ unfolding decimal
 fault_lines place why = opening why ++ (ascii "line " ++ (decimal place ++ (ascii ": " ++ (ascii (wanted why) ++ newline))))
 
 -- what is said by the answer: `sound N`, as `desk check` says of the table; or the fault. The desk lends room for 64 sites, so that 9 does not arise.
-abbrev pub make_lines : Made → List ℕ
-make_lines (Sites n) = line (ascii "sound ") (decimal n)
-make_lines (Fault place why) = fault_lines place why
-make_lines Room = []
+abbrev pub make_lines : Result ℕ Fault → List ℕ
+make_lines (Ok n) = line (ascii "sound ") (decimal n)
+make_lines (Err (Line place why)) = fault_lines place why
+make_lines (Err Room) = []
 
 unfoldable pub make_text : List ℕ → List ℕ
 unfolding fault_lines line decimal made
@@ -52,7 +52,7 @@ is_rule Further = false
 is_rule Other = false
 is_rule (Rule r) = true
 
-abbrev pub is_answer : Made → Bool
-is_answer (Sites n) = true
-is_answer (Fault place why) = is_rule why
-is_answer Room = false
+abbrev pub is_answer : Result ℕ Fault → Bool
+is_answer (Ok n) = true
+is_answer (Err (Line place why)) = is_rule why
+is_answer (Err Room) = false

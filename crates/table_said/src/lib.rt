@@ -8,27 +8,20 @@ ghost use Rattle.text.specs.Written.{Writes};
 ghost use Rattle.table_said.specs.MakeText.{opening, fault_lines, is_rule, is_answer, make_text};
 
 use table_grammar::Why;
-use table_made::Made;
+use table_made::Fault;
 
 // Room for what is said of a text.
 pub const ROOM: usize = 512;
 
 // A refusal has its line before.
+#[tactic(auto, using(crate::proofs::Ways::nothing))]
 fn put_opening(room: &mut [u8], why: Why) -> usize
     requires { 50 ≤ length room.old }
     ensures { Writes (opening why) room.old 0 result room.new }
 {
     match why {
-        Why::Sites => 0,
-        Why::Count => 0,
-        Why::LineEnd => 0,
-        Why::Owner => 0,
-        Why::Nothing => 0,
-        Why::Colon => 0,
-        Why::Member => 0,
-        Why::Further => 0,
-        Why::Other => 0,
         Why::Rule(r) => refusal_lines::put_refused(room, 0, r),
+        _ => 0,
     }
 }
 
@@ -46,15 +39,15 @@ fn put_fault(room: &mut [u8], line: u64, why: Why) -> usize
 }
 
 // What is said of a text, by the answer for it.
-pub fn make(text: &[u8], answer: Made, room: &mut [u8; ROOM]) -> usize
+pub fn make(text: &[u8], answer: Result<u64, Fault>, room: &mut [u8; ROOM]) -> usize
     requires { answer ≡ made text.now 4032 }
     ensures text { Writes (make_text text.now) room.old 0 result room.new }
     ensures counts { IsPrefixLen result room.new }
 {
     match answer {
-        Made::Sites(n) => lines::line_decimal(room, 0, b"sound ", n),
-        Made::Fault(line, why) => put_fault(room, line, why),
-        Made::Room => 0,
+        Ok(n) => lines::line_decimal(room, 0, b"sound ", n),
+        Err(Fault::Line(line, why)) => put_fault(room, line, why),
+        Err(Fault::Room) => 0,
     }
 }
 
@@ -62,27 +55,16 @@ pub fn make(text: &[u8], answer: Made, room: &mut [u8; ROOM]) -> usize
 fn is_rule(why: Why) -> bool
     ensures { result ≡ is_rule why }
 {
-    match why {
-        Why::Sites => false,
-        Why::Count => false,
-        Why::LineEnd => false,
-        Why::Owner => false,
-        Why::Nothing => false,
-        Why::Colon => false,
-        Why::Member => false,
-        Why::Further => false,
-        Why::Other => false,
-        Why::Rule(_) => true,
-    }
+    matches!(why, Why::Rule(_))
 }
 
 // Whether what is said of a text is an answer, or that it is none.
-pub fn is_answer(answer: Made) -> bool
+pub fn is_answer(answer: Result<u64, Fault>) -> bool
     ensures { result ≡ is_answer answer }
 {
     match answer {
-        Made::Sites(_) => true,
-        Made::Fault(_, why) => is_rule(why),
-        Made::Room => false,
+        Ok(_) => true,
+        Err(Fault::Line(_, why)) => is_rule(why),
+        Err(Fault::Room) => false,
     }
 }

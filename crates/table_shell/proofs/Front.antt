@@ -1,4 +1,6 @@
 -- What stands in front of the rooms: the table that the text is, then its image.
+use Rattle.refusals.specs.Check.{Answer}
+use Rattle.std.specs.Prelude.{Ok}
 use Prim.Native.Nat.{ℕ, ◌-◌, ◌*◌, ◌≤◌}
 use mathlib.Core.Bool.{Bool, true, false, cond}
 use mathlib.Core.List.{List, ◌++◌}
@@ -12,20 +14,20 @@ use Rattle.image_blocks.specs.Image.{stores}
 use Rattle.image_blocks.proofs.Store.{length-stores}
 use Rattle.image_write.proofs.WriteLaws.{write-taken}
 use Rattle.image_write.specs.Write.{write, write_into}
-use Rattle.image_write.specs.declared.Writing.{Writing}
 use Rattle.table.proofs.Table.{shape}
 use Rattle.table.specs.Table.{sites}
 use Rattle.table_made.specs.Made.{answer_of, made_of, numbers, made, leaves, table_in}
-use Rattle.table_made.specs.declared.Made.{Made}
-use Rattle.table_made.specs.declared.Made.TheVariants.{Sites, Room}
+use Rattle.std.specs.Prelude.{Result, Ok, Err}
+use Rattle.table_made.specs.declared.Fault.{Fault}
+use Rattle.table_made.specs.declared.Fault.TheVariants.{Room}
 use Rattle.table_shell.specs.Filed.{image_in}
 
-pick : (b : Bool) (m : Made) (n : ℕ) → cond b Room m ≡ Sites n → (b ≡ false) × (m ≡ Sites n)
+pick : (b : Bool) (m : Result ℕ Fault) (n : ℕ) → cond b (Err Room) m ≡ Ok n → (b ≡ false) × (m ≡ Ok n)
 pick true m n e = let z : ◌≡◌ {A = ℕ} 0 1 = cc in absurd (omega arith)
 pick false m n e = (refl, e)
 
-module _ (text : List ℕ) (n : ℕ) (h : made text 4032 ≡ Sites n) where
-  told : (ltb 4032 (numbers (answer_of (made_of text).spot)) ≡ false) × (answer_of (made_of text).spot ≡ Sites n)
+module _ (text : List ℕ) (n : ℕ) (h : made text 4032 ≡ Ok n) where
+  told : (ltb 4032 (numbers (answer_of (made_of text).spot)) ≡ false) × (answer_of (made_of text).spot ≡ Ok n)
   unfolding made
   told = pick (ltb 4032 (numbers (answer_of (made_of text).spot))) (answer_of (made_of text).spot) n h
 
@@ -42,16 +44,16 @@ module _ (text : List ℕ) (n : ℕ) (h : made text 4032 ≡ Sites n) where
       let d : length (drop (63 * n) room) ≡ 4032 - 63 * n = length-drop (63 * n) room ∙ ap (λ (x : ℕ). x - 63 * n) r in
       let g : length (take (63 * n) T) ≡ 63 * n =
       omega (arith, sym (ap length f) ∙ l, length-append (take (63 * n) T) (drop (63 * n) room), d, in-room) in
-      ap (take (63 * n)) f ∙ take_at (take (63 * n) T) (drop (63 * n) room) (63 * n) g ∙ ap (λ (m : Made). take (numbers m) T) (sym told.1)
+      ap (take (63 * n)) f ∙ take_at (take (63 * n) T) (drop (63 * n) room) (63 * n) g ∙ ap (λ (m : Result ℕ Fault). take (numbers m) T) (sym told.1)
 
-module _ (t : List ℕ) (k : ℕ) (h : write t 32768 ≡ Writing.Sites k) where
+module _ (t : List ℕ) (k : ℕ) (h : write t 32768 ≡ Ok k) where
   pub image-room : 512 * k ≤ 32768
   image-room = let w = write-taken t 32768 k h in omega (arith, (shape (length t) w.0).2, w.1)
 
-  pub image-front : (text room image : List ℕ) (r : Writing) → t ≡ table_in text → image ≡ write_into r t room → r ≡ Writing.Sites k
+  pub image-front : (text room image : List ℕ) (r : Answer ℕ) → t ≡ table_in text → image ≡ write_into r t room → r ≡ Ok k
       → take (512 * k) image ≡ image_in text
   unfolding image_in write_into
   image-front text room image r e f g =
       let w = write-taken t 32768 k h in
-      ap (take (512 * k)) (f ∙ ap (λ (x : Writing). write_into x t room) g) ∙ take_at (stores k t) (drop (512 * k) room) (512 * k) (length-stores k t)
+      ap (take (512 * k)) (f ∙ ap (λ (x : Answer ℕ). write_into x t room) g) ∙ take_at (stores k t) (drop (512 * k) room) (512 * k) (length-stores k t)
       ∙ ap (λ (x : ℕ). stores x t) (sym w.1) ∙ ap (λ (x : List ℕ). stores (sites (length x)) x) e

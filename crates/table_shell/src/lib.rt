@@ -6,9 +6,7 @@ ghost use Rattle.std.specs.Prelude.{◌≡◌};
 ghost use Rattle.table_made.specs.Made.{made};
 ghost use Rattle.table_shell.specs.Filed.{image_in};
 
-use files::Fetched;
-use image_write::Writing;
-use table_made::Made;
+use table_made::Fault;
 
 // Puts the image of the table that a text is on file, and no other bytes.
 fn put_on_file(rt: &HostRuntime, text: &[u8], image: &[u8], name: usize) -> bool
@@ -18,7 +16,7 @@ fn put_on_file(rt: &HostRuntime, text: &[u8], image: &[u8], name: usize) -> bool
 }
 
 // Says what a text is: on standard error where it is none.
-fn tell(rt: &HostRuntime, text: &[u8], answer: Made)
+fn tell(rt: &HostRuntime, text: &[u8], answer: Result<u64, Fault>)
     requires { answer ≡ made text.now 4032 }
 {
     let mut room = [0u8; 512];
@@ -34,14 +32,14 @@ fn tell(rt: &HostRuntime, text: &[u8], answer: Made)
 fn make_table(rt: &HostRuntime, text: &[u8], name: usize) {
     let mut table = [0u64; 4032];
     let answer = table_made::make(text, &mut table);
-    let Made::Sites(n) = answer else {
+    let Ok(n) = answer else {
         tell(rt, text, answer);
         return;
     };
-    let end = 63 * (n as usize);
+    let end = 63 * n as usize;
     let mut image = [0u8; 32768];
     let written = image_write::write(&table[..end], &mut image);
-    let Writing::Sites(k) = written else {
+    let Ok(k) = written else {
         files::complain(
             rt,
             b"desk make TEXT TABLE: the table is not sound, and nothing was written\n",
@@ -63,7 +61,7 @@ fn empty() -> [u8; 786432] {
 pub fn make_of(rt: &HostRuntime, words: usize, name: usize) {
     let mut text = empty();
     let whole = files::fetch(rt, b"desk make TEXT TABLE", words, &mut text);
-    let Fetched::Bytes(n) = whole else {
+    let Some(n) = whole else {
         return;
     };
     let text = &text[..n];

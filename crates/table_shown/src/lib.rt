@@ -1,9 +1,8 @@
 // A table of groups, written as a person writes it.
 #![tactic(auto)]
 
-ghost use Rattle.std.specs.Prelude.{◌≡◌, cond, [], ◌+◌, ◌*◌, ◌/◌, ◌≤◌, ◌<◌, eqb, length};
+ghost use Rattle.std.specs.Prelude.{◌≡◌, cond, [], ◌+◌, ◌*◌, ◌/◌, ◌≤◌, ◌<◌, eqb, length, Ok};
 ghost use Rattle.ground.specs.Pieces.{cat};
-ghost use Rattle.refusals.specs.declared.Check.TheVariants.{Sound};
 ghost use Rattle.rows.specs.Site.{count, slice};
 ghost use Rattle.table.specs.Table.{Table, check};
 ghost use Rattle.text.specs.Text.{ascii};
@@ -41,10 +40,8 @@ fn put_groups(room: &mut [u8], at: usize, m: &[u64], many: usize) -> usize
     ensures { Writes (cat (placed m.now) many) room.old at result room.new }
 {
     let mut end = at;
-    let mut k: usize = 0;
-    while k < many {
+    for k in 0..many {
         end = put_placed(room, end, m, k);
-        k += 1;
     }
     end
 }
@@ -81,17 +78,15 @@ fn put_rows(room: &mut [u8], at: usize, table: &[u64], n: usize) -> usize
     ensures { Writes (rows table.now n) room.old at result room.new }
 {
     let mut end = at;
-    let mut v: usize = 0;
-    while v < n {
+    for v in 0..n {
         end = put_row(room, end, v as u64, &table[63 * v..63 * v + 63]);
-        v += 1;
     }
     end
 }
 
 // A sound table as text at the start of a lent room: the answer is the text's length, and what stands behind it is kept.
 pub fn show(room: &mut [u8], table: &[u64]) -> usize
-    requires table_value { check table.now ≡ Sound }
+    requires table_value { check table.now ≡ Ok tt }
     requires in_bounds { 770147 ≤ length room.old }
     ensures { Writes (show table.now) room.old 0 result room.new }
 {

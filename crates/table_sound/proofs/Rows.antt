@@ -1,4 +1,5 @@
 -- The row of a site so far: its groups, ascending, then zeros. A group that is taken joins them in its place.
+use Rattle.std.specs.Prelude.{Ok}
 use Prim.Native.Nat.{ℕ, suc, ◌+◌, ◌-◌, ◌^◌, ◌≤◌, ◌<◌}
 use mathlib.Core.Bool.{true, false}
 use mathlib.Core.List.{List, [], ◌∷◌, ◌++◌}
@@ -16,7 +17,6 @@ use Rattle.masks.proofs.Laws.Subsets.{mem}
 use Rattle.masks.specs.Mask.{has, ◌∈◌}
 use Rattle.refusals.proofs.First.{missed, passed, kept}
 use Rattle.refusals.specs.First.{refuse}
-use Rattle.refusals.specs.declared.Check.TheVariants.{Sound}
 use Rattle.refusals.specs.declared.Refusal.TheVariants.{Slice, Order}
 use Rattle.refusals.specs.declared.Refusal.TheVariants.{Count as Groups}
 use Rattle.rows.specs.Site.{count, slice}
@@ -85,7 +85,7 @@ holds-any {n} {v} {m} k e r = of r.groups r.shape (sym (ap count r.shape) ∙ e)
     of (x ∷ l) s z = absurd (omega arith)
 
 -- a group that passes its check
-module _ (n v q : ℕ) (m : List ℕ) (r : Holds n v m) (f : q < 2 ^ n) (c : group_check v q m ≡ Sound) where
+module _ (n v q : ℕ) (m : List ℕ) (r : Holds n v m) (f : q < 2 ^ n) (c : group_check v q m ≡ Ok tt) where
   passes : (count m ≤ 61) × (has q v ≡ true) × (known q m ≡ false)
   unfolding group_check
   passes =

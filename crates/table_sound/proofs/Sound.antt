@@ -20,8 +20,9 @@ use Rattle.table_grammar.specs.declared.Phase.{Phase}
 use Rattle.table_grammar.specs.declared.Phase.TheVariants.{Head, Count, Tail, Owner, Mark, First, More, Wrong}
 use Rattle.table_grammar.specs.declared.Spot.{Spot}
 use Rattle.table_made.specs.Made.{is_whole, answer_of, made_of, numbers, or_short, made, leaves, table_in}
-use Rattle.table_made.specs.declared.Made.{Made}
-use Rattle.table_made.specs.declared.Made.TheVariants.{Sites, Fault, Room}
+use Rattle.std.specs.Prelude.{Result, Ok, Err}
+use Rattle.table_made.specs.declared.Fault.{Fault}
+use Rattle.table_made.specs.declared.Fault.TheVariants.{Line, Room}
 use Rattle.table_reading.specs.Reading.{start, text_read}
 use Rattle.table_reading.proofs.Steps.{text-sane}
 use Rattle.table_sound.proofs.Places.{part-front, part-zeros}
@@ -77,16 +78,16 @@ ends First b e = absurd (false≢true e)
 ends More b e = absurd (false≢true e)
 ends (Wrong w) b e = absurd (false≢true e)
 
-answered : (s : Spot) (n : ℕ) → answer_of s ≡ Sites n → (s.phase ≡ Owner) × (s.n ≤ s.v) × (s.n ≡ n)
+answered : (s : Spot) (n : ℕ) → answer_of s ≡ Ok n → (s.phase ≡ Owner) × (s.n ≤ s.v) × (s.n ≡ n)
 unfolding answer_of
 answered s n e = pick (is_whole s.phase (ltb s.v s.n)) refl e
   where
-    pick : (b : Bool) → is_whole s.phase (ltb s.v s.n) ≡ b → cond b (Sites s.n) (Fault s.line (expected s.phase (ltb s.v s.n))) ≡ Sites n
+    pick : (b : Bool) → is_whole s.phase (ltb s.v s.n) ≡ b → cond b (Ok s.n) (Err (Line s.line (expected s.phase (ltb s.v s.n)))) ≡ Ok n
         → (s.phase ≡ Owner) × (s.n ≤ s.v) × (s.n ≡ n)
     pick true w e = let h = ends s.phase (ltb s.v s.n) w in (h.0, ltb-false s.v s.n h.1, cc)
     pick false w e = let z : ◌≡◌ {A = ℕ} 0 1 = cc in absurd (omega arith)
 
-module _ (s : Spot) (t : List ℕ) (n : ℕ) (f : Sane s) (g : Good s t) (e : answer_of s ≡ Sites n) where
+module _ (s : Spot) (t : List ℕ) (n : ℕ) (f : Sane s) (g : Good s t) (e : answer_of s ≡ Ok n) where
   made_table : Table (take (63 * n) t) n
   made_table =
       let a = answered s n e in
@@ -109,7 +110,7 @@ begins zeros e =
       stage = λ u l. ap count (row u l);
     }
 
-read_table : (text zeros : List ℕ) (n : ℕ) → zeros ≡ replicate 4032 0 → answer_of (text_read text zeros).spot ≡ Sites n
+read_table : (text zeros : List ℕ) (n : ℕ) → zeros ≡ replicate 4032 0 → answer_of (text_read text zeros).spot ≡ Ok n
     → Table (take (63 * n) (text_read text zeros).table) n
 read_table text zeros n z e =
     made_table (text_read text zeros).spot (text_read text zeros).table n (text-sane text zeros) (text-good text zeros (begins zeros z)) e
@@ -117,25 +118,25 @@ read_table text zeros n z e =
 pub made-sound : MadeSound
 unfolding table_in made_of
 made-sound text n e =
-    subst (λ (m : Made). Table (take (numbers m) (text_read text (replicate 4032 0)).table) n) (sym e) (read_table text (replicate 4032 0) n refl e)
+    subst (λ (m : Result ℕ Fault). Table (take (numbers m) (text_read text (replicate 4032 0)).table) n) (sym e) (read_table text (replicate 4032 0) n refl e)
 
 -- the public call
-unshort : (room : ℕ) (m : Made) (n : ℕ) → or_short room m ≡ Sites n → (m ≡ Sites n) × (63 * n ≤ room)
+unshort : (room : ℕ) (m : Result ℕ Fault) (n : ℕ) → or_short room m ≡ Ok n → (m ≡ Ok n) × (63 * n ≤ room)
 unshort room m n e = pick (ltb room (numbers m)) refl e
   where
-    pick : (b : Bool) → ltb room (numbers m) ≡ b → cond b Room m ≡ Sites n → (m ≡ Sites n) × (63 * n ≤ room)
+    pick : (b : Bool) → ltb room (numbers m) ≡ b → cond b (Err Room) m ≡ Ok n → (m ≡ Ok n) × (63 * n ≤ room)
     pick true w e = let z : ◌≡◌ {A = ℕ} 0 1 = cc in absurd (omega arith)
-    pick false w e = (e, subst (λ (x : Made). numbers x ≤ room) e (ltb-false room (numbers m) w))
+    pick false w e = (e, subst (λ (x : Result ℕ Fault). numbers x ≤ room) e (ltb-false room (numbers m) w))
 
-left : (text room : List ℕ) (n : ℕ) → made text (length room) ≡ Sites n → take (63 * n) (leaves text room) ≡ table_in text
+left : (text room : List ℕ) (n : ℕ) → made text (length room) ≡ Ok n → take (63 * n) (leaves text room) ≡ table_in text
 unfolding leaves made table_in
 left text room n e =
     let u = unshort (length room) (answer_of (made_of text).spot) n e in
     let T : List ℕ = (made_of text).table in
     let k = (made-sound text n u.0).long in
-    ap (λ (m : Made). take (63 * n) (take (numbers m) T ++ drop (numbers m) room)) e
-    ∙ take_at (take (63 * n) T) (drop (63 * n) room) (63 * n) (sym (ap (λ (m : Made). length (take (numbers m) T)) u.0) ∙ k)
-    ∙ sym (ap (λ (m : Made). take (numbers m) T) u.0)
+    ap (λ (m : Result ℕ Fault). take (63 * n) (take (numbers m) T ++ drop (numbers m) room)) e
+    ∙ take_at (take (63 * n) T) (drop (63 * n) room) (63 * n) (sym (ap (λ (m : Result ℕ Fault). length (take (numbers m) T)) u.0) ∙ k)
+    ∙ sym (ap (λ (m : Result ℕ Fault). take (numbers m) T) u.0)
 
 pub left-sound : LeftSound
 unfolding made

@@ -1,4 +1,6 @@
 -- Each byte keeps the rows so far sound; those of the lines that are read through have a group.
+use Rattle.refusals.specs.Check.{Check}
+use Rattle.std.specs.Prelude.{Ok, Err}
 use Prim.Native.Nat.{ℕ, ◌+◌, ◌*◌, ◌^◌, ◌≤◌, ◌<◌}
 use mathlib.Core.Bool.{Bool, true, false, not, ◌||◌, cond, false≢true}
 use mathlib.Core.List.{List, [], ◌∷◌}
@@ -16,8 +18,6 @@ use Rattle.masks.proofs.Laws.AllBelow.{in_all, ⊆-all}
 use Rattle.masks.proofs.Laws.Single.{single-⊆}
 use Rattle.masks.proofs.Laws.Subsets.{or-⊆, below-⊆}
 use Rattle.masks.specs.Mask.{has}
-use Rattle.refusals.specs.declared.Check.{Check}
-use Rattle.refusals.specs.declared.Check.TheVariants.{Sound, Refused}
 use Rattle.rows.specs.Site.{count}
 use Rattle.table.specs.Table.{site_of, count_of}
 use Rattle.table_words.specs.Words.{sign_of, spelled, whole, ended, said, closing, stopped}
@@ -235,7 +235,7 @@ module _ (k : Token) (s : Spot) (t : List ℕ) (sane : Sane s) (g : Good s t) wh
   near = omega (arith, g.base.long)
 
   -- the group joins its site
-  taken : check_of s t ≡ Sound → s.phase ≡ More → Judged k s (put t (own s.v) (joined s.q (row_of s t)))
+  taken : check_of s t ≡ Ok tt → s.phase ≡ More → Judged k s (put t (own s.v) (joined s.q (row_of s t)))
   unfolding check_of
   taken c p =
       let w : ℕ = own s.v in
@@ -262,8 +262,8 @@ module _ (k : Token) (s : Spot) (t : List ℕ) (sane : Sane s) (g : Good s t) wh
       }
 
   decided : (c : Check) → check_of s t ≡ c → s.phase ≡ More → Judged k (ruled c s) (entered c s t)
-  decided Sound e p = taken e p
-  decided (Refused r) e p =
+  decided (Ok _) e p = taken e p
+  decided (Err r) e p =
       record { good = wrong-good s t g.base _; some = λ a b. let z : ◌≡◌ {A = ℕ} 0 1 = cc in absurd (omega arith) }
 
   pub judged-good : Judged k (judged s k t) (kept s k t)

@@ -5,8 +5,6 @@ ghost use Rattle.io.specs.Counts.{IsPrefixLen};
 ghost use Rattle.text.specs.Written.{Writes};
 ghost use Rattle.table_text.specs.ShowText.{show_text};
 
-use image::Reading;
-
 // Room for the text of every table, the longest of which has 770,057 bytes.
 pub const SHOWN: usize = 786432;
 
@@ -18,10 +16,10 @@ pub fn show(image: &[u8], room: &mut [u8; SHOWN]) -> usize
     let mut table = [0u64; 4032];
     let q = image::read(image, &mut table);
     match q {
-        Reading::Sites(n) => {
+        Ok(n) => {
             let n = n as usize;
             table_shown::show(room, &table[..63 * n])
         }
-        Reading::Refused(r) => refusal_lines::put_explained(room, 0, r),
+        Err(r) => refusal_lines::put_explained(room, 0, r),
     }
 }

@@ -1,6 +1,6 @@
 -- From bytes to words. A text is heard byte by byte. A word ends at a blank, a tab, a colon, a bar, the end of the line or a comment; "a line ends with
 -- LF or CR LF", so that what follows a CR and is no LF is a word that is none.
-use Rattle.std.specs.Prelude.{ℕ, ◌+◌, ◌-◌, ◌*◌, Bool, true, false, ◌&&◌, ◌||◌, not, cond, eqb, ltb, get_or}
+use Rattle.std.specs.Prelude.{ℕ, ◌+◌, ◌-◌, ◌*◌, ◌&&◌, ◌||◌, not, cond, eqb, ltb, get_or}
 use Rattle.text.specs.Text.{ascii}
 use Rattle.table_words.specs.declared.Begun.{Begun}
 use Rattle.table_words.specs.declared.Begun.TheVariants.{Fresh, Gap, Digits, Letters, Odd, Return, Comment}

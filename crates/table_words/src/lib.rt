@@ -41,48 +41,39 @@ pub enum Token {
 }
 
 // One digit more; 65 stands for every number over 64.
+#[tactic(auto, unfolding(crate::specs::Words::counts, crate::specs::Words::grown))]
 fn counts(x: u64, b: u8) -> Begun
     ensures { result ≡ counts x b }
 {
-    if b < 48 {
-        return Begun::Odd;
-    }
-    if 57 < b {
+    if b < b'0' || b'9' < b {
         return Begun::Odd;
     }
     if 64 < x {
         return Begun::Digits(65);
     }
-    let d = (b - 48) as u64;
-    let y = 10 * x + d;
-    if y < 65 {
-        return Begun::Digits(y);
-    }
-    Begun::Digits(65)
+    let y = 10 * x + u64::from(b - b'0');
+    Begun::Digits(y.min(65))
 }
 
 // One letter more of `sites`.
+#[tactic(auto, unfolding(crate::specs::Words::spelt))]
 fn spelt(k: u64, b: u8) -> Begun
     ensures { result ≡ spelt k b }
 {
     let word = b"sites";
-    if 4 < k {
-        return Begun::Odd;
+    if k < 5 && word[k as usize] == b {
+        Begun::Letters(k + 1)
+    } else {
+        Begun::Odd
     }
-    if word[k as usize] == b {
-        return Begun::Letters(k + 1);
-    }
-    Begun::Odd
 }
 
 // The first byte of a word.
+#[tactic(auto, unfolding(crate::specs::Words::opens))]
 fn opens(b: u8) -> Begun
     ensures { result ≡ opens b }
 {
-    if b < 58 {
-        return counts(0, b);
-    }
-    spelt(0, b)
+    if b <= b'9' { counts(0, b) } else { spelt(0, b) }
 }
 
 // A byte that is a part of a word.
@@ -90,52 +81,36 @@ fn word_on(w: Begun, b: u8) -> Begun
     ensures { result ≡ word_on w b }
 {
     match w {
-        Begun::Fresh => opens(b),
-        Begun::Gap => opens(b),
+        Begun::Fresh | Begun::Gap => opens(b),
         Begun::Digits(x) => counts(x, b),
         Begun::Letters(k) => spelt(k, b),
-        Begun::Odd => Begun::Odd,
-        Begun::Return => Begun::Odd,
+        Begun::Odd | Begun::Return => Begun::Odd,
         Begun::Comment => Begun::Comment,
     }
 }
 
 // What a byte is outside comments.
+#[tactic(auto, unfolding(crate::specs::Words::plain))]
 fn plain(b: u8) -> Sign
     ensures { result ≡ plain b }
 {
-    if b == 10 {
-        return Sign::Line;
+    match b {
+        b'\n' => Sign::Line,
+        b'#' => Sign::Note,
+        b':' => Sign::Colon,
+        b'|' => Sign::Bar,
+        b'\r' => Sign::Return,
+        b' ' | b'\t' => Sign::Blank,
+        _ => Sign::Part,
     }
-    if b == 35 {
-        return Sign::Note;
-    }
-    if b == 58 {
-        return Sign::Colon;
-    }
-    if b == 124 {
-        return Sign::Bar;
-    }
-    if b == 13 {
-        return Sign::Return;
-    }
-    if b == 32 {
-        return Sign::Blank;
-    }
-    if b == 9 {
-        return Sign::Blank;
-    }
-    Sign::Part
 }
 
 // LF, or else something that every other byte is.
+#[tactic(auto, unfolding(crate::specs::Words::or_line))]
 fn or_line(b: u8, other: Sign) -> Sign
     ensures { result ≡ or_line b other }
 {
-    if b == 10 {
-        return Sign::Line;
-    }
-    other
+    if b == b'\n' { Sign::Line } else { other }
 }
 
 // What a byte is where a word is in hand.
@@ -143,13 +118,9 @@ pub fn sign_of(w: Begun, b: u8) -> Sign
     ensures { result ≡ sign_of w b }
 {
     match w {
-        Begun::Fresh => plain(b),
-        Begun::Gap => plain(b),
-        Begun::Digits(_) => plain(b),
-        Begun::Letters(_) => plain(b),
-        Begun::Odd => plain(b),
         Begun::Return => or_line(b, Sign::Part),
         Begun::Comment => or_line(b, Sign::Note),
+        _ => plain(b),
     }
 }
 
@@ -160,22 +131,18 @@ pub fn turn(c: Sign, w: Begun, b: u8) -> Begun
     match c {
         Sign::Line => Begun::Fresh,
         Sign::Note => Begun::Comment,
-        Sign::Colon => Begun::Gap,
-        Sign::Bar => Begun::Gap,
+        Sign::Colon | Sign::Bar | Sign::Blank => Begun::Gap,
         Sign::Return => Begun::Return,
-        Sign::Blank => Begun::Gap,
         Sign::Part => word_on(w, b),
     }
 }
 
 // `sites` is whole after five letters.
+#[tactic(auto, unfolding(crate::specs::Words::spelled))]
 fn spelled(k: u64) -> Token
     ensures { result ≡ spelled k }
 {
-    if k == 5 {
-        return Token::Sites;
-    }
-    Token::Strange
+    if k == 5 { Token::Sites } else { Token::Strange }
 }
 
 // A word that is complete.
@@ -183,13 +150,10 @@ fn whole(w: Begun) -> Token
     ensures { result ≡ whole w }
 {
     match w {
-        Begun::Fresh => Token::Silence,
-        Begun::Gap => Token::Silence,
         Begun::Digits(x) => Token::Number(x),
         Begun::Letters(k) => spelled(k),
         Begun::Odd => Token::Strange,
-        Begun::Return => Token::Silence,
-        Begun::Comment => Token::Silence,
+        _ => Token::Silence,
     }
 }
 
@@ -198,13 +162,8 @@ pub fn ended(c: Sign, w: Begun) -> Token
     ensures { result ≡ ended c w }
 {
     match c {
-        Sign::Line => whole(w),
-        Sign::Note => whole(w),
-        Sign::Colon => whole(w),
-        Sign::Bar => whole(w),
-        Sign::Return => whole(w),
-        Sign::Blank => whole(w),
         Sign::Part => Token::Silence,
+        _ => whole(w),
     }
 }
 
@@ -214,12 +173,9 @@ pub fn said(c: Sign) -> Token
 {
     match c {
         Sign::Line => Token::End,
-        Sign::Note => Token::Silence,
         Sign::Colon => Token::Colon,
         Sign::Bar => Token::Bar,
-        Sign::Return => Token::Silence,
-        Sign::Blank => Token::Silence,
-        Sign::Part => Token::Silence,
+        _ => Token::Silence,
     }
 }
 
@@ -229,12 +185,7 @@ pub fn closing(w: Begun) -> Sign
 {
     match w {
         Begun::Fresh => Sign::Note,
-        Begun::Gap => Sign::Line,
-        Begun::Digits(_) => Sign::Line,
-        Begun::Letters(_) => Sign::Line,
-        Begun::Odd => Sign::Line,
-        Begun::Return => Sign::Line,
-        Begun::Comment => Sign::Line,
+        _ => Sign::Line,
     }
 }
 
@@ -243,12 +194,7 @@ pub fn stopped(w: Begun) -> Begun
     ensures { result ≡ stopped w }
 {
     match w {
-        Begun::Fresh => Begun::Fresh,
-        Begun::Gap => Begun::Gap,
-        Begun::Digits(x) => Begun::Digits(x),
-        Begun::Letters(k) => Begun::Letters(k),
-        Begun::Odd => Begun::Odd,
         Begun::Return => Begun::Odd,
-        Begun::Comment => Begun::Comment,
+        _ => w,
     }
 }

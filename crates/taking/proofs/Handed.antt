@@ -1,9 +1,9 @@
 -- A call that is worked under one answer is worked under an equal one.
+use Rattle.refusals.specs.Check.{Check}
 use Prim.Native.Nat.{ℕ}
 use mathlib.Core.Bool.{Bool}
 use mathlib.Core.List.{List}
 use mathlib.Core.Path.{◌≡◌, sym, subst}
-use Rattle.refusals.specs.declared.Check.{Check}
 use Rattle.votes.specs.Call.{Call}
 use Rattle.votes.specs.Inner.{Works}
 use Rattle.votes.specs.Vote.{Vote}

@@ -1,9 +1,8 @@
 // A call on a sound state: its answer, and whether the state changed.
 #![tactic(auto)]
 
-ghost use Rattle.std.specs.Prelude.{◌≡◌};
+ghost use Rattle.std.specs.Prelude.{◌≡◌, Ok};
 ghost use Rattle.asking.specs.Inner.{Known};
-ghost use Rattle.refusals.specs.declared.Check as Answer;
 ghost use Rattle.rules.specs.Rules.{answer};
 ghost use Rattle.rules.specs.Sound.{Sound};
 ghost use Rattle.rules.specs.Inner.{row_vote};
@@ -11,7 +10,7 @@ ghost use Rattle.sets.specs.Inner.Rows.{Rows, row_questions};
 ghost use Rattle.votes.specs.Call.{call};
 ghost use Rattle.votes.specs.Inner.{Works};
 
-use refusals::Check;
+use refusals::Refusal;
 
 // A call that is answered 0, on a sound state: whether it changes the state. A call whose bit is heard already changes nothing and is not worked out again, and
 // of a vote that is heard in vain nothing else changes.
@@ -28,9 +27,9 @@ pub fn change(
 ) -> bool
     requires rows { Rows table.now n }
     requires sound { Sound (row_questions table.now n) n faulty state.old }
-    requires state_value { answer n faulty (call kind from to side) state.old ≡ Answer.Check.Sound }
+    requires state_value { answer n faulty (call kind from to side) state.old ≡ Ok tt }
     requires known { Known (row_questions table.now n) known.old }
-    ensures works { Works (row_vote table.now n faulty) (call kind from to side) state.old Answer.Check.Sound result state.new }
+    ensures works { Works (row_vote table.now n faulty) (call kind from to side) state.old (Ok tt) result state.new }
     ensures known_2 { Known (row_questions table.now n) known.new }
 {
     if answers::is_heard(n, state, kind, from, to, side) {
@@ -48,7 +47,7 @@ pub fn change(
 // The answer of a call, and whether it changed the state.
 #[derive(Clone, Copy)]
 pub struct Worked {
-    pub answer: Check,
+    pub answer: Result<(), Refusal>,
     pub changed: bool,
 }
 
@@ -69,7 +68,7 @@ pub fn work(
     ensures { Works (row_vote table.now n faulty) (call kind from to side) state.old result.answer result.changed state.new }
 {
     let a = answers::answer(n, faulty, state, kind, from, to, side);
-    let Check::Sound = a else {
+    let Ok(()) = a else {
         return Worked {
             answer: a,
             changed: false,

@@ -1,7 +1,7 @@
 -- What typed digits are worth, and the mask that they are.
-use Prim.Native.Nat.{ℕ, zero, suc, ◌+◌, ◌-◌, ◌*◌, ◌^◌, ◌≤◌, ◌<◌}
+use Prim.Native.Nat.{ℕ, zero, suc, ◌+◌, ◌*◌, ◌^◌, ◌≤◌, ◌<◌}
 use mathlib.Core.Bool.{Bool, true}
-use mathlib.Core.List.{List}
+use mathlib.Core.List.{List, [], ◌∷◌}
 use mathlib.Core.Path.{◌≡◌, refl}
 use native.Mathlib.Nat.{le_refl, le-suc, le_trans, lt_of_lt_of_le, pow-le-pow_right, pow-succ'}
 use native.Mathlib.Numerals.{add-one}
@@ -9,10 +9,12 @@ use native.Mathlib.Omega.{arith}
 use lib.Dec.{ltb}
 use lib.ListN.{length, get_or}
 use borrow.Author.Tests.{lt-ltb, le-ltb, ltb-true}
+use Rattle.std.proofs.lemmas.Bool.Decides.{nat_tests}
+use Rattle.std.specs.Char.{digit_value}
 use Rattle.ground.specs.Search.{every}
 use Rattle.ground.proofs.Every.{every_of, every-at, every-not}
 use Rattle.text.specs.Text.{worth, value, typed}
-use Rattle.text.specs.declared.Typed.TheVariants.{Mask, NoMask}
+use Rattle.std.proofs.Common.{Some, None}
 
 -- the byte is a digit
 abbrev pub digit : List ℕ → ℕ → Bool
@@ -38,58 +40,30 @@ value-below l (suc k) e =
 pub value-fits : (l : List ℕ) (k : ℕ) → k ≤ 16 → every k (digit l) ≡ true → value l k < 2 ^ 64
 value-fits l k h e = lt_of_lt_of_le (value-below l k e) (le_trans (pow-le-pow_right {n = 16} (omega arith) h) (omega arith))
 
--- what a byte is worth
-pub below-0 : (b : ℕ) → b < 48 → worth b ≡ 16
+-- a byte is worth its value as a digit, if that is below 16
+pub worth-digit : (b : ℕ) → digit_value b < 16 → worth b ≡ digit_value b
 unfolding worth
-below-0 b h = rw (lt-ltb b 48 h, lt-ltb b 97 (omega arith), lt-ltb b 65 (omega arith)) refl
+worth-digit b h = grind (arith, nat_tests)
 
-pub 0-to-9 : (b : ℕ) → 48 ≤ b → b < 58 → worth b ≡ b - 48
+worth-none : (b : ℕ) → 16 ≤ digit_value b → worth b ≡ 16
 unfolding worth
-0-to-9 b l h = rw (le-ltb b 48 l, lt-ltb b 58 h) refl
+worth-none b h = grind (arith, nat_tests)
 
-pub below-A : (b : ℕ) → 58 ≤ b → b < 65 → worth b ≡ 16
-unfolding worth
-below-A b l h = rw (le-ltb b 48 (omega arith), le-ltb b 58 l, lt-ltb b 97 (omega arith), lt-ltb b 65 h) refl
-
-pub A-to-F : (b : ℕ) → 65 ≤ b → b < 71 → worth b ≡ b - 55
-unfolding worth
-A-to-F b l h = rw (le-ltb b 48 (omega arith), le-ltb b 58 (omega arith), lt-ltb b 97 (omega arith), le-ltb b 65 l, lt-ltb b 71 h) refl
-
-pub below-a : (b : ℕ) → 71 ≤ b → b < 97 → worth b ≡ 16
-unfolding worth
-below-a b l h = rw (le-ltb b 48 (omega arith), le-ltb b 58 (omega arith), lt-ltb b 97 h, le-ltb b 65 (omega arith), le-ltb b 71 l) refl
-
-pub a-to-f : (b : ℕ) → 97 ≤ b → b < 103 → worth b ≡ b - 87
-unfolding worth
-a-to-f b l h = rw (le-ltb b 48 (omega arith), le-ltb b 58 (omega arith), le-ltb b 97 l, lt-ltb b 103 h) refl
-
-pub above-f : (b : ℕ) → 103 ≤ b → worth b ≡ 16
-unfolding worth
-above-f b l =
-    rw (
-      le-ltb b 48 (omega arith),
-      le-ltb b 58 (omega arith),
-      le-ltb b 97 (omega arith),
-      le-ltb b 103 l,
-      le-ltb b 65 (omega arith),
-      le-ltb b 71 (omega arith),
-    )
-    refl
+pub digit-at : (l : List ℕ) (i : ℕ) → digit_value (get_or l i 0) < 16 → digit l i ≡ true
+digit-at l i h = lt-ltb (worth (get_or l i 0)) 16 (rw (worth-digit (get_or l i 0) h) h)
 
 -- the ways out
-pub too_few : (l : List ℕ) → length l < 1 → typed l ≡ NoMask
+pub wrong_length : (l : List ℕ) → (1 ≤ length l → 16 < length l) → typed l ≡ None
 unfolding typed
-too_few l h = rw (lt-ltb (length l) 1 h) refl
+wrong_length [] h = refl
+wrong_length (b ∷ l) h = rw (le-ltb (length (b ∷ l)) 1 (omega arith), lt-ltb 16 (length (b ∷ l)) (h (omega arith))) refl
 
-pub too_many : (l : List ℕ) → 16 < length l → typed l ≡ NoMask
+pub no_digit : (l : List ℕ) (i : ℕ) → 1 ≤ length l → length l ≤ 16 → i < length l → (digit_value (get_or l i 0) < 16 → ⊥) → typed l ≡ None
 unfolding typed
-too_many l h = rw (le-ltb (length l) 1 (omega arith), lt-ltb 16 (length l) h) refl
-
-pub no_digit : (l : List ℕ) (i : ℕ) → 1 ≤ length l → length l ≤ 16 → i < length l → 16 ≤ worth (get_or l i 0) → typed l ≡ NoMask
-unfolding typed
-no_digit l i a b h w =
+no_digit l i a b h v =
+    let w : 16 ≤ worth (get_or l i 0) = rw (worth-none (get_or l i 0) (omega arith)) (omega arith) in
     rw (le-ltb (length l) 1 a, le-ltb 16 (length l) b, every-not (length l) (digit l) h (le-ltb (worth (get_or l i 0)) 16 w)) refl
 
-pub all_digits : (l : List ℕ) → 1 ≤ length l → length l ≤ 16 → every (length l) (digit l) ≡ true → typed l ≡ Mask (value l (length l))
+pub all_digits : (l : List ℕ) → 1 ≤ length l → length l ≤ 16 → every (length l) (digit l) ≡ true → typed l ≡ Some (value l (length l))
 unfolding typed
 all_digits l a b e = rw (le-ltb (length l) 1 a, le-ltb 16 (length l) b, e) refl

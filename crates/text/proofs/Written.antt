@@ -1,12 +1,10 @@
 -- Laws of text in a lent room: one text behind the other is one text.
-use Prim.Native.Nat.{ℕ, ◌+◌, ◌≤◌, ◌<◌}
+use Prim.Native.Nat.{ℕ, ◌+◌, ◌≤◌}
 use mathlib.Core.List.{List, [], ◌++◌, append_assoc}
 use mathlib.Core.Path.{◌≡◌, sym, ap, ◌∙◌}
 use native.Mathlib.Nat.{add_assoc}
-use native.Mathlib.Numerals.{add-one}
-use native.Mathlib.Omega.{arith}
-use lib.ListN.{length, take, drop, set, get_or, length-append}
-use lib.Seq.{paste, paste-zero, paste-suc, take-length, take_at, drop_at, drop-drop, length-take-le}
+use lib.ListN.{length, take, drop, length-append}
+use lib.Seq.{paste, paste-zero, take-length, take_at, drop_at, drop-drop, length-take-le}
 use Rattle.io.specs.Counts.{IsPrefixLen}
 use Rattle.text.specs.Written.{written, Writes}
 
@@ -19,11 +17,6 @@ written-paste room at text = ap (λ (x : List ℕ). take at room ++ x ++ drop (a
 pub written-nothing : (room : List ℕ) (at : ℕ) → written room at [] ≡ room
 unfolding written
 written-nothing room at = sym (paste-zero room at [])
-
--- a turn of the loop that writes
-pub turn : (room₀ room words : List ℕ) (at i : ℕ) → room ≡ paste room₀ at words i → at + length words ≤ length room₀ → i < length words
-    → set room (at + i) (get_or words i 0) ≡ paste room₀ at words (i + 1)
-turn room₀ room words at i e h l = rw (e, add-one i) (paste-suc room₀ at words i 0 (omega arith) l)
 
 -- a text, and a second one behind it
 written_then : (A B before : List ℕ) (at : ℕ) → at ≤ length before

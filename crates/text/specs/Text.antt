@@ -1,11 +1,9 @@
 -- What the programs print, as bytes: words, numbers and masks, and a mask that was typed.
 use Prim.Native.Char.{code}
-use Rattle.std.specs.Prelude.{ℕ, zero, suc, ◌+◌, ◌-◌, ◌*◌, ◌^◌, ◌&&◌, not, cond, List, [] as nothing, ◌∷◌ as ◌then◌, ltb, length, get_or}
+use Rattle.std.specs.Prelude.{ℕ, zero, suc, ◌+◌, ◌-◌, ◌*◌, ◌^◌, ◌&&◌, not, cond, List, [] as nothing, ◌∷◌ as ◌then◌, ltb, length, get_or, Option, Some, None}
 use Prim.Native.String.{String, [], ◌∷◌}
 use Rattle.ground.specs.Search.{least, every}
 use Rattle.io.specs.Digits.{last_digits}
-use Rattle.text.specs.declared.Typed.{Typed}
-use Rattle.text.specs.declared.Typed.TheVariants.{Mask, NoMask}
 
 -- the bytes of a text, one a character
 abbrev pub ascii : String → List ℕ
@@ -37,8 +35,8 @@ value l zero = 0
 value l (suc k) = 16 * value l k + worth (get_or l k 0)
 
 -- "1 to 16 hexadecimal digits"
-unfoldable pub typed : List ℕ → Typed
+unfoldable pub typed : List ℕ → Option ℕ
 typed l =
     cond (not (ltb (length l) 1) && (not (ltb 16 (length l)) && every (length l) (λ i. ltb (worth (get_or l i 0)) 16)))
-    (Mask (value l (length l)))
-    NoMask
+    (Some (value l (length l)))
+    None

@@ -2,27 +2,17 @@
 #![tactic(auto)]
 
 ghost use Rattle.std.specs.Prelude.{◌≡◌, ◌+◌, ◌≤◌, length};
-ghost use Rattle.text.specs.Text.{decimal, mask, worth, typed};
+ghost use Rattle.text.specs.Text.{decimal, mask, typed};
 ghost use Rattle.text.specs.Written.{Writes};
-
-// A mask, or none where what was typed is not 1 to 16 hexadecimal digits.
-#[derive(Clone, Copy)]
-pub enum Typed {
-    Mask(u64),
-    NoMask,
-}
 
 // Writes the bytes of `words` from place `at` on, and answers the place behind them.
 pub fn put(room: &mut [u8], at: usize, words: &[u8]) -> usize
     requires { at + length words.now ≤ length room.old }
     ensures { Writes words.now room.old at result room.new }
 {
-    let mut i: usize = 0;
-    while i < words.len() {
-        room[at + i] = words[i];
-        i += 1;
-    }
-    at + words.len()
+    let end = at + words.len();
+    room[at..end].copy_from_slice(words);
+    end
 }
 
 // Writes a number in decimal digits. A 64-bit number has at most 20.
@@ -45,52 +35,17 @@ pub fn put_mask(room: &mut [u8], at: usize, m: u64) -> usize
     put(room, at, &digits[..k])
 }
 
-// What a hexadecimal digit is worth, 16 for a byte that is none.
-fn worth(b: u8) -> u64
-    ensures { result ≡ worth b }
-{
-    let x = b as u64;
-    if x < 48 {
-        return 16;
-    }
-    if x < 58 {
-        return x - 48;
-    }
-    if x < 65 {
-        return 16;
-    }
-    if x < 71 {
-        return x - 55;
-    }
-    if x < 97 {
-        return 16;
-    }
-    if x < 103 {
-        return x - 87;
-    }
-    16
-}
-
-// The mask that was typed.
-pub fn mask_typed(word: &[u8]) -> Typed
+// The mask that was typed: `None` where that is not 1 to 16 hexadecimal digits.
+pub fn mask_typed(word: &[u8]) -> Option<u64>
     ensures { result ≡ typed word.now }
 {
-    let n = word.len();
-    if n < 1 {
-        return Typed::NoMask;
-    }
-    if 16 < n {
-        return Typed::NoMask;
+    if !matches!(word.len(), 1..=16) {
+        return None;
     }
     let mut m: u64 = 0;
-    let mut i: usize = 0;
-    while i < n {
-        let d = worth(word[i]);
-        if 16 <= d {
-            return Typed::NoMask;
-        }
-        m = 16 * m + d;
-        i += 1;
+    for b in word {
+        let d = char::from(*b).to_digit(16)?;
+        m = 16 * m + u64::from(d);
     }
-    Typed::Mask(m)
+    Some(m)
 }

@@ -1,4 +1,6 @@
 -- Laws of one block's check: its filler, byte by byte, and a way out each.
+use Rattle.refusals.specs.Check.{Check}
+use Rattle.std.specs.Prelude.{Ok, Err}
 use Prim.Native.Nat.{ℕ, ◌+◌, ◌-◌, ◌*◌, ◌≤◌, ◌<◌}
 use mathlib.Core.Bool.{Bool, true, false, not, or-true}
 use mathlib.Core.List.{List}
@@ -12,8 +14,6 @@ use Rattle.block.specs.Block.{sealed}
 use Rattle.ground.specs.Search.{some}
 use Rattle.refusals.proofs.First.{first-stop}
 use Rattle.refusals.specs.First.{or_else, refuse, first}
-use Rattle.refusals.specs.declared.Check.{Check}
-use Rattle.refusals.specs.declared.Check.TheVariants.{Sound, Refused}
 use Rattle.refusals.specs.declared.Refusal.{Refusal}
 use Rattle.refusals.specs.declared.Refusal.TheVariants.{Sums, Header, Count, Filler, Nesting}
 use Rattle.rows.proofs.Site.{unfilled-more}
@@ -39,51 +39,51 @@ filler-all b many at e q = ap₂ (λ (m k : ℕ). some (k - (8 + 10 * m)) (λ j.
 
 -- a refusal of one of the sets or of what is owed
 between : (a b c : Check) → or_else (or_else a b) c ≡ or_else a (or_else b c)
-between Sound b c = refl
-between (Refused r) b c = refl
+between (Ok _) b c = refl
+between (Err r) b c = refl
 
 -- the ways out of the walk over the sets
 module _ (n place : ℕ) (b : List ℕ) (many : ℕ) where
   abbrev Walk : Check
   Walk = or_else (first (one_set_check n place (sets_in b)) many) (refuse (owing (sets_in b)) (Nesting place))
 
-  pub sets-stop : (i : ℕ) (r : Refusal) → i < many → first (one_set_check n place (sets_in b)) i ≡ Sound → one_set_check n place (sets_in b) i ≡ Refused r → Walk ≡ Refused r
+  pub sets-stop : (i : ℕ) (r : Refusal) → i < many → first (one_set_check n place (sets_in b)) i ≡ Ok tt → one_set_check n place (sets_in b) i ≡ Err r → Walk ≡ Err r
   sets-stop i r l p q =
       ap (λ (c : Check). or_else c (refuse (owing (sets_in b)) (Nesting place))) (first-stop (one_set_check n place (sets_in b)) many i r l p q)
 
   -- all sets are sound, and d levels are open behind the last
-  module _ {d i : ℕ} (m : many ≡ count_field b) (e : i ≡ many) (k : d ≡ length (owed (sets_in b) i)) (p : first (one_set_check n place (sets_in b)) i ≡ Sound) where
+  module _ {d i : ℕ} (m : many ≡ count_field b) (e : i ≡ many) (k : d ≡ length (owed (sets_in b) i)) (p : first (one_set_check n place (sets_in b)) i ≡ Ok tt) where
     behind-last : length (owed (sets_in b) (count_field b)) ≡ d
     behind-last = ap (λ (j : ℕ). length (owed (sets_in b) j)) (sym (e ∙ m)) ∙ sym k
 
     all_sound : Walk ≡ refuse (owing (sets_in b)) (Nesting place)
     all_sound =
-        ap (λ (c : Check). or_else c (refuse (owing (sets_in b)) (Nesting place))) (subst (λ (j : ℕ). first (one_set_check n place (sets_in b)) j ≡ Sound) e p)
+        ap (λ (c : Check). or_else c (refuse (owing (sets_in b)) (Nesting place))) (subst (λ (j : ℕ). first (one_set_check n place (sets_in b)) j ≡ Ok tt) e p)
 
-    pub sets-owing : (d ≡ 0 → ⊥) → Walk ≡ Refused (Nesting place)
+    pub sets-owing : (d ≡ 0 → ⊥) → Walk ≡ Err (Nesting place)
     unfolding owing
     sets-owing f = all_sound ∙ rw (ne_eqb (length (owed (sets_in b) (count_field b))) 0 (λ g. f (sym behind-last ∙ g))) refl
 
-    pub sets-whole : d ≡ 0 → Walk ≡ Sound
+    pub sets-whole : d ≡ 0 → Walk ≡ Ok tt
     unfolding owing
     sets-whole g = all_sound ∙ rw (eq-eqb (length (owed (sets_in b) (count_field b))) 0 (behind-last ∙ g)) refl
 
 -- the ways out
 module _ (n site place : ℕ) (b : List ℕ) where
-  pub wrong-sums : sealed b ≡ false → threshold_block_check n site place b ≡ Refused (Sums place)
+  pub wrong-sums : sealed b ≡ false → threshold_block_check n site place b ≡ Err (Sums place)
   unfolding threshold_block_check
   wrong-sums e = rw e refl
 
   module _ (s : sealed b ≡ true) where
-    pub wrong-site : (site_field b ≡ site → ⊥) → threshold_block_check n site place b ≡ Refused (Header place)
+    pub wrong-site : (site_field b ≡ site → ⊥) → threshold_block_check n site place b ≡ Err (Header place)
     unfolding threshold_block_check misheaded
     wrong-site ne = rw (s, ne_eqb (site_field b) site ne) refl
 
-    pub wrong-n : (sites_field b ≡ n → ⊥) → threshold_block_check n site place b ≡ Refused (Header place)
+    pub wrong-n : (sites_field b ≡ n → ⊥) → threshold_block_check n site place b ≡ Err (Header place)
     unfolding threshold_block_check misheaded
     wrong-n ne = rw (s, ne_eqb (sites_field b) n ne, or-true) refl
 
-    pub wrong-zero : (zero_field b ≡ 0 → ⊥) → threshold_block_check n site place b ≡ Refused (Header place)
+    pub wrong-zero : (zero_field b ≡ 0 → ⊥) → threshold_block_check n site place b ≡ Err (Header place)
     unfolding threshold_block_check misheaded
     wrong-zero ne = rw (s, ne_eqb (zero_field b) 0 ne, or-true, or-true) refl
 
@@ -94,11 +94,11 @@ module _ (n site place : ℕ) (b : List ℕ) where
 
 -- and those of the sets that it holds
 module _ (n place : ℕ) (b : List ℕ) where
-  pub no-set : count_field b ≡ 0 → sets_check n place (sets_in b) (sets_unfilled b) ≡ Refused (Count place)
+  pub no-set : count_field b ≡ 0 → sets_check n place (sets_in b) (sets_unfilled b) ≡ Err (Count place)
   unfolding sets_check
   no-set e = rw (eq-eqb (count_field b) 0 e) refl
 
-  pub too-many-sets : 49 < count_field b → sets_check n place (sets_in b) (sets_unfilled b) ≡ Refused (Count place)
+  pub too-many-sets : 49 < count_field b → sets_check n place (sets_in b) (sets_unfilled b) ≡ Err (Count place)
   unfolding sets_check
   too-many-sets l = rw (lt-ltb 49 (count_field b) l, or-true) refl
 
@@ -118,11 +118,11 @@ module _ (n place : ℕ) (b : List ℕ) where
           ∙ ap (λ (c : Check). or_else c (refuse (sets_unfilled b) (Filler place)))
           (sym (f ∙ ap (λ (k : ℕ). or_else (first (one_set_check n place (sets_in b)) k) (refuse (owing (sets_in b)) (Nesting place))) e))
 
-      pub set-refused : (r : Refusal) → q ≡ Refused r → sets_check n place (sets_in b) (sets_unfilled b) ≡ Refused r
+      pub set-refused : (r : Refusal) → q ≡ Err r → sets_check n place (sets_in b) (sets_unfilled b) ≡ Err r
       set-refused r g = walked ∙ ap (λ (c : Check). or_else c (refuse (sets_unfilled b) (Filler place))) g
 
-      pub unclean : q ≡ Sound → sets_unfilled b ≡ true → sets_check n place (sets_in b) (sets_unfilled b) ≡ Refused (Filler place)
+      pub unclean : q ≡ Ok tt → sets_unfilled b ≡ true → sets_check n place (sets_in b) (sets_unfilled b) ≡ Err (Filler place)
       unclean g u = walked ∙ ap₂ (λ (c : Check) (x : Bool). or_else c (refuse x (Filler place))) g u
 
-      pub clean : q ≡ Sound → sets_unfilled b ≡ false → sets_check n place (sets_in b) (sets_unfilled b) ≡ Sound
+      pub clean : q ≡ Ok tt → sets_unfilled b ≡ false → sets_check n place (sets_in b) (sets_unfilled b) ≡ Ok tt
       clean g u = walked ∙ ap₂ (λ (c : Check) (x : Bool). or_else c (refuse x (Filler place))) g u

@@ -1,11 +1,11 @@
 -- One block of a table of thresholds: "per site one block with 01's header and check, bytes 4 to 5 now the number of sets, 1 to 49, and then sets of ten bytes
 -- in preorder: threshold, number of inner sets, mask of plain sites".
+use Rattle.refusals.specs.Check.{Check}
 use Rattle.std.specs.Prelude.{ℕ, ◌+◌, ◌-◌, ◌*◌, Bool, not, List, eqb, get_or}
 use Rattle.block.specs.Block.{sealed}
 use Rattle.ground.specs.Search.{some}
 use Rattle.le.specs.Le.{field}
 use Rattle.refusals.specs.First.{or_else, refuse}
-use Rattle.refusals.specs.declared.Check.{Check}
 use Rattle.refusals.specs.declared.Refusal.TheVariants.{Sums, Header}
 use Rattle.site_block.specs.Block.{count_field, misheaded}
 use Rattle.threshold_sets.specs.Check.{sets_check}

@@ -8,19 +8,17 @@ ghost use Rattle.threshold_block.specs.Block.{sets_in, sets_unfilled, threshold_
 ghost use Rattle.threshold_block.specs.Inner.{opened};
 ghost use Rattle.threshold_sets.specs.Check.{closed_levels, entered_levels, owed, owing, one_set_check, sets_check};
 
-use refusals::{Check, Refusal};
+use refusals::Refusal;
 
 // Of the open levels those that are left when each innermost one that owes no set is closed: how many.
 fn close(levels: &[u8; 5], depth: usize) -> usize
     requires { depth ≤ 5 }
     ensures { (opened levels.now result ≡ closed_levels (opened levels.now depth)) × (result ≤ depth) }
 {
-    let mut d = depth;
-    while 0 < d {
-        if levels[d - 1] != 0 {
-            return d;
+    for d in (0..depth).rev() {
+        if levels[d] != 0 {
+            return d + 1;
         }
-        d -= 1;
     }
     0
 }
@@ -40,7 +38,7 @@ fn enter(levels: &mut [u8; 5], depth: usize, k: u8) -> usize
 }
 
 // Set i of the block, before which so many levels are open: 5, 21, 22.
-fn check_set(b: &[u8], n: u64, place: u64, i: usize, depth: usize) -> Check
+fn check_set(b: &[u8], n: u64, place: u64, i: usize, depth: usize) -> Result<(), Refusal>
     requires b_len { length b.now ≡ 512 }
     requires n_bound { n ≤ 64 }
     requires i_bound { i < 49 }
@@ -49,26 +47,26 @@ fn check_set(b: &[u8], n: u64, place: u64, i: usize, depth: usize) -> Check
 {
     let plain = le::get64(b, 10 + 10 * i);
     if !masks::within(plain, masks::all_below(n)) {
-        return Check::Refused(Refusal::Slice(place));
+        return Err(Refusal::Slice(place));
     }
-    let threshold = le::wide(b[8 + 10 * i]);
+    let threshold = usize::from(b[8 + 10 * i]);
     if threshold == 0 {
-        return Check::Refused(Refusal::Threshold(place));
+        return Err(Refusal::Threshold(place));
     }
-    if masks::size(plain) as usize + le::wide(b[9 + 10 * i]) < threshold {
-        return Check::Refused(Refusal::Threshold(place));
+    if masks::size(plain) as usize + usize::from(b[9 + 10 * i]) < threshold {
+        return Err(Refusal::Threshold(place));
     }
     if depth == 0 {
-        return Check::Refused(Refusal::Nesting(place));
+        return Err(Refusal::Nesting(place));
     }
     if 4 < depth {
-        return Check::Refused(Refusal::Nesting(place));
+        return Err(Refusal::Nesting(place));
     }
-    Check::Sound
+    Ok(())
 }
 
 // The block's sets: set by set, then 22 if inner sets are owed at the end.
-fn check_sets(b: &[u8], n: u64, place: u64, many: usize) -> Check
+fn check_sets(b: &[u8], n: u64, place: u64, many: usize) -> Result<(), Refusal>
     requires b_len { length b.now ≡ 512 }
     requires n_bound { n ≤ 64 }
     requires many_value { many ≡ count_field b.now }
@@ -78,19 +76,14 @@ fn check_sets(b: &[u8], n: u64, place: u64, many: usize) -> Check
 {
     let mut levels = [1u8, 0, 0, 0, 0];
     let mut depth: usize = 1;
-    let mut i: usize = 0;
-    while i < many {
-        let q = check_set(b, n, place, i, depth);
-        let Check::Sound = q else {
-            return q;
-        };
+    for i in 0..many {
+        check_set(b, n, place, i, depth)?;
         depth = enter(&mut levels, depth, b[9 + 10 * i]);
-        i += 1;
     }
     if depth != 0 {
-        return Check::Refused(Refusal::Nesting(place));
+        return Err(Refusal::Nesting(place));
     }
-    Check::Sound
+    Ok(())
 }
 
 // Filler is not zero: the bytes behind the last of the sets.
@@ -101,54 +94,49 @@ fn is_unfilled(b: &[u8], many: usize) -> bool
     ensures { result ≡ sets_unfilled b.now }
 {
     let mut any: u8 = 0;
-    let mut at: usize = 8 + 10 * many;
-    while at < 504 {
+    for at in 8 + 10 * many..504 {
         any |= b[at];
-        at += 1;
     }
     any != 0
 }
 
 // The sets that the block holds, and its filler: 4, its sets, 8, carrying the place.
-fn check_held(b: &[u8], n: u64, place: u64) -> Check
+fn check_held(b: &[u8], n: u64, place: u64) -> Result<(), Refusal>
     requires b_len { length b.now ≡ 512 }
     requires n_bound { n ≤ 64 }
     ensures { result ≡ sets_check n place (sets_in b.now) (sets_unfilled b.now) }
 {
     let many = le::get16(b, 4) as usize;
     if many == 0 {
-        return Check::Refused(Refusal::Count(place));
+        return Err(Refusal::Count(place));
     }
     if 49 < many {
-        return Check::Refused(Refusal::Count(place));
+        return Err(Refusal::Count(place));
     }
-    let q = check_sets(b, n, place, many);
-    let Check::Sound = q else {
-        return q;
-    };
+    check_sets(b, n, place, many)?;
     if is_unfilled(b, many) {
-        return Check::Refused(Refusal::Filler(place));
+        return Err(Refusal::Filler(place));
     }
-    Check::Sound
+    Ok(())
 }
 
 // The block of a site in a table of n sites: 2, 3, then the sets that it holds, carrying the place.
-pub fn check_block(b: &[u8], n: u64, site: u64, place: u64) -> Check
+pub fn check_block(b: &[u8], n: u64, site: u64, place: u64) -> Result<(), Refusal>
     requires b_len { length b.now ≡ 512 }
     requires n_bound { n ≤ 64 }
     ensures { result ≡ threshold_block_check n site place b.now }
 {
     if block::check(b) != 0 {
-        return Check::Refused(Refusal::Sums(place));
+        return Err(Refusal::Sums(place));
     }
     if (le::get16(b, 0) as u64) != site {
-        return Check::Refused(Refusal::Header(place));
+        return Err(Refusal::Header(place));
     }
     if (le::get16(b, 2) as u64) != n {
-        return Check::Refused(Refusal::Header(place));
+        return Err(Refusal::Header(place));
     }
     if le::get16(b, 6) != 0 {
-        return Check::Refused(Refusal::Header(place));
+        return Err(Refusal::Header(place));
     }
     check_held(b, n, place)
 }

@@ -5,15 +5,15 @@
 --   line v = v `:` set
 --   set    = threshold `of` { member }          1 to 49 sets in a line, at most four levels, the root the first
 --   member = site | `(` set `)`                 in any order; sites below n, none twice in one set
-use Rattle.std.specs.Prelude.{ℕ, ◌+◌, ◌-◌, ◌≤◌, ◌<◌, Bool, true, false, ◌||◌, not, cond, eqb, ltb}
+use Rattle.std.specs.Prelude.{ℕ, ◌+◌, ◌-◌, ◌≤◌, ◌<◌, Bool, ◌||◌, not, cond, eqb, ltb}
 use Rattle.threshold_grammar.specs.declared.Why.{Why}
-use Rattle.threshold_grammar.specs.declared.Why.TheVariants.{LineEnd, Member, Bracket, Other, Rule}
+use Rattle.threshold_grammar.specs.declared.Why.TheVariants.{LineEnd, Member, Bracket}
 use Rattle.threshold_grammar.specs.declared.Why.TheVariants.{Sites as NoSites, Count as NoCount, Owner as NoOwner, Nothing as NoMore}
 use Rattle.threshold_grammar.specs.declared.Why.TheVariants.{Colon as NoColon, Threshold as NoThreshold, Of as NoOf}
 use Rattle.threshold_grammar.specs.declared.Phase.{Phase}
 use Rattle.threshold_grammar.specs.declared.Phase.TheVariants.{Head, Count, Tail, Owner, Mark, Threshold, Of, Members, Wrong}
 use Rattle.threshold_grammar.specs.declared.Deed.{Deed}
-use Rattle.threshold_grammar.specs.declared.Deed.TheVariants.{Nothing, Root, Inner, Least, Site}
+use Rattle.threshold_grammar.specs.declared.Deed.TheVariants.{Nothing, Root}
 use Rattle.threshold_grammar.specs.declared.Spot.{Spot}
 
 -- at most 64 sites, no more lines than sites, and the open sets are three of 49 and the root

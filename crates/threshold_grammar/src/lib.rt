@@ -69,15 +69,9 @@ pub fn doing(s: Spot, d: Deed, p: Phase) -> Spot
     ensures { result ≡ doing s d p }
 {
     Spot {
-        line: s.line,
-        n: s.n,
-        v: s.v,
-        depth: s.depth,
-        set: s.set,
-        around: s.around,
-        beyond: s.beyond,
         deed: d,
         phase: p,
+        ..s
     }
 }
 
@@ -109,28 +103,19 @@ pub fn outside(line: u64, n: u64, v: u64, p: Phase) -> Spot
 pub fn own(v: u64) -> u64
     ensures { result ≡ threshold_own v }
 {
-    if v < 1 {
-        return 0;
-    }
-    v - 1
+    v.saturating_sub(1)
 }
 
 fn next_line(more: bool) -> Why
     ensures { result ≡ threshold_next_line more }
 {
-    if more {
-        return Why::Owner;
-    }
-    Why::Nothing
+    if more { Why::Owner } else { Why::Nothing }
 }
 
 fn next_member(inner: bool) -> Why
     ensures { result ≡ next_member inner }
 {
-    if inner {
-        return Why::Bracket;
-    }
-    Why::Member
+    if inner { Why::Bracket } else { Why::Member }
 }
 
 // What was expected: behind the last site's line nothing more; a closing bracket only where one is open.
@@ -151,11 +136,11 @@ pub fn expected(p: Phase, more: bool, inner: bool) -> Why
 }
 
 // What is heard is not what was expected.
+#[tactic(auto, unfolding(crate::specs::Grammar::threshold_missed))]
 pub fn missed(s: Spot) -> Spot
     ensures { result ≡ threshold_missed s }
 {
-    let p = s.phase;
-    at(s, Phase::Wrong(expected(p, s.v < s.n, 1 < s.depth)))
+    at(s, Phase::Wrong(expected(s.phase, s.v < s.n, 1 < s.depth)))
 }
 
 // The next line.
@@ -167,27 +152,23 @@ pub fn onward(s: Spot, p: Phase) -> Spot
 }
 
 // The number of sites.
+#[tactic(auto, unfolding(crate::specs::Grammar::threshold_many))]
 pub fn many(s: Spot, x: u64) -> Spot
     ensures { result ≡ threshold_many s x }
 {
-    if x < 1 {
-        return missed(s);
-    }
-    if 64 < x {
+    if x < 1 || 64 < x {
         return missed(s);
     }
     outside(s.line, x, 0, Phase::Tail)
 }
 
 // The number that begins a site's line.
+#[tactic(auto, unfolding(crate::specs::Grammar::threshold_owner))]
 pub fn owner(s: Spot, x: u64) -> Spot
     requires { ThresholdSane s }
     ensures { result ≡ threshold_owner s x }
 {
-    if s.n <= x {
-        return missed(s);
-    }
-    if x != s.v {
+    if s.n <= x || x != s.v {
         return missed(s);
     }
     outside(s.line, s.n, s.v + 1, Phase::Mark)
@@ -197,17 +178,9 @@ pub fn owner(s: Spot, x: u64) -> Spot
 pub fn sited(s: Spot) -> Spot
     ensures { result ≡ threshold_sited s.phase s }
 {
-    let p = s.phase;
-    match p {
+    match s.phase {
         Phase::Head => at(s, Phase::Count),
-        Phase::Count => missed(s),
-        Phase::Tail => missed(s),
-        Phase::Owner => missed(s),
-        Phase::Mark => missed(s),
-        Phase::Threshold => missed(s),
-        Phase::Of => missed(s),
-        Phase::Members => missed(s),
-        Phase::Wrong(_) => missed(s),
+        _ => missed(s),
     }
 }
 
@@ -215,17 +188,9 @@ pub fn sited(s: Spot) -> Spot
 pub fn linked(s: Spot) -> Spot
     ensures { result ≡ linked s.phase s }
 {
-    let p = s.phase;
-    match p {
-        Phase::Head => missed(s),
-        Phase::Count => missed(s),
-        Phase::Tail => missed(s),
-        Phase::Owner => missed(s),
-        Phase::Mark => missed(s),
-        Phase::Threshold => missed(s),
+    match s.phase {
         Phase::Of => at(s, Phase::Members),
-        Phase::Members => missed(s),
-        Phase::Wrong(_) => missed(s),
+        _ => missed(s),
     }
 }
 
@@ -233,16 +198,8 @@ pub fn linked(s: Spot) -> Spot
 pub fn coloned(s: Spot) -> Spot
     ensures { result ≡ threshold_coloned s.phase s }
 {
-    let p = s.phase;
-    match p {
-        Phase::Head => missed(s),
-        Phase::Count => missed(s),
-        Phase::Tail => missed(s),
-        Phase::Owner => missed(s),
+    match s.phase {
         Phase::Mark => doing(s, Deed::Root, Phase::Threshold),
-        Phase::Threshold => missed(s),
-        Phase::Of => missed(s),
-        Phase::Members => missed(s),
-        Phase::Wrong(_) => missed(s),
+        _ => missed(s),
     }
 }

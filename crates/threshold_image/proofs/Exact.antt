@@ -1,4 +1,5 @@
 -- The check takes exactly the sound images.
+use Rattle.std.specs.Prelude.{Ok}
 use Prim.Native.Nat.{ℕ, ◌<◌}
 use mathlib.Core.Bool.{true, false}
 use mathlib.Core.List.{List}
@@ -10,7 +11,6 @@ use Rattle.ground.specs.Pieces.{part}
 use Rattle.image_blocks.specs.Image.{image_misshapen}
 use Rattle.refusals.proofs.First.{first-all, first-sound, missed, passed}
 use Rattle.refusals.specs.First.{or_else, refuse}
-use Rattle.refusals.specs.declared.Check.TheVariants.{Sound}
 use Rattle.refusals.specs.declared.Refusal.TheVariants.{Length, Sums, Header}
 use Rattle.site_block.specs.Block.{misheaded}
 use Rattle.threshold_block.specs.Block.{sets_in, sets_unfilled, threshold_block_check}
@@ -26,7 +26,7 @@ record SoundBlock (n site : ℕ) (b : List ℕ) : Type 0 where
   held : SoundSets n (sets_in b)
   clean : sets_unfilled b ≡ false
 
-block-sound : (n site place : ℕ) (b : List ℕ) → threshold_block_check n site place b ≡ Sound → SoundBlock n site b
+block-sound : (n site place : ℕ) (b : List ℕ) → threshold_block_check n site place b ≡ Ok tt → SoundBlock n site b
 unfolding threshold_block_check
 block-sound n site place b h =
     let inside = sets_check n place (sets_in b) (sets_unfilled b) in
@@ -35,12 +35,12 @@ block-sound n site place b h =
     let s = sets-checked n place (sets_in b) (sets_unfilled b) q.1 in
     record { sums = p.0; head = q.0; held = s.0; clean = s.1 }
 
-sound-block : (n site place : ℕ) (b : List ℕ) → SoundBlock n site b → threshold_block_check n site place b ≡ Sound
+sound-block : (n site place : ℕ) (b : List ℕ) → SoundBlock n site b → threshold_block_check n site place b ≡ Ok tt
 unfolding threshold_block_check
 sound-block n site place b s = rw (s.sums, s.head) (sets-sound n place (sets_in b) (sets_unfilled b) s.held s.clean)
 
 -- what gets through is sound
-pub thresholds-checked : (image : List ℕ) → thresholds_check image ≡ Sound → Thresholds image (image_sites (length image))
+pub thresholds-checked : (image : List ℕ) → thresholds_check image ≡ Ok tt → Thresholds image (image_sites (length image))
 unfolding thresholds_check threshold_blocks_check
 thresholds-checked image h =
     let n = image_sites (length image) in
@@ -59,7 +59,7 @@ thresholds-checked image h =
     }
 
 -- what is sound gets through
-pub thresholds-sound : {image : List ℕ} {n : ℕ} → Thresholds image n → thresholds_check image ≡ Sound
+pub thresholds-sound : {image : List ℕ} {n : ℕ} → Thresholds image n → thresholds_check image ≡ Ok tt
 unfolding threshold_blocks_check
 thresholds-sound {image} {n} t =
     let z = t.long in

@@ -1,4 +1,5 @@
 -- Laws of the length of an image, and the ways out of its check.
+use Rattle.std.specs.Prelude.{Err}
 use Prim.Native.Nat.{ℕ, ◌*◌, ◌/◌, ◌%◌, ◌≤◌, ◌<◌}
 use mathlib.Core.Bool.{true, false, ◌||◌, not, or-true}
 use mathlib.Core.List.{List}
@@ -10,7 +11,6 @@ use lib.ListN.{length}
 use borrow.Author.Tests.{eqb-true, eqb-false, eq-eqb, ne_eqb, ltb-false, lt-ltb, le-ltb, not-false}
 use Rattle.ground.proofs.Logic.{cases, or-none}
 use Rattle.image_blocks.specs.Image.{image_misshapen}
-use Rattle.refusals.specs.declared.Check.TheVariants.{Refused}
 use Rattle.refusals.specs.declared.Refusal.TheVariants.{Length}
 use Rattle.threshold_image.specs.Image.{image_sites, threshold_blocks_check, thresholds_check}
 
@@ -43,7 +43,7 @@ module _ (many : ℕ) where
       (omega arith, omega arith, omega arith)
 
 -- the ways out
-pub wrong-length : (image : List ℕ) → image_misshapen (length image) ≡ true → thresholds_check image ≡ Refused Length
+pub wrong-length : (image : List ℕ) → image_misshapen (length image) ≡ true → thresholds_check image ≡ Err Length
 unfolding thresholds_check
 wrong-length image e = rw e refl
 

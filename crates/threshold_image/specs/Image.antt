@@ -1,11 +1,10 @@
 -- A table of thresholds on file: blocks of 512 bytes, one a site, in site order.
-use Rattle.std.specs.Prelude.{ℕ, ◌*◌, ◌/◌, ◌≤◌, ◌<◌, true, false, List, ◌↔◌, ◌≡◌, length}
+use Rattle.refusals.specs.Check.{Check}
+use Rattle.std.specs.Prelude.{ℕ, ◌*◌, ◌/◌, ◌≤◌, ◌<◌, true, false, List, ◌↔◌, ◌≡◌, length, Ok}
 use Rattle.block.specs.Block.{sealed}
 use Rattle.ground.specs.Pieces.{part}
 use Rattle.image_blocks.specs.Image.{image_misshapen}
 use Rattle.refusals.specs.First.{or_else, refuse, first}
-use Rattle.refusals.specs.declared.Check.{Check}
-use Rattle.refusals.specs.declared.Check.TheVariants.{Sound}
 use Rattle.refusals.specs.declared.Refusal.TheVariants.{Length}
 use Rattle.site_block.specs.Block.{misheaded}
 use Rattle.threshold_block.specs.Block.{sets_in, sets_unfilled, threshold_block_check}
@@ -37,4 +36,4 @@ pub record Thresholds (image : List ℕ) (n : ℕ) : Type 0 where
 
 -- the check takes exactly the sound images
 abbrev pub ThresholdsExact : Type 0
-ThresholdsExact = (image : List ℕ) → (thresholds_check image ≡ Sound) ↔ Thresholds image (image_sites (length image))
+ThresholdsExact = (image : List ℕ) → (thresholds_check image ≡ Ok tt) ↔ Thresholds image (image_sites (length image))

@@ -5,43 +5,38 @@ ghost use Rattle.std.specs.Prelude.{◌≡◌, ◌++◌, ◌*◌, ◌≤◌, len
 ghost use Rattle.threshold_image.specs.Image.{threshold_blocks_check, thresholds_check};
 ghost use Rattle.threshold_image.specs.Inner.{rows_of};
 
-use refusals::{Check, Refusal};
+use refusals::Refusal;
 
 // All blocks, in order.
-fn check_blocks(image: &[u8], n: usize) -> Check
+fn check_blocks(image: &[u8], n: usize) -> Result<(), Refusal>
     requires image_len { length image.now ≡ 512 * n }
     requires n_bound { n ≤ 64 }
     ensures { result ≡ threshold_blocks_check n image.now }
 {
-    let mut place: usize = 0;
-    while place < n {
-        let q = threshold_block::check_block(
+    for place in 0..n {
+        threshold_block::check_block(
             &image[512 * place..512 * place + 512],
             n as u64,
             place as u64,
             place as u64,
-        );
-        let Check::Sound = q else {
-            return q;
-        };
-        place += 1;
+        )?;
     }
-    Check::Sound
+    Ok(())
 }
 
 // The image: 1, then block by block.
-pub fn check(image: &[u8]) -> Check
+pub fn check(image: &[u8]) -> Result<(), Refusal>
     ensures { result ≡ thresholds_check image.now }
 {
     let n = image.len() / 512;
     if n == 0 {
-        return Check::Refused(Refusal::Length);
+        return Err(Refusal::Length);
     }
     if image.len() % 512 != 0 {
-        return Check::Refused(Refusal::Length);
+        return Err(Refusal::Length);
     }
     if 64 < n {
-        return Check::Refused(Refusal::Length);
+        return Err(Refusal::Length);
     }
     check_blocks(image, n)
 }
@@ -53,12 +48,10 @@ pub fn load(image: &[u8], n: usize, room: &mut [u64])
     requires n_in_bounds { 63 * n ≤ length room.old }
     ensures { room.new ≡ rows_of n image.now ++ drop (63 * n) room.old }
 {
-    let mut i: usize = 0;
-    while i < n {
+    for i in 0..n {
         threshold_row::load_row(
             &image[512 * i..512 * i + 512],
             &mut room[63 * i..63 * i + 63],
         );
-        i += 1;
     }
 }

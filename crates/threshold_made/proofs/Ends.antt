@@ -17,10 +17,11 @@ use Rattle.threshold_reading.proofs.Steps.{text-sane, sane-eq}
 use Rattle.threshold_write.specs.Store.{store_sets}
 use Rattle.threshold_write.proofs.Store.{length-store}
 use Rattle.threshold_made.specs.Made.{threshold_is_whole, threshold_answer_of, threshold_made_of, made_blocks, threshold_or_short, image_to, threshold_made, threshold_leaves}
-use Rattle.threshold_made.specs.declared.Made.{Made}
-use Rattle.threshold_made.specs.declared.Made.TheVariants.{Sites, Fault, Room}
+use Rattle.std.specs.Prelude.{Result, Ok, Err}
+use Rattle.threshold_made.specs.declared.Fault.{Fault}
+use Rattle.threshold_made.specs.declared.Fault.TheVariants.{Line, Room}
 
-pick : (b : Bool) (n line : ℕ) (w : Why) → n ≤ 64 → made_blocks (cond b (Sites n) (Fault line w)) ≤ 64
+pick : (b : Bool) (n line : ℕ) (w : Why) → n ≤ 64 → made_blocks (cond b (Ok n) (Err (Line line w))) ≤ 64
 pick true n line w h = h
 pick false n line w h = omega arith
 
@@ -29,8 +30,8 @@ unfolding threshold_answer_of
 few-of s h =
     pick (threshold_is_whole s.phase (ltb s.v s.n)) s.n s.line (threshold_expected s.phase (ltb s.v s.n) (ltb 1 s.depth)) h.0
 
-pub few : (text : List ℕ) (s : Spot) (m : Made) → s ≡ (threshold_text_read text (replicate 9472 0)).spot → m ≡ threshold_answer_of s → made_blocks m ≤ 64
-few text s m e f = subst (λ (x : Made). made_blocks x ≤ 64) (sym f) (few-of s (sane-eq e (text-sane text (replicate 9472 0))))
+pub few : (text : List ℕ) (s : Spot) (m : Result ℕ Fault) → s ≡ (threshold_text_read text (replicate 9472 0)).spot → m ≡ threshold_answer_of s → made_blocks m ≤ 64
+few text s m e f = subst (λ (x : Result ℕ Fault). made_blocks x ≤ 64) (sym f) (few-of s (sane-eq e (text-sane text (replicate 9472 0))))
 
 -- the loop that writes the blocks
 pub image_holds : (n : ℕ) (t d : List ℕ) → d ≡ image_to n t 0 ++ drop (512 * 0) d
@@ -43,19 +44,19 @@ unfolding image_to
 image-again n t m d y i e ey =
     fill-part (λ v. store_sets n v (sets_heard t v)) 512 i m d y (length-cat (λ v. store_sets n v (sets_heard t v)) 512 i (λ j h. length-store n j (sets_heard t j))) e ey
 
-module _ (text room t : List ℕ) (s : Spot) (m : Made) (k : ℕ) (e₁ : s ≡ (threshold_text_read text (replicate 9472 0)).spot) (e₂ : t ≡ (threshold_text_read text (replicate 9472 0)).lines)
+module _ (text room t : List ℕ) (s : Spot) (m : Result ℕ Fault) (k : ℕ) (e₁ : s ≡ (threshold_text_read text (replicate 9472 0)).spot) (e₂ : t ≡ (threshold_text_read text (replicate 9472 0)).lines)
     (e₃ : m ≡ threshold_answer_of s) (e₄ : k ≡ made_blocks m) where
   same : m ≡ threshold_answer_of (threshold_made_of text).spot
   unfolding threshold_made_of
   same = e₃ ∙ ap threshold_answer_of e₁
 
-  left : Made → List ℕ
+  left : Result ℕ Fault → List ℕ
   left x = image_to (made_blocks x) (threshold_made_of text).lines (made_blocks x) ++ drop (512 * made_blocks x) room
 
-  pub short : length room < 512 * k → (Room ≡ threshold_made text (length room)) × (room ≡ threshold_leaves text room)
+  pub short : length room < 512 * k → (Err Room ≡ threshold_made text (length room)) × (room ≡ threshold_leaves text room)
   unfolding threshold_made threshold_leaves image_to left
   short h =
-      let z : threshold_made text (length room) ≡ Room =
+      let z : threshold_made text (length room) ≡ Err Room =
       ap (threshold_or_short (length room)) (sym same) ∙ rw (lt-ltb (length room) (512 * made_blocks m) (rw (sym e₄) h)) refl in
       (sym z, sym (ap left z))
 

@@ -1,5 +1,5 @@
 -- What a text is, and what it leaves in a lent room: the image of a table of thresholds, or nothing.
-use Rattle.std.specs.Prelude.{ℕ, ◌*◌, Bool, false, not, cond, List, [], ◌++◌, ltb, length, drop, replicate}
+use Rattle.std.specs.Prelude.{ℕ, ◌*◌, Bool, false, not, cond, List, ◌++◌, ltb, length, drop, replicate, Result, Ok, Err}
 use Rattle.ground.specs.Pieces.{cat}
 use Rattle.threshold_grammar.specs.Grammar.{threshold_expected}
 use Rattle.threshold_grammar.specs.declared.Phase.{Phase}
@@ -8,8 +8,8 @@ use Rattle.threshold_grammar.specs.declared.Spot.{Spot}
 use Rattle.threshold_reading.specs.Lines.{sets_heard}
 use Rattle.threshold_reading.specs.Reading.{ThresholdHere, threshold_text_read}
 use Rattle.threshold_write.specs.Store.{store_sets}
-use Rattle.threshold_made.specs.declared.Made.{Made}
-use Rattle.threshold_made.specs.declared.Made.TheVariants.{Sites, Fault, Room}
+use Rattle.threshold_made.specs.declared.Fault.{Fault}
+use Rattle.threshold_made.specs.declared.Fault.TheVariants.{Line, Room}
 
 -- all lines of sites were there, and no more are expected
 abbrev pub threshold_is_whole : Phase → Bool → Bool
@@ -24,28 +24,27 @@ threshold_is_whole Members more = false
 threshold_is_whole (Wrong why) more = false
 
 -- a table, or the first fault. Where the text ends too early every line was passed: the fault is in the line after its last
-unfoldable pub threshold_answer_of : Spot → Made
+unfoldable pub threshold_answer_of : Spot → Result ℕ Fault
 threshold_answer_of s =
     cond (threshold_is_whole s.phase (ltb s.v s.n))
-    (Sites s.n)
-    (Fault s.line (threshold_expected s.phase (ltb s.v s.n) (ltb 1 s.depth)))
+    (Ok s.n)
+    (Err (Line s.line (threshold_expected s.phase (ltb s.v s.n) (ltb 1 s.depth))))
 
 -- the text is read into 64 times 148 zeros
 unfoldable pub threshold_made_of : List ℕ → ThresholdHere
 unfolding threshold_text_read
 threshold_made_of text = threshold_text_read text (replicate 9472 0)
 
-abbrev pub made_blocks : Made → ℕ
-made_blocks (Sites n) = n
-made_blocks (Fault line why) = 0
-made_blocks Room = 0
+abbrev pub made_blocks : Result ℕ Fault → ℕ
+made_blocks (Ok n) = n
+made_blocks (Err fault) = 0
 
 -- 9: "room lent too short"
-abbrev pub threshold_or_short : ℕ → Made → Made
-threshold_or_short room m = cond (ltb room (512 * made_blocks m)) Room m
+abbrev pub threshold_or_short : ℕ → Result ℕ Fault → Result ℕ Fault
+threshold_or_short room m = cond (ltb room (512 * made_blocks m)) (Err Room) m
 
 -- the answer for a text and a room of so many bytes
-unfoldable pub threshold_made : List ℕ → ℕ → Made
+unfoldable pub threshold_made : List ℕ → ℕ → Result ℕ Fault
 unfolding threshold_answer_of threshold_made_of
 threshold_made text room = threshold_or_short room (threshold_answer_of (threshold_made_of text).spot)
 

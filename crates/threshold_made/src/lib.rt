@@ -2,15 +2,14 @@
 #![tactic(auto)]
 
 ghost use Rattle.std.specs.Prelude.{◌++◌, ◌≡◌, ◌*◌, ◌≤◌, length, drop};
-ghost use Rattle.threshold_made.specs.Made.{threshold_is_whole, threshold_answer_of, made_blocks, image_to, threshold_made, threshold_leaves};
+ghost use Rattle.threshold_made.specs.Made.{threshold_is_whole, threshold_answer_of, image_to, threshold_made, threshold_leaves};
 
 use threshold_grammar::{Phase, Spot, Why};
 
-// What a text is: a table of so many sites, or none, with the line and what was expected there; or the room lent for the image is too short.
+// Why there is no image: the text is none, with the line and what was expected there; or the room lent for the image is too short.
 #[derive(Clone, Copy)]
-pub enum Made {
-    Sites(u64),
-    Fault(u64, Why),
+pub enum Fault {
+    Line(u64, Why),
     Room,
 }
 
@@ -18,41 +17,22 @@ pub enum Made {
 fn is_whole(p: Phase, more: bool) -> bool
     ensures { result ≡ threshold_is_whole p more }
 {
-    match p {
-        Phase::Head => false,
-        Phase::Count => false,
-        Phase::Tail => false,
-        Phase::Owner => !more,
-        Phase::Mark => false,
-        Phase::Threshold => false,
-        Phase::Of => false,
-        Phase::Members => false,
-        Phase::Wrong(_) => false,
-    }
+    matches!(p, Phase::Owner) && !more
 }
 
-// A table, or the fault and its line.
-fn answer_of(s: Spot) -> Made
+// A table of so many sites, or the fault and its line.
+#[tactic(auto, unfolding(crate::specs::Made::threshold_answer_of))]
+fn answer_of(s: Spot) -> Result<u64, Fault>
     ensures { result ≡ threshold_answer_of s }
 {
-    let p = s.phase;
-    if is_whole(p, s.v < s.n) {
-        return Made::Sites(s.n);
-    }
-    Made::Fault(
-        s.line,
-        threshold_grammar::expected(p, s.v < s.n, 1 < s.depth),
-    )
-}
-
-// How many blocks the image has.
-fn blocks_in(m: Made) -> u64
-    ensures { result ≡ made_blocks m }
-{
-    match m {
-        Made::Sites(n) => n,
-        Made::Fault(_, _) => 0,
-        Made::Room => 0,
+    let more = s.v < s.n;
+    if is_whole(s.phase, more) {
+        Ok(s.n)
+    } else {
+        Err(Fault::Line(
+            s.line,
+            threshold_grammar::expected(s.phase, more, 1 < s.depth),
+        ))
     }
 }
 
@@ -63,26 +43,22 @@ fn store_all(t: &[u64], n: u64, room: &mut [u8])
     requires n_in_bounds { 512 * n ≤ length room.old }
     ensures { room.new ≡ image_to n t.now n ++ drop (512 * n) room.old }
 {
-    let many = n as usize;
-    let mut v: usize = 0;
-    while v < many {
+    for v in 0..n as usize {
         threshold_write::store_sets(t, n, v, &mut room[512 * v..512 * v + 512]);
-        v += 1;
     }
 }
 
-// The answer for a text, and its image in the lent room; a fault leaves the room alone.
-pub fn make(text: &[u8], room: &mut [u8]) -> Made
+// How many sites the table of a text has, and its image in the lent room; a fault leaves the room alone.
+pub fn make(text: &[u8], room: &mut [u8]) -> Result<u64, Fault>
     ensures answer { result ≡ threshold_made text.now (length room.old) }
     ensures memory { room.new ≡ threshold_leaves text.now room.old }
 {
     let mut t = [0u64; 9472];
     let s = threshold_reading::walk(text, &mut t);
-    let m = answer_of(s);
-    let k = blocks_in(m);
-    if room.len() < 512 * k as usize {
-        return Made::Room;
+    let n = answer_of(s)?;
+    if room.len() < 512 * n as usize {
+        return Err(Fault::Room);
     }
-    store_all(&t, k, room);
-    m
+    store_all(&t, n, room);
+    Ok(n)
 }

@@ -20,17 +20,16 @@ pub struct Held {
 }
 
 // A threshold of zero, or above its sites and inner sets together.
+#[tactic(auto, unfolding(crate::specs::Nesting::unreached))]
 fn unreached(h: Held) -> bool
     requires { h.inner < 2 ^ 63 }
     ensures { result ≡ unreached h }
 {
-    if h.threshold == 0 {
-        return true;
-    }
-    masks::size(h.plain) as u64 + h.inner < h.threshold
+    h.threshold == 0 || u64::from(masks::size(h.plain)) + h.inner < h.threshold
 }
 
 // One site more in the innermost set.
+#[tactic(auto, unfolding(crate::specs::Nesting::threshold_member))]
 fn member(s: Spot, h: Held, x: u64) -> Spot
     requires { ThresholdSane s }
     ensures { result ≡ threshold_member s h x }
@@ -48,6 +47,7 @@ fn member(s: Spot, h: Held, x: u64) -> Spot
 }
 
 // An inner set begins.
+#[tactic(auto, unfolding(crate::specs::Nesting::set_opened))]
 fn opened(s: Spot, h: Held) -> Spot
     ensures { result ≡ set_opened s h }
 {
@@ -64,19 +64,18 @@ fn opened(s: Spot, h: Held) -> Spot
         );
     }
     Spot {
-        line: s.line,
-        n: s.n,
-        v: s.v,
         depth: s.depth + 1,
         set: h.sets,
         around: s.set,
         beyond: s.around,
         deed: Deed::Inner,
         phase: Phase::Threshold,
+        ..s
     }
 }
 
 // The innermost set is complete at its bracket.
+#[tactic(auto, unfolding(crate::specs::Nesting::set_closed))]
 fn closed(s: Spot, h: Held) -> Spot
     requires { h.inner < 2 ^ 63 }
     ensures { result ≡ set_closed s h }
@@ -91,19 +90,18 @@ fn closed(s: Spot, h: Held) -> Spot
         );
     }
     Spot {
-        line: s.line,
-        n: s.n,
-        v: s.v,
         depth: s.depth - 1,
         set: s.around,
         around: s.beyond,
         beyond: 0,
         deed: Deed::Nothing,
         phase: Phase::Members,
+        ..s
     }
 }
 
 // The root is complete at the end of the line.
+#[tactic(auto, unfolding(crate::specs::Nesting::set_completed))]
 fn completed(s: Spot, h: Held) -> Spot
     requires line_bound { s.line + 1 < 2 ^ 64 }
     requires inner_bound { h.inner < 2 ^ 63 }
@@ -126,17 +124,12 @@ fn numbered(s: Spot, h: Held, x: u64) -> Spot
     requires { ThresholdSane s }
     ensures { result ≡ threshold_numbered s.phase s h x }
 {
-    let p = s.phase;
-    match p {
-        Phase::Head => threshold_grammar::missed(s),
+    match s.phase {
         Phase::Count => threshold_grammar::many(s, x),
-        Phase::Tail => threshold_grammar::missed(s),
         Phase::Owner => threshold_grammar::owner(s, x),
-        Phase::Mark => threshold_grammar::missed(s),
         Phase::Threshold => threshold_grammar::doing(s, Deed::Least(x), Phase::Of),
-        Phase::Of => threshold_grammar::missed(s),
         Phase::Members => member(s, h, x),
-        Phase::Wrong(_) => threshold_grammar::missed(s),
+        _ => threshold_grammar::missed(s),
     }
 }
 
@@ -144,17 +137,9 @@ fn numbered(s: Spot, h: Held, x: u64) -> Spot
 fn opening(s: Spot, h: Held) -> Spot
     ensures { result ≡ bracket_opens s.phase s h }
 {
-    let p = s.phase;
-    match p {
-        Phase::Head => threshold_grammar::missed(s),
-        Phase::Count => threshold_grammar::missed(s),
-        Phase::Tail => threshold_grammar::missed(s),
-        Phase::Owner => threshold_grammar::missed(s),
-        Phase::Mark => threshold_grammar::missed(s),
-        Phase::Threshold => threshold_grammar::missed(s),
-        Phase::Of => threshold_grammar::missed(s),
+    match s.phase {
         Phase::Members => opened(s, h),
-        Phase::Wrong(_) => threshold_grammar::missed(s),
+        _ => threshold_grammar::missed(s),
     }
 }
 
@@ -163,17 +148,9 @@ fn closing(s: Spot, h: Held) -> Spot
     requires { h.inner < 2 ^ 63 }
     ensures { result ≡ bracket_closes s.phase s h }
 {
-    let p = s.phase;
-    match p {
-        Phase::Head => threshold_grammar::missed(s),
-        Phase::Count => threshold_grammar::missed(s),
-        Phase::Tail => threshold_grammar::missed(s),
-        Phase::Owner => threshold_grammar::missed(s),
-        Phase::Mark => threshold_grammar::missed(s),
-        Phase::Threshold => threshold_grammar::missed(s),
-        Phase::Of => threshold_grammar::missed(s),
+    match s.phase {
         Phase::Members => closed(s, h),
-        Phase::Wrong(_) => threshold_grammar::missed(s),
+        _ => threshold_grammar::missed(s),
     }
 }
 
@@ -183,17 +160,11 @@ fn line_end(s: Spot, h: Held) -> Spot
     requires inner_bound { h.inner < 2 ^ 63 }
     ensures { result ≡ threshold_line_end s.phase s h }
 {
-    let p = s.phase;
-    match p {
+    match s.phase {
         Phase::Head => threshold_grammar::onward(s, Phase::Head),
-        Phase::Count => threshold_grammar::missed(s),
-        Phase::Tail => threshold_grammar::onward(s, Phase::Owner),
-        Phase::Owner => threshold_grammar::onward(s, Phase::Owner),
-        Phase::Mark => threshold_grammar::missed(s),
-        Phase::Threshold => threshold_grammar::missed(s),
-        Phase::Of => threshold_grammar::missed(s),
+        Phase::Tail | Phase::Owner => threshold_grammar::onward(s, Phase::Owner),
         Phase::Members => completed(s, h),
-        Phase::Wrong(_) => threshold_grammar::missed(s),
+        _ => threshold_grammar::missed(s),
     }
 }
 
@@ -204,9 +175,8 @@ pub fn spoken(s: Spot, h: Held, t: Token) -> Spot
     requires inner_bound { h.inner < 2 ^ 63 }
     ensures { result ≡ threshold_spoken t h s }
 {
-    let p = s.phase;
     match t {
-        Token::Silence => threshold_grammar::at(s, p),
+        Token::Silence => threshold_grammar::at(s, s.phase),
         Token::Sites => threshold_grammar::sited(s),
         Token::Of => threshold_grammar::linked(s),
         Token::Number(x) => numbered(s, h, x),

@@ -6,17 +6,14 @@ ghost use Rattle.std.specs.Prelude.{◌≡◌};
 ghost use Rattle.sets.specs.Groups.{thresholds};
 ghost use Rattle.questions.specs.Answers.{quorum, largest, blocks};
 
-use questions::{Greatest, Holds};
-use refusals::Check;
+use questions::SetLeft;
+use refusals::Refusal;
 
 // Is the set a quorum?
-pub fn quorum(image: &[u8], set: u64) -> Holds
+pub fn quorum(image: &[u8], set: u64) -> Result<bool, Refusal>
     ensures { result ≡ quorum (thresholds image.now) set }
 {
-    let q = threshold_image::check(image);
-    if let Check::Refused(r) = q {
-        return Holds::Refused(r);
-    }
+    threshold_image::check(image)?;
     let n = image.len() / 512;
     let mut rows = [0u64; 4032];
     threshold_image::load(image, n, &mut rows);
@@ -24,13 +21,10 @@ pub fn quorum(image: &[u8], set: u64) -> Holds
 }
 
 // The largest quorum inside the set.
-pub fn largest(image: &[u8], set: u64) -> Greatest
+pub fn largest(image: &[u8], set: u64) -> Result<SetLeft, Refusal>
     ensures { result ≡ largest (thresholds image.now) set }
 {
-    let q = threshold_image::check(image);
-    if let Check::Refused(r) = q {
-        return Greatest::Refused(r);
-    }
+    threshold_image::check(image)?;
     let n = image.len() / 512;
     let mut rows = [0u64; 4032];
     threshold_image::load(image, n, &mut rows);
@@ -38,13 +32,10 @@ pub fn largest(image: &[u8], set: u64) -> Greatest
 }
 
 // Does the set block the site?
-pub fn blocks(image: &[u8], set: u64, site: u64) -> Holds
+pub fn blocks(image: &[u8], set: u64, site: u64) -> Result<bool, Refusal>
     ensures { result ≡ blocks (thresholds image.now) set site }
 {
-    let q = threshold_image::check(image);
-    if let Check::Refused(r) = q {
-        return Holds::Refused(r);
-    }
+    threshold_image::check(image)?;
     let n = image.len() / 512;
     let mut rows = [0u64; 4032];
     threshold_image::load(image, n, &mut rows);

@@ -41,7 +41,7 @@ fn join(t: &mut [u64], at: usize, q: u64)
     requires { at < length t.old }
     ensures { t.new ≡ set t.old at (bit_or (get_or t.old at 0) q) }
 {
-    t[at] = t[at] | q;
+    t[at] |= q;
 }
 
 // An inner set begins, and counts for the set around it.
@@ -68,8 +68,7 @@ fn enact(s: Spot, t: &mut [u64])
     let at = 148 * threshold_grammar::own(s.v) as usize;
     let i = at + (1 + 3 * s.set as usize);
     let j = at + (3 + 3 * s.set as usize);
-    let d = s.deed;
-    match d {
+    match s.deed {
         Deed::Nothing => (),
         Deed::Root => put(t, at, 1),
         Deed::Inner => begin(s, t),
@@ -112,13 +111,10 @@ pub fn walk(text: &[u8], t: &mut [u64]) -> Spot
 {
     let mut w = Begun::Fresh;
     let mut s = threshold_grammar::outside(1, 0, 0, Phase::Head);
-    let mut i: usize = 0;
-    while i < text.len() {
-        let b = text[i];
-        let c = threshold_words::sign_of(w, b);
+    for b in text {
+        let c = threshold_words::sign_of(w, *b);
         s = hear(c, w, s, t);
-        w = threshold_words::turn(c, w, b);
-        i += 1;
+        w = threshold_words::turn(c, w, *b);
     }
     hear(
         threshold_words::closing(w),

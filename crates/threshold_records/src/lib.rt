@@ -8,8 +8,7 @@ ghost use Rattle.run.specs.Run.{ran, state_into, answers_into};
 ghost use Rattle.sets.specs.Groups.{thresholds};
 
 use packing::Call;
-use refusals::Check;
-use run::Ran;
+use refusals::Refusal;
 
 // The run of n calls that stand packed: the image is checked first; the rest is asked of its rows.
 fn run_packed(
@@ -19,14 +18,11 @@ fn run_packed(
     n: usize,
     state: &mut [u64],
     answers: &mut [u8],
-) -> Ran
+) -> Result<u64, Refusal>
     ensures { TableEnded (thresholds image.now) faulty room.now n state.old answers.old
         result state.new answers.new }
 {
-    let q = threshold_image::check(image);
-    if let Check::Refused(r) = q {
-        return Ran::Refused(r);
-    }
+    threshold_image::check(image)?;
     let sites = image.len() / 512;
     let mut rows = [0u64; 4032];
     threshold_image::load(image, sites, &mut rows);
@@ -40,7 +36,7 @@ pub fn run_records(
     calls: &[Call],
     state: &mut [u64],
     answers: &mut [u8],
-) -> Ran
+) -> Result<u64, Refusal>
     ensures answer { result ≡ ran (thresholds image.now) faulty (bytes_of calls.now) (length state.old) (length answers.old) }
     ensures states { state.new ≡ state_into result (thresholds image.now) faulty (bytes_of calls.now) state.old }
     ensures bytes { answers.new ≡ answers_into result (thresholds image.now) faulty (bytes_of calls.now) answers.old }

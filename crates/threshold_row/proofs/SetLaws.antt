@@ -8,7 +8,7 @@ use lib.Dec.{leb}
 use borrow.Author.Tests.{lt-ltb, le-ltb}
 use Rattle.masks.specs.Mask.{size}
 use Rattle.threshold_row.specs.Inner.Seen.{Tells}
-use Rattle.threshold_sets.specs.Met.{ThresholdSets, AfterSets, join, reach, members_at, set_at, root_met}
+use Rattle.threshold_sets.specs.Met.{ThresholdSets, AfterSets, join, reach, members_at, set_at}
 
 says : {m e : ℕ} {a b : AfterSets} → a ≡ b → Tells m e a → Tells m e b
 says {m} {e} q s = subst (Tells m e) q s

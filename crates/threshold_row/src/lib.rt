@@ -120,10 +120,8 @@ fn load_masks(b: &[u8], m: &mut [u64])
     ensures { m.new ≡ masks_of b.now 49 ++ drop 50 m.old }
 {
     m[0] = 64 + le::get16(b, 4) as u64;
-    let mut i: usize = 0;
-    while i < 49 {
+    for i in 0..49 {
         m[1 + i] = le::get64(b, 10 + 10 * i);
-        i += 1;
     }
 }
 
@@ -134,10 +132,8 @@ pub fn load_row(b: &[u8], m: &mut [u64])
     ensures { m.new ≡ sets_row b.now }
 {
     load_masks(b, m);
-    let mut k: usize = 0;
-    while k < 12 {
+    for k in 0..12 {
         m[50 + k] = four(b, k);
-        k += 1;
     }
     m[62] = le::get16(b, 488) as u64;
 }

@@ -10,12 +10,13 @@ use Rattle.threshold_grammar.specs.declared.Why.{Why}
 use Rattle.threshold_grammar.specs.declared.Why.TheVariants.{LineEnd, Nothing, Member, Bracket, Other, Rule}
 use Rattle.threshold_grammar.specs.declared.Why.TheVariants.{Sites as NoSites, Count as NoCount, Owner as NoOwner, Colon as NoColon, Threshold as NoThreshold, Of as NoOf}
 use Rattle.threshold_made.specs.Made.{threshold_made}
-use Rattle.threshold_made.specs.declared.Made.{Made}
+use Rattle.threshold_made.specs.declared.Fault.{Fault}
+use Rattle.std.specs.Prelude.{Result}
 use Rattle.threshold_said.specs.MakeText.{threshold_opening, threshold_make_lines, threshold_make_text}
 use Rattle.text.proofs.Written.{then, written-nothing}
 use Rattle.text.specs.Written.{Writes}
 
-pub by_answer : (text : List ℕ) (m : Made) → threshold_made text 32768 ≡ m → threshold_make_lines m ≡ threshold_make_text text
+pub by_answer : (text : List ℕ) (m : Result ℕ Fault) → threshold_made text 32768 ≡ m → threshold_make_lines m ≡ threshold_make_text text
 unfolding threshold_make_text
 by_answer text m e = sym (ap threshold_make_lines e)
 

@@ -1,5 +1,5 @@
 -- What `desk make` says of a text.
-use Rattle.std.specs.Prelude.{ℕ, Bool, true, false, List, [], ◌++◌}
+use Rattle.std.specs.Prelude.{ℕ, Bool, true, false, List, [], ◌++◌, Result, Ok, Err}
 use Rattle.lines.specs.Lines.{newline, line}
 use Rattle.refusal_lines.specs.Refused.{refused}
 use Rattle.threshold_grammar.specs.declared.Why.{Why}
@@ -7,8 +7,8 @@ use Rattle.threshold_grammar.specs.declared.Why.TheVariants.{LineEnd, Nothing, M
 use Rattle.threshold_grammar.specs.declared.Why.TheVariants.{Sites as NoSites, Count as NoCount, Owner as NoOwner, Colon as NoColon}
 use Rattle.threshold_grammar.specs.declared.Why.TheVariants.{Threshold as NoThreshold, Of as NoOf}
 use Rattle.threshold_made.specs.Made.{threshold_made}
-use Rattle.threshold_made.specs.declared.Made.{Made}
-use Rattle.threshold_made.specs.declared.Made.TheVariants.{Sites, Fault, Room}
+use Rattle.threshold_made.specs.declared.Fault.{Fault}
+use Rattle.threshold_made.specs.declared.Fault.TheVariants.{Line, Room}
 use Rattle.threshold_wanted.specs.Wanted.{threshold_wanted}
 use Rattle.text.specs.Text.{ascii, decimal}
 
@@ -33,10 +33,10 @@ unfolding decimal
 threshold_fault_lines place why = threshold_opening why ++ (ascii "line " ++ (decimal place ++ (ascii ": " ++ (ascii (threshold_wanted why) ++ newline))))
 
 -- what is said by the answer: `sound N`, as `desk check` says of the table; or the fault. The desk lends room for 64 sites, so that 9 does not arise.
-abbrev pub threshold_make_lines : Made → List ℕ
-threshold_make_lines (Sites n) = line (ascii "sound ") (decimal n)
-threshold_make_lines (Fault place why) = threshold_fault_lines place why
-threshold_make_lines Room = []
+abbrev pub threshold_make_lines : Result ℕ Fault → List ℕ
+threshold_make_lines (Ok n) = line (ascii "sound ") (decimal n)
+threshold_make_lines (Err (Line place why)) = threshold_fault_lines place why
+threshold_make_lines (Err Room) = []
 
 unfoldable pub threshold_make_text : List ℕ → List ℕ
 unfolding threshold_fault_lines line decimal threshold_made
@@ -57,7 +57,7 @@ threshold_is_rule Bracket = false
 threshold_is_rule Other = false
 threshold_is_rule (Rule r) = true
 
-abbrev pub threshold_is_answer : Made → Bool
-threshold_is_answer (Sites n) = true
-threshold_is_answer (Fault place why) = threshold_is_rule why
-threshold_is_answer Room = false
+abbrev pub threshold_is_answer : Result ℕ Fault → Bool
+threshold_is_answer (Ok n) = true
+threshold_is_answer (Err (Line place why)) = threshold_is_rule why
+threshold_is_answer (Err Room) = false

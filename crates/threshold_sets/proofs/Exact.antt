@@ -1,4 +1,5 @@
 -- The check takes exactly the sound sets with filler of zeros.
+use Rattle.std.specs.Prelude.{Ok}
 use Prim.Native.Nat.{ℕ, ◌+◌, ◌≤◌, ◌<◌}
 use mathlib.Core.Bool.{Bool, true, false, ◌||◌}
 use mathlib.Core.List.{List, [], ◌∷◌}
@@ -12,7 +13,6 @@ use Rattle.masks.proofs.Laws.Subsets.{within-⊆, ⊆-within}
 use Rattle.masks.specs.Mask.{within, all_below, size}
 use Rattle.refusals.proofs.First.{first-all, first-sound, missed, passed, kept, or_else-sound}
 use Rattle.refusals.specs.First.{or_else, refuse, first}
-use Rattle.refusals.specs.declared.Check.TheVariants.{Sound}
 use Rattle.refusals.specs.declared.Refusal.TheVariants.{Count, Slice, Filler, Threshold, Nesting}
 use Rattle.threshold_sets.specs.Check.{owed, alien, unreachable, misplaced, one_set_check, owing, sets_check, SoundSets}
 use Rattle.threshold_sets.specs.Met.{ThresholdSets}
@@ -26,7 +26,7 @@ pub record SoundSet (n : ℕ) (S : ThresholdSets) (i : ℕ) : Type 0 where
   pub own-in-root : 1 ≤ length (owed S i)
   pub own-level : length (owed S i) ≤ 4
 
-pub set-sound : (n place : ℕ) (S : ThresholdSets) (i : ℕ) → one_set_check n place S i ≡ Sound → SoundSet n S i
+pub set-sound : (n place : ℕ) (S : ThresholdSets) (i : ℕ) → one_set_check n place S i ≡ Ok tt → SoundSet n S i
 unfolding one_set_check alien unreachable misplaced
 set-sound n place S i h =
     let a = passed (within (S.plain i) (all_below n)) (Slice place) (or_else (refuse (unreachable S i) (Threshold place)) (refuse (misplaced S i) (Nesting place))) h in
@@ -43,7 +43,7 @@ set-sound n place S i h =
       own-level = ltb-false 4 (length (owed S i)) m.1;
     }
 
-sound-set : (n place : ℕ) (S : ThresholdSets) (i : ℕ) → SoundSet n S i → one_set_check n place S i ≡ Sound
+sound-set : (n place : ℕ) (S : ThresholdSets) (i : ℕ) → SoundSet n S i → one_set_check n place S i ≡ Ok tt
 sound-set n place S i s =
     well-placed n place S i s.own_below (λ e. omega (arith, s.own-not-zero)) s.own-reachable (λ e. omega (arith, s.own-in-root)) s.own-level
 
@@ -52,7 +52,7 @@ none-owed [] e = refl
 none-owed (x ∷ l) e = absurd (omega arith)
 
 -- what gets through is sound
-pub sets-checked : (n place : ℕ) (S : ThresholdSets) (unfilled : Bool) → sets_check n place S unfilled ≡ Sound → SoundSets n S × (unfilled ≡ false)
+pub sets-checked : (n place : ℕ) (S : ThresholdSets) (unfilled : Bool) → sets_check n place S unfilled ≡ Ok tt → SoundSets n S × (unfilled ≡ false)
 unfolding sets_check owing
 sets-checked n place S unfilled h =
     let rest = or_else (refuse (owing S) (Nesting place)) (refuse unfilled (Filler place)) in
@@ -76,10 +76,10 @@ sets-checked n place S unfilled h =
     )
 
 -- what is sound gets through
-pub sets-sound : (n place : ℕ) (S : ThresholdSets) (unfilled : Bool) → SoundSets n S → unfilled ≡ false → sets_check n place S unfilled ≡ Sound
+pub sets-sound : (n place : ℕ) (S : ThresholdSets) (unfilled : Bool) → SoundSets n S → unfilled ≡ false → sets_check n place S unfilled ≡ Ok tt
 unfolding sets_check owing
 sets-sound n place S unfilled s e =
-    let q : first (one_set_check n place S) S.count ≡ Sound =
+    let q : first (one_set_check n place S) S.count ≡ Ok tt =
     first-sound (one_set_check n place S) S.count
     (λ i l. sound-set n place S i
     (record {

@@ -1,4 +1,5 @@
 -- Sets that are met and sets that are refused, by example.
+use Rattle.std.specs.Prelude.{Ok, Err}
 use Prim.Native.Nat.{ℕ}
 use mathlib.Core.Bool.{true, false}
 use mathlib.Core.List.{List, [], ◌∷◌}
@@ -7,7 +8,6 @@ use lib.Count.{ones}
 use lib.ListN.{length, get_or}
 use Rattle.masks.specs.Mask.{within}
 use Rattle.refusals.specs.First.{first}
-use Rattle.refusals.specs.declared.Check.TheVariants.{Sound, Refused}
 use Rattle.refusals.specs.declared.Refusal.TheVariants.{Count, Slice, Filler, Threshold, Nesting}
 use Rattle.threshold_sets.specs.Check.{owed, alien, unreachable, misplaced, one_set_check, owing, sets_check}
 use Rattle.threshold_sets.specs.Met.{ThresholdSets, members_at, set_at, root_met}
@@ -37,7 +37,7 @@ strangers-do-not = refl
 abbrev nested : ThresholdSets
 nested = sets_with (2 ∷ 1 ∷ 2 ∷ 1 ∷ []) (2 ∷ 1 ∷ 0 ∷ 0 ∷ []) (1 ∷ 0 ∷ 12 ∷ 16 ∷ [])
 
-pub nested-sound : sets_check 5 7 nested false ≡ Sound
+pub nested-sound : sets_check 5 7 nested false ≡ Ok tt
 unfolding sets_check one_set_check alien unreachable misplaced owing owed first within ones
 nested-sound = refl
 
@@ -55,36 +55,36 @@ unfolding root_met set_at members_at ones
 through-neither = refl
 
 -- the order of refusals: a site at or above n before a threshold of zero, that before a set after the whole root, and that before the filler
-pub slice-before-threshold : sets_check 2 7 (sets_with (0 ∷ []) (0 ∷ []) (4 ∷ [])) true ≡ Refused (Slice 7)
+pub slice-before-threshold : sets_check 2 7 (sets_with (0 ∷ []) (0 ∷ []) (4 ∷ [])) true ≡ Err (Slice 7)
 unfolding sets_check one_set_check alien unreachable misplaced owing owed first within ones
 slice-before-threshold = refl
 
-pub threshold-before-nesting : sets_check 2 7 (sets_with (1 ∷ 0 ∷ []) (0 ∷ 0 ∷ []) (1 ∷ 1 ∷ [])) true ≡ Refused (Threshold 7)
+pub threshold-before-nesting : sets_check 2 7 (sets_with (1 ∷ 0 ∷ []) (0 ∷ 0 ∷ []) (1 ∷ 1 ∷ [])) true ≡ Err (Threshold 7)
 unfolding sets_check one_set_check alien unreachable misplaced owing owed first within ones
 threshold-before-nesting = refl
 
-pub set-after-root : sets_check 2 7 (sets_with (1 ∷ 1 ∷ []) (0 ∷ 0 ∷ []) (1 ∷ 1 ∷ [])) true ≡ Refused (Nesting 7)
+pub set-after-root : sets_check 2 7 (sets_with (1 ∷ 1 ∷ []) (0 ∷ 0 ∷ []) (1 ∷ 1 ∷ [])) true ≡ Err (Nesting 7)
 unfolding sets_check one_set_check alien unreachable misplaced owing owed first within ones
 set-after-root = refl
 
-pub owed-at-the-end : sets_check 2 7 (sets_with (1 ∷ []) (1 ∷ []) (1 ∷ [])) true ≡ Refused (Nesting 7)
+pub owed-at-the-end : sets_check 2 7 (sets_with (1 ∷ []) (1 ∷ []) (1 ∷ [])) true ≡ Err (Nesting 7)
 unfolding sets_check one_set_check alien unreachable misplaced owing owed first within ones
 owed-at-the-end = refl
 
-pub filler-last : sets_check 2 7 (sets_with (1 ∷ []) (0 ∷ []) (1 ∷ [])) true ≡ Refused (Filler 7)
+pub filler-last : sets_check 2 7 (sets_with (1 ∷ []) (0 ∷ []) (1 ∷ [])) true ≡ Err (Filler 7)
 unfolding sets_check one_set_check alien unreachable misplaced owing owed first within ones
 filler-last = refl
 
 -- four levels are taken, five are not
-pub level-four : sets_check 2 7 (sets_with (1 ∷ 1 ∷ 1 ∷ 1 ∷ []) (1 ∷ 1 ∷ 1 ∷ 0 ∷ []) (0 ∷ 0 ∷ 0 ∷ 1 ∷ [])) false ≡ Sound
+pub level-four : sets_check 2 7 (sets_with (1 ∷ 1 ∷ 1 ∷ 1 ∷ []) (1 ∷ 1 ∷ 1 ∷ 0 ∷ []) (0 ∷ 0 ∷ 0 ∷ 1 ∷ [])) false ≡ Ok tt
 unfolding sets_check one_set_check alien unreachable misplaced owing owed first within ones
 level-four = refl
 
-pub level-five : sets_check 2 7 (sets_with (1 ∷ 1 ∷ 1 ∷ 1 ∷ 1 ∷ []) (1 ∷ 1 ∷ 1 ∷ 1 ∷ 0 ∷ []) (0 ∷ 0 ∷ 0 ∷ 0 ∷ 1 ∷ [])) false ≡ Refused (Nesting 7)
+pub level-five : sets_check 2 7 (sets_with (1 ∷ 1 ∷ 1 ∷ 1 ∷ 1 ∷ []) (1 ∷ 1 ∷ 1 ∷ 1 ∷ 0 ∷ []) (0 ∷ 0 ∷ 0 ∷ 0 ∷ 1 ∷ [])) false ≡ Err (Nesting 7)
 unfolding sets_check one_set_check alien unreachable misplaced owing owed first within ones
 level-five = refl
 
 -- no set at all
-pub no-sets : sets_check 2 7 (sets_with [] [] []) false ≡ Refused (Count 7)
+pub no-sets : sets_check 2 7 (sets_with [] [] []) false ≡ Err (Count 7)
 unfolding sets_check one_set_check alien unreachable misplaced owing owed first within ones
 no-sets = refl

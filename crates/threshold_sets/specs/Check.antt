@@ -1,8 +1,8 @@
 -- What is refused of a site's sets, and what those that are not refused promise.
+use Rattle.refusals.specs.Check.{Check}
 use Rattle.std.specs.Prelude.{ℕ, zero, suc, ◌+◌, ◌-◌, ◌≤◌, ◌<◌, Bool, ◌||◌, not, List, [], ◌∷◌, ◌≡◌, eqb, ltb, length}
 use Rattle.masks.specs.Mask.{within, all_below, size, ◌⊆◌}
 use Rattle.refusals.specs.First.{or_else, refuse, first}
-use Rattle.refusals.specs.declared.Check.{Check}
 use Rattle.refusals.specs.declared.Refusal.TheVariants.{Count, Slice, Filler, Threshold, Nesting}
 use Rattle.threshold_sets.specs.Met.{ThresholdSets}
 

@@ -1,6 +1,6 @@
 -- The block that is written of sound sets is sound: it holds them, and its filler is zero.
 use Prim.Native.Nat.{ℕ, ◌+◌, ◌-◌, ◌*◌, ◌/◌, ◌%◌, ◌^◌, ◌≤◌, ◌<◌}
-use mathlib.Core.Bool.{Bool, true, false, ◌||◌, not}
+use mathlib.Core.Bool.{true, false, not}
 use mathlib.Core.List.{List, [], ◌∷◌, ◌++◌, append_assoc}
 use mathlib.Core.Logic.{⊎_elim}
 use mathlib.Core.Path.{◌≡◌, refl, sym, ap, ◌∙◌}
@@ -15,7 +15,6 @@ use Rattle.ground.proofs.Logic.{cases}
 use Rattle.ground.proofs.Pieces.{length-cat, cat-split}
 use Rattle.ground.proofs.Some.{each_none}
 use Rattle.ground.specs.Pieces.{cat}
-use Rattle.ground.specs.Search.{some}
 use Rattle.le.proofs.Laws.{number_digits, field-front, field_at}
 use Rattle.le.specs.Le.{digits, field}
 use Rattle.site_block.specs.Block.{site_field, sites_field, count_field, zero_field, head, misheaded}
@@ -24,7 +23,7 @@ use Rattle.threshold_reading.proofs.Steps.{zero-at}
 use Rattle.threshold_sets.proofs.Alike.{Agree}
 use Rattle.threshold_sets.specs.Met.{ThresholdSets}
 use Rattle.threshold_sound.proofs.Row.{Unused}
-use Rattle.threshold_write.proofs.Store.{length-body, length-places}
+use Rattle.threshold_write.proofs.Store.{length-body}
 use Rattle.threshold_write.specs.Store.{set_bytes, set_places, sets_body, store_sets}
 
 grouped : (d a b r z s : List ℕ) → (d ++ ((a ++ (b ++ r)) ++ z)) ++ s ≡ (d ++ a) ++ (b ++ ((r ++ z) ++ s))

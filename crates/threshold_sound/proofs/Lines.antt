@@ -1,9 +1,9 @@
 -- What holds of the lines so far, through every word: those that are complete are sound, those that are not begun are zero.
-use Prim.Native.Nat.{ℕ, suc, ◌+◌, ◌-◌, ◌*◌, ◌≤◌, ◌<◌}
-use mathlib.Core.Bool.{Bool, true, false, ◌||◌, not, cond}
+use Prim.Native.Nat.{ℕ, ◌+◌, ◌-◌, ◌*◌, ◌≤◌, ◌<◌}
+use mathlib.Core.Bool.{false, cond}
 use mathlib.Core.List.{List, [], ◌∷◌}
 use mathlib.Core.Logic.{⊎_elim}
-use mathlib.Core.Path.{◌≡◌, refl, sym, ap, subst, ◌∙◌}
+use mathlib.Core.Path.{◌≡◌, refl, sym, subst, ◌∙◌}
 use native.Mathlib.Omega.{arith}
 use lib.Bits.{bit_or}
 use lib.Dec.{eqb, ltb}
@@ -14,23 +14,19 @@ use Rattle.ground.proofs.Logic.{cases, or-none}
 use Rattle.masks.proofs.Laws.AllBelow.{in_all}
 use Rattle.masks.proofs.Laws.Single.{single-⊆}
 use Rattle.masks.proofs.Laws.Subsets.{or-⊆}
-use Rattle.masks.specs.Mask.{has, single, size, all_below, ◌⊆◌}
+use Rattle.masks.specs.Mask.{single, size, all_below, ◌⊆◌}
 use Rattle.threshold_sets.proofs.Alike.{Agree, sound-alike}
 use Rattle.threshold_sets.specs.Check.{SoundSets}
 use Rattle.threshold_sets.specs.Met.{ThresholdSets}
-use Rattle.threshold_words.specs.declared.Token.{Token}
-use Rattle.threshold_words.specs.declared.Token.TheVariants.{Silence, Sites, Number, Colon, End, Strange}
-use Rattle.threshold_words.specs.declared.Token.TheVariants.{Of as TheOf, Open as TheOpen, Close as TheClose}
-use Rattle.threshold_grammar.specs.Grammar.{ThresholdSane, doing, spot_at, outside, threshold_own, threshold_missed, threshold_onward, threshold_many, threshold_owner, threshold_sited, linked, threshold_coloned}
-use Rattle.threshold_grammar.specs.declared.Deed.TheVariants.{Nothing, Root, Inner, Least, Site}
+use Rattle.threshold_grammar.specs.Grammar.{ThresholdSane, doing, spot_at, threshold_own, threshold_missed}
+use Rattle.threshold_grammar.specs.declared.Deed.TheVariants.{Root, Inner, Least, Site}
 use Rattle.threshold_grammar.specs.declared.Phase.{Phase}
 use Rattle.threshold_grammar.specs.declared.Phase.TheVariants.{Head, Count, Tail, Owner, Mark, Threshold, Of, Members, Wrong}
 use Rattle.threshold_grammar.specs.declared.Spot.{Spot}
 use Rattle.threshold_nesting.proofs.Ways.{inward, backward}
-use Rattle.threshold_nesting.specs.Nesting.{broken, unreached, threshold_member, set_opened, set_closed, set_completed, threshold_numbered, bracket_opens, bracket_closes, threshold_line_end, threshold_spoken}
+use Rattle.threshold_nesting.specs.Nesting.{unreached}
 use Rattle.threshold_nesting.specs.declared.Held.{Held}
 use Rattle.threshold_reading.specs.Lines.{count_at, threshold_at, inner_at, plain_at, sets_heard, held, enacted}
-use Rattle.threshold_reading.specs.Reading.{word_after, word_leaves}
 use Rattle.threshold_sound.proofs.Row.{Reached, Unused, Row, row-root, row-inner, row-changed, row-closed, row-sound}
 
 -- the open sets of a line, the root at place 0

@@ -1,5 +1,5 @@
 -- The sets of a line that is read: what holds of them while some are open, through every word.
-use Prim.Native.Nat.{ℕ, suc, ◌+◌, ◌-◌, ◌≤◌, ◌<◌}
+use Prim.Native.Nat.{ℕ, suc, ◌+◌, ◌≤◌, ◌<◌}
 use mathlib.Core.Bool.{Bool, true, false, cond}
 use mathlib.Core.List.{List, [], ◌∷◌}
 use mathlib.Core.Logic.{⊎_elim}
@@ -12,9 +12,9 @@ use borrow.Author.Tests.{eqb-true, eqb-false, ne_eqb}
 use Rattle.ground.proofs.Logic.{cases}
 use Rattle.masks.proofs.Laws.Subsets.{⊆-zero}
 use Rattle.masks.specs.Mask.{all_below, size, ◌⊆◌}
-use Rattle.threshold_sets.specs.Check.{owed, SoundSets}
+use Rattle.threshold_sets.specs.Check.{SoundSets}
 use Rattle.threshold_sets.specs.Met.{ThresholdSets}
-use Rattle.threshold_sound.proofs.Nest.{owes, owed-owes, plus, under, under_more, Open, Deep, open-alike, deep-alike, root-open, root-deep, inner-open, inner-deep, close_open, close_deep}
+use Rattle.threshold_sound.proofs.Nest.{owed-owes, under, under_more, Open, Deep, open-alike, deep-alike, root-open, root-deep, inner-open, inner-deep, close_open, close_deep}
 
 -- a set that is complete, and one that is not there
 abbrev pub Reached : ThresholdSets → ℕ → Type 0

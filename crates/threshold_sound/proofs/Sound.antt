@@ -1,5 +1,5 @@
 -- What a text makes is a sound image of thresholds.
-use Prim.Native.Nat.{ℕ, ◌+◌, ◌*◌, ◌^◌, ◌≤◌, ◌<◌}
+use Prim.Native.Nat.{ℕ, ◌*◌, ◌^◌, ◌≤◌, ◌<◌}
 use mathlib.Core.Bool.{Bool, true, false, cond, false≢true}
 use mathlib.Core.List.{List, ◌++◌}
 use mathlib.Core.Logic.{⊎_elim}
@@ -14,21 +14,21 @@ use borrow.Author.Tests.{ltb-true, ltb-false, not-true}
 use Rattle.block.specs.Block.{sealed}
 use Rattle.ground.proofs.Logic.{cases}
 use Rattle.ground.proofs.Pieces.{length-cat, part-cat}
-use Rattle.ground.specs.Pieces.{cat, part}
+use Rattle.ground.specs.Pieces.{part}
 use Rattle.masks.proofs.Laws.Subsets.{below-⊆}
 use Rattle.masks.specs.Mask.{all_below, size, ◌⊆◌}
-use Rattle.refusals.specs.declared.Check.TheVariants.{Sound}
 use Rattle.site_block.specs.Block.{misheaded}
 use Rattle.threshold_block.specs.Block.{sets_in, sets_unfilled}
-use Rattle.threshold_grammar.specs.Grammar.{ThresholdSane, threshold_expected}
+use Rattle.threshold_grammar.specs.Grammar.{threshold_expected}
 use Rattle.threshold_grammar.specs.declared.Phase.{Phase}
 use Rattle.threshold_grammar.specs.declared.Phase.TheVariants.{Head, Count, Tail, Owner, Mark, Threshold, Of, Members, Wrong}
 use Rattle.threshold_grammar.specs.declared.Spot.{Spot}
 use Rattle.threshold_image.proofs.Exact.{thresholds-sound}
 use Rattle.threshold_image.specs.Image.{thresholds_check, Thresholds}
 use Rattle.threshold_made.specs.Made.{threshold_is_whole, threshold_answer_of, threshold_made_of, made_blocks, threshold_or_short, image_to, threshold_made, threshold_leaves, image_made}
-use Rattle.threshold_made.specs.declared.Made.{Made}
-use Rattle.threshold_made.specs.declared.Made.TheVariants.{Sites, Fault, Room}
+use Rattle.std.specs.Prelude.{Result, Ok, Err}
+use Rattle.threshold_made.specs.declared.Fault.{Fault}
+use Rattle.threshold_made.specs.declared.Fault.TheVariants.{Line, Room}
 use Rattle.threshold_reading.specs.Lines.{sets_heard}
 use Rattle.threshold_reading.specs.Reading.{threshold_text_read}
 use Rattle.threshold_sets.proofs.Alike.{sound-alike}
@@ -36,7 +36,6 @@ use Rattle.threshold_sets.specs.Check.{SoundSets}
 use Rattle.threshold_sets.specs.Met.{ThresholdSets}
 use Rattle.threshold_sound.proofs.Block.{store-headed, store-sealed, store-sets, store-filled}
 use Rattle.threshold_sound.proofs.Lines.{Full, Done, Good}
-use Rattle.threshold_sound.proofs.Row.{Unused}
 use Rattle.threshold_sound.proofs.Words.{Keeps, text-keeps}
 use Rattle.threshold_sound.specs.Theorems.{ThresholdsMadeSound, ThresholdsMadeChecked, ThresholdsLeftSound}
 use Rattle.threshold_write.proofs.Store.{length-store}
@@ -54,12 +53,12 @@ ends Of b e = absurd (false≢true e)
 ends Members b e = absurd (false≢true e)
 ends (Wrong w) b e = absurd (false≢true e)
 
-answered : (s : Spot) (n : ℕ) → threshold_answer_of s ≡ Sites n → (s.phase ≡ Owner) × (s.n ≤ s.v) × (s.n ≡ n)
+answered : (s : Spot) (n : ℕ) → threshold_answer_of s ≡ Ok n → (s.phase ≡ Owner) × (s.n ≤ s.v) × (s.n ≡ n)
 unfolding threshold_answer_of
 answered s n e = pick (threshold_is_whole s.phase (ltb s.v s.n)) refl e
   where
     pick : (b : Bool) → threshold_is_whole s.phase (ltb s.v s.n) ≡ b
-        → cond b (Sites s.n) (Fault s.line (threshold_expected s.phase (ltb s.v s.n) (ltb 1 s.depth))) ≡ Sites n
+        → cond b (Ok s.n) (Err (Line s.line (threshold_expected s.phase (ltb s.v s.n) (ltb 1 s.depth)))) ≡ Ok n
         → (s.phase ≡ Owner) × (s.n ≤ s.v) × (s.n ≡ n)
     pick true w e = let h = ends s.phase (ltb s.v s.n) w in (h.0, ltb-false s.v s.n h.1, cc)
     pick false w e = let z : ◌≡◌ {A = ℕ} 0 1 = cc in absurd (omega arith)
@@ -83,7 +82,7 @@ module _ (n : ℕ) (S : ThresholdSets) (few : n ≤ 64) (f : Full n S) where
       (cases (ltb i S.count))
 
 -- all blocks
-module _ (s : Spot) (t : List ℕ) (n : ℕ) (k : Keeps s t) (e : threshold_answer_of s ≡ Sites n) where
+module _ (s : Spot) (t : List ℕ) (n : ℕ) (k : Keeps s t) (e : threshold_answer_of s ≡ Ok n) where
   whole : (1 ≤ n) × (n ≤ 64) × Done n n t
   whole =
       let a = answered s n e in
@@ -127,10 +126,10 @@ pub made-checked : ThresholdsMadeChecked
 made-checked text n e = thresholds-sound (made-image text n e)
 
 -- the room
-fitting : (room : ℕ) (m : Made) (n : ℕ) → threshold_or_short room m ≡ Sites n → m ≡ Sites n
+fitting : (room : ℕ) (m : Result ℕ Fault) (n : ℕ) → threshold_or_short room m ≡ Ok n → m ≡ Ok n
 fitting room m n e = pick (ltb room (512 * made_blocks m)) e
   where
-    pick : (b : Bool) → cond b Room m ≡ Sites n → m ≡ Sites n
+    pick : (b : Bool) → cond b (Err Room) m ≡ Ok n → m ≡ Ok n
     pick true e = let z : ◌≡◌ {A = ℕ} 0 1 = cc in absurd (omega arith)
     pick false e = e
 
@@ -139,9 +138,9 @@ unfolding threshold_made threshold_leaves image_made
 left-sound text room n e =
     let a = fitting (length room) (threshold_answer_of (threshold_made_of text).spot) n e in
     let i = made-image text n a in
-    let x : image_made text ≡ image_to n (threshold_made_of text).lines n = ap (λ (m : Made). image_to (made_blocks m) (threshold_made_of text).lines (made_blocks m)) a in
+    let x : image_made text ≡ image_to n (threshold_made_of text).lines n = ap (λ (m : Result ℕ Fault). image_to (made_blocks m) (threshold_made_of text).lines (made_blocks m)) a in
     let y : threshold_leaves text room ≡ image_to n (threshold_made_of text).lines n ++ drop (512 * n) room =
-    ap (λ (m : Made). image_to (made_blocks m) (threshold_made_of text).lines (made_blocks m) ++ drop (512 * made_blocks m) room) e in
+    ap (λ (m : Result ℕ Fault). image_to (made_blocks m) (threshold_made_of text).lines (made_blocks m) ++ drop (512 * made_blocks m) room) e in
     let z : take (512 * n) (threshold_leaves text room) ≡ image_made text =
     ap (take (512 * n)) y ∙ take_at (image_to n (threshold_made_of text).lines n) (drop (512 * n) room) (512 * n) (ap length (sym x) ∙ i.long) ∙ sym x in
     ap thresholds_check z ∙ made-checked text n a

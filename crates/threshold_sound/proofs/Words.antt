@@ -1,14 +1,14 @@
 -- Every word keeps what holds of the lines, and so does a text.
-use Prim.Native.Nat.{ℕ, ◌+◌, ◌-◌, ◌*◌, ◌≤◌, ◌<◌}
+use Prim.Native.Nat.{ℕ, ◌+◌, ◌-◌}
 use mathlib.Core.Bool.{Bool, true, false, ◌||◌, not, cond}
 use mathlib.Core.List.{List, [], ◌∷◌}
-use mathlib.Core.Path.{◌≡◌, refl, sym, ap, subst, ◌∙◌}
+use mathlib.Core.Path.{◌≡◌, refl, subst, ◌∙◌}
 use native.Mathlib.Omega.{arith}
 use lib.Dec.{eqb, ltb}
-use lib.ListN.{length, get_or, replicate, length-replicate}
+use lib.ListN.{length, replicate, length-replicate}
 use borrow.Author.Tests.{ltb-true, ltb-false, not-false}
 use Rattle.ground.proofs.Logic.{or-none}
-use Rattle.masks.specs.Mask.{has, single}
+use Rattle.masks.specs.Mask.{has}
 use Rattle.threshold_words.specs.Words.{threshold_sign_of, threshold_ended, threshold_said, threshold_closing, threshold_stopped}
 use Rattle.threshold_words.specs.declared.Begun.TheVariants.{Fresh}
 use Rattle.threshold_words.specs.declared.Begun as Word
@@ -16,15 +16,15 @@ use Rattle.threshold_words.specs.declared.Sign.{Sign}
 use Rattle.threshold_words.specs.declared.Token.{Token}
 use Rattle.threshold_words.specs.declared.Token.TheVariants.{Silence, Sites, Number, Colon, Open, Close, End, Strange}
 use Rattle.threshold_words.specs.declared.Token.TheVariants.{Of as TheOf}
-use Rattle.threshold_grammar.specs.Grammar.{ThresholdSane, doing, spot_at, outside, threshold_own, threshold_missed, threshold_onward, threshold_many, threshold_owner, threshold_sited, linked, threshold_coloned}
+use Rattle.threshold_grammar.specs.Grammar.{ThresholdSane, spot_at, outside, threshold_missed, threshold_many, threshold_owner, threshold_sited, linked, threshold_coloned}
 use Rattle.threshold_grammar.specs.declared.Phase.{Phase}
 use Rattle.threshold_grammar.specs.declared.Phase.TheVariants.{Head, Count, Tail, Owner, Mark, Threshold, Of, Members, Wrong}
 use Rattle.threshold_grammar.specs.declared.Spot.{Spot}
 use Rattle.threshold_nesting.specs.Nesting.{unreached, threshold_member, set_opened, set_closed, set_completed, threshold_numbered, bracket_opens, bracket_closes as bracketed, threshold_line_end, threshold_spoken}
 use Rattle.threshold_reading.proofs.Steps.{after-sane, length-leaves, start-sane, zero-at}
-use Rattle.threshold_reading.specs.Lines.{count_at, threshold_at, inner_at, plain_at, sets_heard, held, enacted}
+use Rattle.threshold_reading.specs.Lines.{count_at, threshold_at, inner_at, plain_at, held}
 use Rattle.threshold_reading.specs.Reading.{ThresholdHere, threshold_here, word_after, word_leaves, threshold_heard_as, threshold_hearing, threshold_read_on, threshold_start, threshold_finished, threshold_text_read}
-use Rattle.threshold_sound.proofs.Lines.{Blank, Done, Left, Begun, Good, Better, missed-good, rooted, moved, least-good, site-good, inner-good, back-good, end-good}
+use Rattle.threshold_sound.proofs.Lines.{Done, Left, Begun, Good, Better, missed-good, rooted, moved, least-good, site-good, inner-good, back-good, end-good}
 
 module _ (s : Spot) (t : List ℕ) (sane : ThresholdSane s) (long : length t ≡ 9472) where
   either : (b : Bool) (x y : Spot) → (b ≡ true → Better x t) → (b ≡ false → Better y t) → Better (cond b x y) t

@@ -6,17 +6,14 @@ ghost use Rattle.std.specs.Prelude.{◌≡◌};
 ghost use Rattle.sets.specs.Groups.{thresholds};
 ghost use Rattle.questions.specs.Answers.{shared, intact};
 
-use questions::{Sharing, Standing};
-use refusals::Check;
+use questions::Pair;
+use refusals::Refusal;
 
 // Do every two quorums have a common site?
-pub fn shared(image: &[u8]) -> Sharing
+pub fn shared(image: &[u8]) -> Result<Option<Pair>, Refusal>
     ensures { result ≡ shared (thresholds image.now) }
 {
-    let q = threshold_image::check(image);
-    if let Check::Refused(r) = q {
-        return Sharing::Refused(r);
-    }
+    threshold_image::check(image)?;
     let n = image.len() / 512;
     let mut rows = [0u64; 4032];
     threshold_image::load(image, n, &mut rows);
@@ -24,13 +21,10 @@ pub fn shared(image: &[u8]) -> Sharing
 }
 
 // Which sites are intact when those of the set are faulty?
-pub fn intact(image: &[u8], faulty: u64) -> Standing
+pub fn intact(image: &[u8], faulty: u64) -> Result<u64, Refusal>
     ensures { result ≡ intact (thresholds image.now) faulty }
 {
-    let q = threshold_image::check(image);
-    if let Check::Refused(r) = q {
-        return Standing::Refused(r);
-    }
+    threshold_image::check(image)?;
     let n = image.len() / 512;
     let mut rows = [0u64; 4032];
     threshold_image::load(image, n, &mut rows);

@@ -1,10 +1,10 @@
 -- Two results that meet a contract of this crate coincide: the answers, the state and the answer room at exit.
+use Rattle.refusals.specs.Check.{Answer}
 use Prim.Native.Nat.{ℕ}
 use mathlib.Core.List.{List}
 use mathlib.Core.Path.{sym, ap, ◌∙◌}
 use Rattle.ground.specs.Coincide.{Answers, All}
 use Rattle.run.specs.Run.{state_into, answers_into}
-use Rattle.run.specs.declared.Ran.{Ran}
 use Rattle.sets.specs.Groups.{thresholds}
 use Rattle.threshold_votes.proofs.run.Kinds as run-kinds
 use Rattle.threshold_votes.proofs.run.Reads as run-reads
@@ -22,9 +22,9 @@ step-coincide κs a x y s t p q = (p.0 ∙ sym q.0, p.1 ∙ sym q.1)
 pub run-states-coincide : All run-kinds.ps run-kinds.r (List ℕ) (λ κs s. s.1.1.1.0.now) run-reads.Post
 run-states-coincide κs a x y s t p q =
     let e = p.0 ∙ sym q.0 in
-    (e, p.1.0 ∙ ap (λ (r : Ran). state_into r (thresholds a.0.now) a.1.0 a.1.1.0.now a.1.1.1.0.now) e ∙ sym q.1.0)
+    (e, p.1.0 ∙ ap (λ (r : Answer ℕ). state_into r (thresholds a.0.now) a.1.0 a.1.1.0.now a.1.1.1.0.now) e ∙ sym q.1.0)
 
 pub run-answers-coincide : All run-kinds.ps run-kinds.r (List ℕ) (λ κs s. s.1.1.1.1.0.now) run-reads.Post
 run-answers-coincide κs a x y s t p q =
     let e = p.0 ∙ sym q.0 in
-    (e, p.1.1 ∙ ap (λ (r : Ran). answers_into r (thresholds a.0.now) a.1.0 a.1.1.0.now a.1.1.1.1.0.now) e ∙ sym q.1.1)
+    (e, p.1.1 ∙ ap (λ (r : Answer ℕ). answers_into r (thresholds a.0.now) a.1.0 a.1.1.0.now a.1.1.1.1.0.now) e ∙ sym q.1.1)

@@ -5,20 +5,15 @@ ghost use Rattle.std.specs.Prelude.{◌≡◌, length};
 ghost use Rattle.run.specs.Run.{ran, state_into, answers_into};
 ghost use Rattle.sets.specs.Groups.{thresholds};
 ghost use Rattle.votes.specs.Call.{call};
-ghost use Rattle.voting.specs.Step.{sound_check, step_check, to_stepped, step_into};
+ghost use Rattle.voting.specs.Step.{sound_check, step_check, step_into};
 
-use refusals::Check;
-use run::Ran;
-use voting::Stepped;
+use refusals::Refusal;
 
 // The soundness of a state: image, 10, 18.
-pub fn sound(image: &[u8], faulty: u64, state: &[u64]) -> Check
+pub fn sound(image: &[u8], faulty: u64, state: &[u64]) -> Result<(), Refusal>
     ensures { result ≡ sound_check (thresholds image.now) faulty state.now }
 {
-    let q = threshold_image::check(image);
-    let Check::Sound = q else {
-        return q;
-    };
+    threshold_image::check(image)?;
     let n = image.len() / 512;
     let mut rows = [0u64; 4032];
     threshold_image::load(image, n, &mut rows);
@@ -34,14 +29,11 @@ pub fn step(
     from: u8,
     to: u8,
     side: u8,
-) -> Stepped
-    ensures answer { result ≡ to_stepped (step_check (thresholds image.now) faulty (call kind from to side) state.old) }
+) -> Result<(), Refusal>
+    ensures answer { result ≡ step_check (thresholds image.now) faulty (call kind from to side) state.old }
     ensures memory { state.new ≡ step_into (thresholds image.now) faulty (call kind from to side) state.old }
 {
-    let q = threshold_image::check(image);
-    if let Check::Refused(r) = q {
-        return Stepped::Refused(r);
-    }
+    threshold_image::check(image)?;
     let n = image.len() / 512;
     let mut rows = [0u64; 4032];
     threshold_image::load(image, n, &mut rows);
@@ -49,15 +41,18 @@ pub fn step(
 }
 
 // The run of a list of calls, four bytes a call, from a fresh state: image, 10, 17, 9, then the run.
-pub fn run(image: &[u8], faulty: u64, list: &[u8], state: &mut [u64], answers: &mut [u8]) -> Ran
+pub fn run(
+    image: &[u8],
+    faulty: u64,
+    list: &[u8],
+    state: &mut [u64],
+    answers: &mut [u8],
+) -> Result<u64, Refusal>
     ensures answer { result ≡ ran (thresholds image.now) faulty list.now (length state.old) (length answers.old) }
     ensures states { state.new ≡ state_into result (thresholds image.now) faulty list.now state.old }
     ensures bytes { answers.new ≡ answers_into result (thresholds image.now) faulty list.now answers.old }
 {
-    let q = threshold_image::check(image);
-    if let Check::Refused(r) = q {
-        return Ran::Refused(r);
-    }
+    threshold_image::check(image)?;
     let n = image.len() / 512;
     let mut rows = [0u64; 4032];
     threshold_image::load(image, n, &mut rows);

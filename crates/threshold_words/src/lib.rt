@@ -1,4 +1,6 @@
 // From bytes to words: what is in hand after a byte of a text, the word that ends there, and what the byte says itself. The rules are in specs/Words.antt.
+// It stands beside table_words, whose words look alike: what is in hand, what a byte is and what is heard have other variants there (a bar, and no bracket
+// and no `of`), and a number is kept up to 64 there and up to 255 here, so that one set of words for both would let each text say what only the other may.
 #![tactic(auto)]
 
 ghost use Rattle.std.specs.Prelude.{◌≡◌};
@@ -48,61 +50,53 @@ pub enum Token {
 }
 
 // One digit more; 256 stands for every number over 255.
+#[tactic(auto, unfolding(crate::specs::Words::threshold_counts, crate::specs::Words::threshold_grown))]
 fn counts(x: u64, b: u8) -> Begun
     ensures { result ≡ threshold_counts x b }
 {
-    if b < 48 {
-        return Begun::Odd;
-    }
-    if 57 < b {
+    if b < b'0' || b'9' < b {
         return Begun::Odd;
     }
     if 255 < x {
         return Begun::Digits(256);
     }
-    let d = (b - 48) as u64;
-    let y = 10 * x + d;
-    if y < 256 {
-        return Begun::Digits(y);
-    }
-    Begun::Digits(256)
+    let y = 10 * x + u64::from(b - b'0');
+    Begun::Digits(y.min(256))
 }
 
 // One letter more of `sites`.
+#[tactic(auto, unfolding(crate::specs::Words::threshold_spelt))]
 fn spelt(k: u64, b: u8) -> Begun
     ensures { result ≡ threshold_spelt k b }
 {
     let word = b"sites";
-    if 4 < k {
-        return Begun::Odd;
+    if k < 5 && word[k as usize] == b {
+        Begun::Letters(k + 1)
+    } else {
+        Begun::Odd
     }
-    if word[k as usize] == b {
-        return Begun::Letters(k + 1);
-    }
-    Begun::Odd
 }
 
 // The second letter of `of`.
+#[tactic(auto, unfolding(crate::specs::Words::oh))]
 fn oh(b: u8) -> Begun
     ensures { result ≡ oh b }
 {
-    if b == 102 {
-        return Begun::Of;
-    }
-    Begun::Odd
+    if b == b'f' { Begun::Of } else { Begun::Odd }
 }
 
 // The first byte of a word.
+#[tactic(auto, unfolding(crate::specs::Words::threshold_opens))]
 fn opens(b: u8) -> Begun
     ensures { result ≡ threshold_opens b }
 {
-    if b < 58 {
-        return counts(0, b);
+    if b <= b'9' {
+        counts(0, b)
+    } else if b == b'o' {
+        Begun::Oh
+    } else {
+        spelt(0, b)
     }
-    if b == 111 {
-        return Begun::Oh;
-    }
-    spelt(0, b)
 }
 
 // A byte that is a part of a word.
@@ -110,57 +104,38 @@ fn word_on(w: Begun, b: u8) -> Begun
     ensures { result ≡ threshold_word_on w b }
 {
     match w {
-        Begun::Fresh => opens(b),
-        Begun::Gap => opens(b),
+        Begun::Fresh | Begun::Gap => opens(b),
         Begun::Digits(x) => counts(x, b),
         Begun::Letters(k) => spelt(k, b),
         Begun::Oh => oh(b),
-        Begun::Of => Begun::Odd,
-        Begun::Odd => Begun::Odd,
-        Begun::Return => Begun::Odd,
+        Begun::Of | Begun::Odd | Begun::Return => Begun::Odd,
         Begun::Comment => Begun::Comment,
     }
 }
 
 // What a byte is outside comments.
+#[tactic(auto, unfolding(crate::specs::Words::threshold_plain))]
 fn plain(b: u8) -> Sign
     ensures { result ≡ threshold_plain b }
 {
-    if b == 10 {
-        return Sign::Line;
+    match b {
+        b'\n' => Sign::Line,
+        b'#' => Sign::Note,
+        b':' => Sign::Colon,
+        b'(' => Sign::Open,
+        b')' => Sign::Close,
+        b'\r' => Sign::Return,
+        b' ' | b'\t' => Sign::Blank,
+        _ => Sign::Part,
     }
-    if b == 35 {
-        return Sign::Note;
-    }
-    if b == 58 {
-        return Sign::Colon;
-    }
-    if b == 40 {
-        return Sign::Open;
-    }
-    if b == 41 {
-        return Sign::Close;
-    }
-    if b == 13 {
-        return Sign::Return;
-    }
-    if b == 32 {
-        return Sign::Blank;
-    }
-    if b == 9 {
-        return Sign::Blank;
-    }
-    Sign::Part
 }
 
 // LF, or else something that every other byte is.
+#[tactic(auto, unfolding(crate::specs::Words::threshold_or_line))]
 fn or_line(b: u8, other: Sign) -> Sign
     ensures { result ≡ threshold_or_line b other }
 {
-    if b == 10 {
-        return Sign::Line;
-    }
-    other
+    if b == b'\n' { Sign::Line } else { other }
 }
 
 // What a byte is where a word is in hand.
@@ -168,15 +143,9 @@ pub fn sign_of(w: Begun, b: u8) -> Sign
     ensures { result ≡ threshold_sign_of w b }
 {
     match w {
-        Begun::Fresh => plain(b),
-        Begun::Gap => plain(b),
-        Begun::Digits(_) => plain(b),
-        Begun::Letters(_) => plain(b),
-        Begun::Oh => plain(b),
-        Begun::Of => plain(b),
-        Begun::Odd => plain(b),
         Begun::Return => or_line(b, Sign::Part),
         Begun::Comment => or_line(b, Sign::Note),
+        _ => plain(b),
     }
 }
 
@@ -187,23 +156,18 @@ pub fn turn(c: Sign, w: Begun, b: u8) -> Begun
     match c {
         Sign::Line => Begun::Fresh,
         Sign::Note => Begun::Comment,
-        Sign::Colon => Begun::Gap,
-        Sign::Open => Begun::Gap,
-        Sign::Close => Begun::Gap,
+        Sign::Colon | Sign::Open | Sign::Close | Sign::Blank => Begun::Gap,
         Sign::Return => Begun::Return,
-        Sign::Blank => Begun::Gap,
         Sign::Part => word_on(w, b),
     }
 }
 
 // `sites` is whole after five letters.
+#[tactic(auto, unfolding(crate::specs::Words::threshold_spelled))]
 fn spelled(k: u64) -> Token
     ensures { result ≡ threshold_spelled k }
 {
-    if k == 5 {
-        return Token::Sites;
-    }
-    Token::Strange
+    if k == 5 { Token::Sites } else { Token::Strange }
 }
 
 // A word that is complete.
@@ -211,15 +175,11 @@ fn whole(w: Begun) -> Token
     ensures { result ≡ threshold_whole w }
 {
     match w {
-        Begun::Fresh => Token::Silence,
-        Begun::Gap => Token::Silence,
         Begun::Digits(x) => Token::Number(x),
         Begun::Letters(k) => spelled(k),
-        Begun::Oh => Token::Strange,
         Begun::Of => Token::Of,
-        Begun::Odd => Token::Strange,
-        Begun::Return => Token::Silence,
-        Begun::Comment => Token::Silence,
+        Begun::Oh | Begun::Odd => Token::Strange,
+        _ => Token::Silence,
     }
 }
 
@@ -228,14 +188,8 @@ pub fn ended(c: Sign, w: Begun) -> Token
     ensures { result ≡ threshold_ended c w }
 {
     match c {
-        Sign::Line => whole(w),
-        Sign::Note => whole(w),
-        Sign::Colon => whole(w),
-        Sign::Open => whole(w),
-        Sign::Close => whole(w),
-        Sign::Return => whole(w),
-        Sign::Blank => whole(w),
         Sign::Part => Token::Silence,
+        _ => whole(w),
     }
 }
 
@@ -245,13 +199,10 @@ pub fn said(c: Sign) -> Token
 {
     match c {
         Sign::Line => Token::End,
-        Sign::Note => Token::Silence,
         Sign::Colon => Token::Colon,
         Sign::Open => Token::Open,
         Sign::Close => Token::Close,
-        Sign::Return => Token::Silence,
-        Sign::Blank => Token::Silence,
-        Sign::Part => Token::Silence,
+        _ => Token::Silence,
     }
 }
 
@@ -261,14 +212,7 @@ pub fn closing(w: Begun) -> Sign
 {
     match w {
         Begun::Fresh => Sign::Note,
-        Begun::Gap => Sign::Line,
-        Begun::Digits(_) => Sign::Line,
-        Begun::Letters(_) => Sign::Line,
-        Begun::Oh => Sign::Line,
-        Begun::Of => Sign::Line,
-        Begun::Odd => Sign::Line,
-        Begun::Return => Sign::Line,
-        Begun::Comment => Sign::Line,
+        _ => Sign::Line,
     }
 }
 
@@ -277,14 +221,7 @@ pub fn stopped(w: Begun) -> Begun
     ensures { result ≡ threshold_stopped w }
 {
     match w {
-        Begun::Fresh => Begun::Fresh,
-        Begun::Gap => Begun::Gap,
-        Begun::Digits(x) => Begun::Digits(x),
-        Begun::Letters(k) => Begun::Letters(k),
-        Begun::Oh => Begun::Oh,
-        Begun::Of => Begun::Of,
-        Begun::Odd => Begun::Odd,
         Begun::Return => Begun::Odd,
-        Begun::Comment => Begun::Comment,
+        _ => w,
     }
 }

@@ -1,10 +1,10 @@
 -- Laws of the functions that write a block of thresholds, part by part.
-use Prim.Native.Nat.{ℕ, suc, ◌+◌, ◌*◌, ◌%◌, ◌≤◌, ◌<◌}
-use mathlib.Core.List.{List, [], ◌∷◌, ◌++◌, append_assoc, append-nil}
+use Prim.Native.Nat.{ℕ, ◌+◌, ◌*◌, ◌%◌, ◌<◌}
+use mathlib.Core.List.{List, ◌++◌, append_assoc, append-nil}
 use mathlib.Core.Path.{◌≡◌, refl, sym, ap, ◌∙◌}
 use native.Mathlib.Omega.{arith}
-use lib.ListN.{length, take, drop, set, length-append, take-append-drop}
-use lib.Seq.{sets, take_at, drop_at, length-take-le}
+use lib.ListN.{length, take, drop, length-append, take-append-drop}
+use lib.Seq.{sets, take_at, length-take-le}
 use Rattle.block.proofs.Seal.{length-seal}
 use Rattle.block.specs.Block.{seal}
 use Rattle.ground.proofs.Pieces.{cat-more, length-cat, fill-sets}
@@ -19,14 +19,6 @@ use Rattle.threshold_write.specs.Store.{set_bytes, set_places, sets_body, store_
 head-mod : (i n x : ℕ) → head i n (x % 65536) ≡ head i n x
 unfolding head
 head-mod i n x = ap (λ (d : List ℕ). digits 2 i ++ (digits 2 n ++ (d ++ digits 2 0))) (sym (digits-plus 2 0 x))
-
--- ten bytes, one behind the other
-pub set-puts : (b : List ℕ) (at threshold inner plain : ℕ)
-    → sets (set (set b at (threshold % 256)) (at + 1) (inner % 256)) (at + 2) (digits 8 plain) ≡ sets b at (digits 1 threshold ++ (digits 1 inner ++ digits 8 plain))
-set-puts b at threshold inner plain =
-    let e : at + 1 ≡ suc at = omega arith in
-    let f : at + 2 ≡ suc (suc at) = omega arith in
-    rw (e, f) refl
 
 pub length-places : (S : ThresholdSets) (k : ℕ) → length (set_places S k) ≡ 10 * k
 unfolding set_places

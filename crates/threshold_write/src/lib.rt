@@ -36,12 +36,10 @@ fn put_places(b: &mut [u8], t: &[u64], u: usize)
     requires u_bound { u < 64 }
     ensures { b.new ≡ (take 8 b.old ++ set_places (sets_heard t.now u) 49) ++ drop 498 b.old }
 {
-    let mut i: usize = 0;
-    while i < 49 {
+    for i in 0..49 {
         let threshold = t[148 * u + (1 + 3 * i)];
         let inner = t[148 * u + (2 + 3 * i)];
         put_set(b, 8 + 10 * i, threshold, inner, t[148 * u + (3 + 3 * i)]);
-        i += 1;
     }
 }
 

@@ -1,13 +1,13 @@
 -- A vote that is heard in vain: the receiver hears it, and the rules change nothing else.
 use Prim.Native.Nat.{ℕ, ◌<◌}
-use mathlib.Core.Bool.{Bool, true, false}
+use mathlib.Core.Bool.{true, false}
 use mathlib.Core.List.{List}
 use mathlib.Core.Logic.{⊎_elim}
-use mathlib.Core.Path.{◌≡◌, refl, sym, ap, ap₂, ◌∙◌, subst}
+use mathlib.Core.Path.{◌≡◌, sym, ap, ap₂, ◌∙◌, subst}
 use native.Mathlib.Omega.{arith}
 use lib.Bits.{bit_or}
 use lib.Dec.{eqb}
-use borrow.Author.Tests.{eqb-true, eq-eqb, ne_eqb}
+use borrow.Author.Tests.{eqb-true}
 use Rattle.asking.proofs.KnownLaws.{hopeless-none}
 use Rattle.asking.specs.Inner.{Known, hopeless}
 use Rattle.ground.proofs.Logic.{and_l, and_r, clash}
@@ -25,18 +25,6 @@ use Rattle.sets.specs.Paper.{Fbqs}
 use Rattle.sets.specs.Promises.{Questions, Promises}
 use Rattle.vain.specs.Inner.{vain}
 use Rattle.votes.specs.Call.{Call}
-
--- the ways out of the test
-module _ (known : List ℕ) (c : Call) (s : List ℕ) where
-  pub vain-other : (c.kind ≡ 1 → ⊥) → false ≡ vain known c s
-  unfolding vain
-  vain-other ne = rw (ne_eqb c.kind 1 ne) refl
-
-  -- i and j are the places read, m the sender alone
-  pub vain-vote : c.kind ≡ 1 → {i j m : ℕ} → i ≡ votes c.side c.to → j ≡ accepts c.side c.to → m ≡ single c.from → {b : Bool} →
-      b ≡ hopeless known c.to (bit_or (bit_or (get s i) (get s j)) m) → b ≡ vain known c s
-  unfolding vain
-  vain-vote k p q e h = h ∙ rw (p, q, e, eq-eqb c.kind 1 k) refl
 
 module _ {Σ : ℕ → Fbqs} {Q : Questions} (P : Promises Σ Q) {n F : ℕ} {known : List ℕ} (Known-so : Known Q known) {c : Call} {s : List ℕ} (S : Sound Q n F s) (K : Takes n F c s) (t : vain known c s ≡ true) where
   abbrev v : ℕ

@@ -10,6 +10,7 @@ ghost use Rattle.vain.specs.Inner.{vain};
 ghost use Rattle.votes.specs.Call.{call};
 
 // A vote, and with its sender all that the receiver heard of the side has it in no quorum.
+#[tactic(auto, unfolding(crate::specs::Inner::vain))]
 pub fn is_vain(
     n: usize,
     state: &[u64],

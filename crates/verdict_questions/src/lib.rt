@@ -10,66 +10,54 @@ ghost use Rattle.sets.specs.Inner.Rows.{Rows, rules_of};
 ghost use Rattle.questions.specs.Answers.{to_sharing, shared, to_standing, intact};
 ghost use Rattle.verdicts.specs.Verdicts as Verdicts;
 
-use questions::{Sharing, Standing};
-use refusals::{Check, Refusal};
+use questions::Pair;
+use refusals::Refusal;
 
 // Verdicts on shared sites and on intact sites are given for so many sites at most.
 const MOST: usize = 12;
 
 // Do every two quorums have a common site? Of rows: 16, then the answer.
-pub fn shared_of(rows: &[u64], n: usize) -> Sharing
+pub fn shared_of(rows: &[u64], n: usize) -> Result<Option<Pair>, Refusal>
     requires { Rows rows.now n }
     ensures { result ≡ to_sharing (refuse (ltb 12 n) Refused.Refusal.Large) (Verdicts.meets (rules_of rows.now).inside n)
         (Verdicts.first_apart (rules_of rows.now).inside n)
         (Verdicts.beside (rules_of rows.now).inside n (Verdicts.first_apart (rules_of rows.now).inside n)) }
 {
     if MOST < n {
-        return Sharing::Refused(Refusal::Large);
+        return Err(Refusal::Large);
     }
     let pair = shared_sites::two_apart(rows, n);
     if pair.first == masks::single(n as u64) {
-        return Sharing::Meet;
+        return Ok(None);
     }
-    Sharing::Apart {
-        first: pair.first,
-        second: pair.second,
-    }
+    Ok(Some(pair))
 }
 
 // Do every two quorums have a common site?
-pub fn shared(table: &[u64]) -> Sharing
+pub fn shared(table: &[u64]) -> Result<Option<Pair>, Refusal>
     ensures { result ≡ shared (lists table.now) }
 {
-    let q = table::check(table);
-    if let Check::Refused(r) = q {
-        return Sharing::Refused(r);
-    }
+    table::check(table)?;
     shared_of(table, table.len() / 63)
 }
 
 // Which sites are intact when those of the set are faulty? Of rows: 10, 16, then the answer.
-pub fn intact_of(rows: &[u64], n: usize, faulty: u64) -> Standing
+pub fn intact_of(rows: &[u64], n: usize, faulty: u64) -> Result<u64, Refusal>
     requires { Rows rows.now n }
     ensures { result ≡ to_standing (or_else (outsider n faulty) (refuse (ltb 12 n) Refused.Refusal.Large))
         (Verdicts.intact (rules_of rows.now) n faulty) }
 {
-    let q = sets::check_set(n, faulty);
-    if let Check::Refused(r) = q {
-        return Standing::Refused(r);
-    }
+    sets::check_set(n, faulty)?;
     if MOST < n {
-        return Standing::Refused(Refusal::Large);
+        return Err(Refusal::Large);
     }
-    Standing::Intact(intact_sites::intact(rows, n, faulty))
+    Ok(intact_sites::intact(rows, n, faulty))
 }
 
 // Which sites are intact when those of the set are faulty?
-pub fn intact(table: &[u64], faulty: u64) -> Standing
+pub fn intact(table: &[u64], faulty: u64) -> Result<u64, Refusal>
     ensures { result ≡ intact (lists table.now) faulty }
 {
-    let q = table::check(table);
-    if let Check::Refused(r) = q {
-        return Standing::Refused(r);
-    }
+    table::check(table)?;
     intact_of(table, table.len() / 63, faulty)
 }

@@ -1,17 +1,12 @@
 -- What `desk verdict` prints behind the seven lines of a verdict: its four sets by their sites' numbers; and, where the table does not meet, two quorums
 -- with no common site. Where the verdict is refused, nothing.
-use Rattle.std.specs.Prelude.{ℕ, List, [], ◌++◌}
+use Rattle.refusals.specs.Check.{Answer}
+use Rattle.std.specs.Prelude.{ℕ, List, [], ◌++◌, Some, None, Ok, Err}
 use Rattle.check_text.specs.Table.{image_check, unless, table_on}
 use Rattle.lines.specs.Lines.{line}
 use Rattle.masks.specs.Mask.{all_below, minus}
 use Rattle.members.specs.Members.{members}
-use Rattle.questions.specs.Answers.{largest, shared, intact}
-use Rattle.questions.specs.declared.Greatest.{Greatest}
-use Rattle.questions.specs.declared.Greatest.TheVariants.{Set}
-use Rattle.questions.specs.declared.Sharing.{Sharing}
-use Rattle.questions.specs.declared.Sharing.TheVariants.{Meet, Apart}
-use Rattle.questions.specs.declared.Standing.{Standing}
-use Rattle.questions.specs.declared.Standing.TheVariants.{Intact}
+use Rattle.questions.specs.Answers.{LargestSet, Sharing, largest, shared, intact, pair_of, set_left}
 use Rattle.sets.specs.Groups.{Groups, sites_of}
 use Rattle.text.specs.Text.{ascii}
 
@@ -26,14 +21,14 @@ four_sets F n whole quorum =
 
 -- the pair that the question of shared sites answers: `parted 0 1 | 2 3`
 abbrev pub parted : Sharing → List ℕ
-parted Meet = []
-parted (Apart p q) = line (ascii "parted") (members p ++ (ascii " |" ++ members q))
-parted (Sharing.Refused r) = []
+parted (Ok None) = []
+parted (Ok (Some p)) = line (ascii "parted") (members p.first ++ (ascii " |" ++ members p.second))
+parted (Err r) = []
 
-abbrev pub sets_spelled : ℕ → ℕ → Standing → Greatest → Sharing → List ℕ
-sets_spelled F n (Intact whole) (Set quorum rounds) s = four_sets F n whole quorum ++ parted s
-sets_spelled F n (Intact whole) (Greatest.Refused r) s = []
-sets_spelled F n (Standing.Refused r) g s = []
+abbrev pub sets_spelled : ℕ → ℕ → Answer ℕ → LargestSet → Sharing → List ℕ
+sets_spelled F n (Ok whole) (Ok l) s = four_sets F n whole l.set ++ parted s
+sets_spelled F n (Ok whole) (Err r) s = []
+sets_spelled F n (Err r) g s = []
 
 -- of a table in memory: by the answers of the public questions
 unfoldable pub judged_sites : ℕ → Groups → List ℕ

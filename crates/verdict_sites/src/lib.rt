@@ -8,24 +8,34 @@ ghost use Rattle.text.specs.Written.{Writes};
 ghost use Rattle.verdict_sites.specs.Sites.{parted, four_sets, judged_sites, verdict_sites};
 
 use check_text::ROOM;
-use image::Reading;
-use questions::{Greatest, Sharing, Standing};
+use questions::Pair;
+use refusals::Refusal;
 
-// Two quorums with no common site.
-fn put_parted(room: &mut [u8], at: usize, shared: Sharing) -> usize
+// Two quorums with no common site, if there are such.
+fn put_pair(room: &mut [u8], at: usize, pair: Option<Pair>) -> usize
+    requires { at + 500 ≤ length room.old }
+    ensures { Writes (parted (Ok pair)) room.old at result room.new }
+{
+    match pair {
+        None => at,
+        Some(pair) => {
+            let at = text::put(room, at, b"parted");
+            let at = members::put_members(room, at, pair.first);
+            let at = text::put(room, at, b" |");
+            let at = members::put_members(room, at, pair.second);
+            text::put(room, at, b"\n")
+        }
+    }
+}
+
+// What the question of shared sites answers.
+fn put_parted(room: &mut [u8], at: usize, shared: Result<Option<Pair>, Refusal>) -> usize
     requires { at + 500 ≤ length room.old }
     ensures { Writes (parted shared) room.old at result room.new }
 {
     match shared {
-        Sharing::Meet => at,
-        Sharing::Apart { first, second } => {
-            let at = text::put(room, at, b"parted");
-            let at = members::put_members(room, at, first);
-            let at = text::put(room, at, b" |");
-            let at = members::put_members(room, at, second);
-            text::put(room, at, b"\n")
-        }
-        Sharing::Refused(_) => at,
+        Ok(pair) => put_pair(room, at, pair),
+        Err(_) => at,
     }
 }
 
@@ -36,7 +46,7 @@ fn put_sets(
     sites: u64,
     intact: u64,
     quorum: u64,
-    shared: Sharing,
+    shared: Result<Option<Pair>, Refusal>,
 ) -> usize
     requires in_bounds { 1500 ≤ length room.old }
     requires sites_bound { sites ≤ 64 }
@@ -59,16 +69,14 @@ fn spell(table: &[u64], sites: u64, faulty: u64, room: &mut [u8]) -> usize
 {
     let standing = verdict_questions::intact(table, faulty);
     match standing {
-        Standing::Refused(_) => 0,
-        Standing::Intact(intact) => {
+        Err(_) => 0,
+        Ok(intact) => {
             let others = masks::minus(masks::all_below(sites), faulty);
             let shared = verdict_questions::shared(table);
             let greatest = questions::largest(table, others);
             match greatest {
-                Greatest::Refused(_) => 0,
-                Greatest::Set { set, rounds: _ } => {
-                    put_sets(room, faulty, sites, intact, set, shared)
-                }
+                Err(_) => 0,
+                Ok(left) => { put_sets(room, faulty, sites, intact, left.set, shared) }
             }
         }
     }
@@ -82,7 +90,7 @@ pub fn verdict_sites(faulty: u64, image: &[u8], room: &mut [u8; ROOM]) -> usize
     let mut table = [0u64; 4032];
     let q = image::read(image, &mut table);
     match q {
-        Reading::Sites(n) => spell(&table[..63 * (n as usize)], n, faulty, room),
-        Reading::Refused(_) => 0,
+        Ok(n) => spell(&table[..63 * (n as usize)], n, faulty, room),
+        Err(_) => 0,
     }
 }

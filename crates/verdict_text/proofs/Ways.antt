@@ -1,4 +1,5 @@
 -- The ways out of a verdict: one law for each.
+use Rattle.std.specs.Prelude.{Ok, Err}
 use Prim.Native.Nat.{ℕ, ◌*◌, ◌-◌, ◌≤◌, ◌<◌}
 use mathlib.Core.List.{List}
 use mathlib.Core.Path.{◌≡◌, refl, sym, ap, ap₂, ◌∙◌}
@@ -9,7 +10,6 @@ use borrow.Author.Tests.{lt-ltb, le-ltb}
 use Rattle.image_blocks.proofs.Load.{loads-front}
 use Rattle.image_blocks.specs.Image.{loads}
 use Rattle.image.specs.Read.{read, read_into}
-use Rattle.image.specs.declared.Reading.{Reading}
 use Rattle.le.specs.Le.{field}
 use Rattle.refusal_lines.specs.Refused.{refused}
 use Rattle.refusals.specs.declared.Refusal.{Refusal}
@@ -21,11 +21,11 @@ use Rattle.verdict_text.specs.Verdict.{verdict_text, input_text}
 
 -- the verdict on an image
 module _ (image : List ℕ) (F : ℕ) where
-  pub verdict-refused : (r : Refusal) → read image 4032 ≡ Reading.Refused r → refused r ≡ verdict_text F image
+  pub verdict-refused : (r : Refusal) → read image 4032 ≡ Err r → refused r ≡ verdict_text F image
   unfolding verdict_text
   verdict-refused r h = rw (image-refused image r h) refl
 
-  pub verdict-judged : (n : ℕ) (t room : List ℕ) → read image 4032 ≡ Reading.Sites n → t ≡ take (63 * n) (read_into (Reading.Sites n) image room)
+  pub verdict-judged : (n : ℕ) (t room : List ℕ) → read image 4032 ≡ Ok n → t ≡ take (63 * n) (read_into (Ok n) image room)
       → judged_text F (lists t) ≡ verdict_text F image
   unfolding verdict_text read_into
   verdict-judged n t room h e =

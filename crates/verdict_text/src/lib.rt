@@ -6,7 +6,6 @@ ghost use Rattle.text.specs.Written.{Writes};
 ghost use Rattle.verdict_text.specs.Verdict.{verdict_text, input_text};
 
 use check_text::ROOM;
-use image::Reading;
 use refusals::Refusal;
 
 // The verdict on an image: the seven lines, or the line of the refusal.
@@ -17,8 +16,8 @@ pub fn verdict(faulty: u64, image: &[u8], room: &mut [u8; ROOM]) -> usize
     let mut table = [0u64; 4032];
     let q = image::read(image, &mut table);
     match q {
-        Reading::Sites(n) => judged_text::judge(&table[..63 * (n as usize)], n, faulty, room),
-        Reading::Refused(r) => refusal_lines::put_refused(room, 0, r),
+        Ok(n) => judged_text::judge(&table[..63 * (n as usize)], n, faulty, room),
+        Err(r) => refusal_lines::put_refused(room, 0, r),
     }
 }
 

@@ -1,8 +1,8 @@
 -- What a run rests on: the laws of a vote, each of which is proved of the vote that is run; and what the working of one call leaves.
+use Rattle.refusals.specs.Check.{Check}
 use Rattle.std.specs.Prelude.{ℕ, Bool, true, ◌&&◌, not, List, [], ◌∷◌, ◌⊎◌, ◌≡◌, length}
 use Rattle.ground.specs.Alike.{alike}
 use Rattle.refusals.specs.Refusal.{code}
-use Rattle.refusals.specs.declared.Check.{Check}
 use Rattle.votes.specs.Call.{Call}
 use Rattle.votes.specs.Vote.{Vote, fresh, step}
 

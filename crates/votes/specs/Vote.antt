@@ -1,11 +1,10 @@
 -- What a run knows of a vote, and nothing else: how many numbers its state has, what a call is answered, what a taken call makes of the state, which
 -- states are sound.
-use Rattle.std.specs.Prelude.{ℕ, replicate}
+use Rattle.refusals.specs.Check.{Check}
+use Rattle.std.specs.Prelude.{ℕ, replicate, Ok, Err}
 use mathlib.Core.List.{List, Memᴰ}
 use Rattle.ground.specs.Alike.{alike}
 use Rattle.refusals.specs.Refusal.{code}
-use Rattle.refusals.specs.declared.Check.{Check}
-use Rattle.refusals.specs.declared.Check.TheVariants.{Sound, Refused}
 use Rattle.votes.specs.Call.{Call, propose}
 use Rattle.votes.specs.Passes.{Run, run}
 
@@ -27,8 +26,8 @@ fresh width = replicate width 0
 
 -- the state after a call: a refused one leaves it as it was
 abbrev pub if_taken : Check → List ℕ → List ℕ → List ℕ
-if_taken Sound t s = t
-if_taken (Refused r) t s = s
+if_taken (Ok _) t s = t
+if_taken (Err r) t s = s
 
 abbrev pub step : Vote → Call → List ℕ → List ℕ
 step X c s = if_taken (X.answer c s) (X.taken c s) s

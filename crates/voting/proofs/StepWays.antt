@@ -1,11 +1,12 @@
 -- Laws of the ways out of the calls: asked of rows, and of a table by its check.
+use Rattle.refusals.specs.Check.{Check}
+use Rattle.std.specs.Prelude.{Ok, Err}
 use Prim.Native.Nat.{ℕ}
 use mathlib.Core.Bool.{Bool, true, false}
 use mathlib.Core.List.{List}
 use mathlib.Core.Path.{◌≡◌, refl, sym, ap, ◌∙◌}
 use Rattle.refusals.proofs.First.{or_else-sound, kept}
 use Rattle.refusals.specs.First.{or_else, refuse}
-use Rattle.refusals.specs.declared.Check.{Check}
 use Rattle.refusals.specs.declared.Refusal.{Refusal}
 use Rattle.refusals.specs.declared.Refusal.TheVariants.{Unsound}
 use Rattle.rules.proofs.Exact.{sound-of}
@@ -22,35 +23,34 @@ use Rattle.votes.specs.Call.{Call}
 use Rattle.votes.specs.Inner.{Works}
 use Rattle.votes.specs.Vote.{step, if_taken}
 use Rattle.voting.specs.Inner.{row_sound, row_step, row_step_into}
-use Rattle.voting.specs.Step.{sound_check, step_check, to_stepped, step_into}
-use Rattle.voting.specs.declared.Stepped.{Stepped}
+use Rattle.voting.specs.Step.{sound_check, step_check, step_into}
 
 -- asked of rows
 
 module _ (rows : List ℕ) (n F : ℕ) (s : List ℕ) where
   -- the soundness of a state: 10, 18
   module _ {q : Check} (eq : q ≡ outsider n F) where
-    pub set-refused : {r : Refusal} → q ≡ Check.Refused r → q ≡ row_sound rows n F s
+    pub set-refused : {r : Refusal} → q ≡ Err r → Err r ≡ row_sound rows n F s
     unfolding row_sound
-    set-refused e = e ∙ sym (rw (sym eq ∙ e) refl)
+    set-refused e = sym (rw (sym eq ∙ e) refl)
 
-    module _ (e : q ≡ Check.Sound) {bad : Bool} (eb : bad ≡ unsound (row_questions rows n) n F s) where
-      pub state-refused : bad ≡ true → Check.Refused Unsound ≡ row_sound rows n F s
+    module _ (e : q ≡ Ok tt) {bad : Bool} (eb : bad ≡ unsound (row_questions rows n) n F s) where
+      pub state-refused : bad ≡ true → Err Unsound ≡ row_sound rows n F s
       unfolding row_sound
       state-refused u = sym (rw (sym eq ∙ e, sym eb ∙ u) refl)
 
-      pub state-sound : bad ≡ false → Check.Sound ≡ row_sound rows n F s
+      pub state-sound : bad ≡ false → Ok tt ≡ row_sound rows n F s
       unfolding row_sound
       state-sound u = sym (rw (sym eq ∙ e, sym eb ∙ u) refl)
 
   -- the step of a call: what the soundness refuses, or the answer of the call
   module _ {q : Check} (eq : q ≡ row_sound rows n F s) where
-    pub stepped-unsound : (c : Call) {r : Refusal} → q ≡ Check.Refused r →
-        (Stepped.Refused r ≡ to_stepped (row_step rows n F c s)) × (s ≡ row_step_into rows n F c s)
+    pub stepped-unsound : (c : Call) {r : Refusal} → q ≡ Err r →
+        (Err r ≡ row_step rows n F c s) × (s ≡ row_step_into rows n F c s)
     unfolding row_step row_step_into
     stepped-unsound c e = (sym (rw (sym eq ∙ e) refl), sym (rw (sym eq ∙ e) refl))
 
-    module _ (e : q ≡ Check.Sound) where
+    module _ (e : q ≡ Ok tt) where
       pub sound-state : Sound (row_questions rows n) n F s
       unfolding row_sound
       sound-state =
@@ -62,23 +62,19 @@ module _ (rows : List ℕ) (n F : ℕ) (s : List ℕ) where
         unfolding row_step_into
         into = w.state ∙ sym (rw (sym eq ∙ e) refl)
 
-        pub stepped-refused : {r : Refusal} → a ≡ Check.Refused r → (Stepped.Refused r ≡ to_stepped (row_step rows n F c s)) × (s₁ ≡ row_step_into rows n F c s)
+        pub stepped : (a ≡ row_step rows n F c s) × (s₁ ≡ row_step_into rows n F c s)
         unfolding row_step
-        stepped-refused f = (sym (rw (sym eq ∙ e, sym w.answers-so ∙ f) refl), into)
-
-        pub stepped-taken : a ≡ Check.Sound → (Stepped.Taken ≡ to_stepped (row_step rows n F c s)) × (s₁ ≡ row_step_into rows n F c s)
-        unfolding row_step
-        stepped-taken f = (sym (rw (sym eq ∙ e, sym w.answers-so ∙ f) refl), into)
+        stepped = (w.answers-so ∙ sym (rw (sym eq ∙ e) refl), into)
 
 -- of a table that is refused
 
 module _ (t : Groups) (F : ℕ) (s : List ℕ) where
-  pub sound-refused : {q : Check} {r : Refusal} → q ≡ groups_check t → q ≡ Check.Refused r → q ≡ sound_check t F s
+  pub sound-refused : {q : Check} {r : Refusal} → q ≡ groups_check t → q ≡ Err r → Err r ≡ sound_check t F s
   unfolding sound_check set_check
-  sound-refused eq e = e ∙ sym (rw (sym eq ∙ e) refl)
+  sound-refused eq e = sym (rw (sym eq ∙ e) refl)
 
-  pub step-refused : {r : Refusal} → groups_check t ≡ Check.Refused r → (c : Call) →
-      (Stepped.Refused r ≡ to_stepped (step_check t F c s)) × (s ≡ step_into t F c s)
+  pub step-refused : {r : Refusal} → groups_check t ≡ Err r → (c : Call) →
+      (Err r ≡ step_check t F c s) × (s ≡ step_into t F c s)
   unfolding step_check step_into sound_check set_check
   step-refused e c = (rw e refl, rw e refl)
 

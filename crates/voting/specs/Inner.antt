@@ -1,7 +1,7 @@
 -- The public calls asked of rows: what is left of them once the table is checked.
+use Rattle.refusals.specs.Check.{Check}
 use Rattle.std.specs.Prelude.{ℕ, List}
 use Rattle.refusals.specs.First.{or_else, refuse}
-use Rattle.refusals.specs.declared.Check.{Check}
 use Rattle.refusals.specs.declared.Refusal.TheVariants.{Unsound}
 use Rattle.rules.specs.Rules.{answer}
 use Rattle.rules.specs.Sound.{unsound}

@@ -1,15 +1,12 @@
 -- The public calls: "Step, its call handed over as four byte values: table, 10 (faulty set), 18, 11, 13, 12, 14, 15."
+use Rattle.refusals.specs.Check.{Check}
 use Rattle.std.specs.Prelude.{ℕ, List}
 use Rattle.refusals.specs.First.{or_else, refuse}
-use Rattle.refusals.specs.declared.Check.{Check}
-use Rattle.refusals.specs.declared.Check.TheVariants.{Sound}
 use Rattle.refusals.specs.declared.Refusal.TheVariants.{Unsound}
 use Rattle.rules.specs.Rules.{answer}
 use Rattle.rules.specs.Sound.{unsound}
 use Rattle.rules.specs.Vote.{vote_of}
 use Rattle.sets.specs.Groups.{Groups, sites_of, set_check, questions}
-use Rattle.voting.specs.declared.Stepped.{Stepped}
-use Rattle.voting.specs.declared.Stepped.TheVariants.{Taken}
 use Rattle.votes.specs.Call.{Call}
 use Rattle.votes.specs.Vote.{step, if_taken}
 
@@ -22,11 +19,6 @@ sound_check t F s = or_else (set_check t F) (refuse (unsound (questions t) (site
 unfoldable pub step_check : Groups → ℕ → Call → List ℕ → Check
 unfolding sound_check answer
 step_check t F c s = or_else (sound_check t F s) (answer (sites_of t) F c s)
-
--- "A taken call answers 0."
-abbrev pub to_stepped : Check → Stepped
-to_stepped Sound = Taken
-to_stepped (Check.Refused r) = Stepped.Refused r
 
 -- what the state is then: a taken call changes what the rules say, a refused one nothing
 unfoldable pub step_into : Groups → ℕ → Call → List ℕ → List ℕ

@@ -5,41 +5,28 @@ ghost use Rattle.std.specs.Prelude.{◌≡◌};
 ghost use Rattle.sets.specs.Groups.{lists};
 ghost use Rattle.sets.specs.Inner.Rows.{Rows};
 ghost use Rattle.voting.specs.Inner.{row_sound, row_step, row_step_into};
-ghost use Rattle.voting.specs.Step.{sound_check, step_check, to_stepped, step_into};
+ghost use Rattle.voting.specs.Step.{sound_check, step_check, step_into};
 ghost use Rattle.votes.specs.Call.{call};
 
-use refusals::{Check, Refusal};
-
-// A call was taken, or refused.
-#[derive(Clone, Copy)]
-pub enum Stepped {
-    Taken,
-    Refused(Refusal),
-}
+use refusals::Refusal;
 
 // The soundness of a state. Of rows: 10, 18.
-pub fn sound_of(rows: &[u64], n: usize, faulty: u64, state: &[u64]) -> Check
+pub fn sound_of(rows: &[u64], n: usize, faulty: u64, state: &[u64]) -> Result<(), Refusal>
     requires { Rows rows.now n }
     ensures { result ≡ row_sound rows.now n faulty state.now }
 {
-    let q = sets::check_set(n, faulty);
-    let Check::Sound = q else {
-        return q;
-    };
+    sets::check_set(n, faulty)?;
     if soundness::is_unsound(rows, n, faulty, state) {
-        return Check::Refused(Refusal::Unsound);
+        return Err(Refusal::Unsound);
     }
-    Check::Sound
+    Ok(())
 }
 
 // The soundness of a state: table, 10, 18.
-pub fn sound(table: &[u64], faulty: u64, state: &[u64]) -> Check
+pub fn sound(table: &[u64], faulty: u64, state: &[u64]) -> Result<(), Refusal>
     ensures { result ≡ sound_check (lists table.now) faulty state.now }
 {
-    let q = table::check(table);
-    let Check::Sound = q else {
-        return q;
-    };
+    table::check(table)?;
     sound_of(table, table.len() / 63, faulty, state)
 }
 
@@ -53,30 +40,23 @@ pub fn step_of(
     from: u8,
     to: u8,
     side: u8,
-) -> Stepped
+) -> Result<(), Refusal>
     requires { Rows rows.now n }
-    ensures answer { result ≡ to_stepped (row_step rows.now n faulty (call kind from to side) state.old) }
+    ensures answer { result ≡ row_step rows.now n faulty (call kind from to side) state.old }
     ensures memory { state.new ≡ row_step_into rows.now n faulty (call kind from to side) state.old }
 {
-    let q = sound_of(rows, n, faulty, state);
-    if let Check::Refused(r) = q {
-        return Stepped::Refused(r);
-    }
-    let w = taking::work(
+    sound_of(rows, n, faulty, state)?;
+    taking::work(
         rows,
         n,
         faulty,
         state,
-        le::wide(kind),
-        le::wide(from),
-        le::wide(to),
-        le::wide(side),
-    );
-    let a = w.answer;
-    if let Check::Refused(r) = a {
-        return Stepped::Refused(r);
-    }
-    Stepped::Taken
+        usize::from(kind),
+        usize::from(from),
+        usize::from(to),
+        usize::from(side),
+    )
+    .answer
 }
 
 // One call on a state: table, 10, 18, 11, 13, 12, 14, 15.
@@ -88,13 +68,10 @@ pub fn step(
     from: u8,
     to: u8,
     side: u8,
-) -> Stepped
-    ensures answer { result ≡ to_stepped (step_check (lists table.now) faulty (call kind from to side) state.old) }
+) -> Result<(), Refusal>
+    ensures answer { result ≡ step_check (lists table.now) faulty (call kind from to side) state.old }
     ensures memory { state.new ≡ step_into (lists table.now) faulty (call kind from to side) state.old }
 {
-    let q = table::check(table);
-    if let Check::Refused(r) = q {
-        return Stepped::Refused(r);
-    }
+    table::check(table)?;
     step_of(table, table.len() / 63, faulty, state, kind, from, to, side)
 }

@@ -8,15 +8,7 @@ ghost use Rattle.waiting.specs.Inner.{Listed};
 pub fn place(x: u16) -> usize
     ensures { result ≡ x }
 {
-    x as usize
-}
-
-// A place in the list as it is kept: a list has at most 4,096 calls.
-fn narrow(i: usize) -> u16
-    requires { i < 65536 }
-    ensures { result ≡ i }
-{
-    i as u16
+    usize::from(x)
 }
 
 // Place i behind the first `count` of the places that wait, if its call waits: how many they are then.
@@ -29,7 +21,7 @@ pub fn keep(waiting: &mut [u16], count: usize, i: usize, waits: bool) -> usize
     if !waits {
         return count;
     }
-    waiting[count] = narrow(i);
+    waiting[count] = i as u16;
     count + 1
 }
 
@@ -41,10 +33,8 @@ pub fn gather(answers: &[u8], waiting: &mut [u16]) -> usize
     ensures few { result ≤ length answers.now }
 {
     let mut count: usize = 0;
-    let mut i: usize = 0;
-    while i < answers.len() {
-        count = keep(waiting, count, i, answers[i] == 15);
-        i += 1;
+    for (i, answer) in answers.iter().enumerate() {
+        count = keep(waiting, count, i, *answer == 15);
     }
     count
 }

@@ -9,7 +9,7 @@ pub returns-then-kind-eq0 : goal.returns-then-kind-eq0
 returns-then-kind-eq0 c =
     let a = c.args in is-heard-proposal a.n (call a.kind a.from a.to a.side) a.state.now c.if-kind-eq0.true c.has.ensures (omega arith)
 
-pub returns : goal.returns
-returns c =
+pub returns-else-kind-eq0 : goal.returns-else-kind-eq0
+returns-else-kind-eq0 c =
     let a = c.args in is-heard-sent a.n (call a.kind a.from a.to a.side) a.state.now c.if-kind-eq0.false c.requires.in_range.kind-in
-    c.has-2.ensures (omega arith)
+    c.has-else-kind-eq0.ensures (omega arith)

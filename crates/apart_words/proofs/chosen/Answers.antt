@@ -9,6 +9,6 @@ pub returns-then-within : goal.returns-then-within
 returns-then-within c =
     let a = c.args in record { each = λ j. sym (ap (λ (b : Bool). b && has a.low j) (sym c.within.ensures ∙ c.if-within.true)) }
 
-pub returns : goal.returns
-returns c =
+pub returns-else-within : goal.returns-else-within
+returns-else-within c =
     let a = c.args in record { each = λ j. has-zero j ∙ sym (ap (λ (b : Bool). b && has a.low j) (sym c.within.ensures ∙ c.if-within.false)) }

@@ -1,5 +1,5 @@
 -- `search` meets its contract: no set of the words below w is apart.
-use Prim.Native.Nat.{ℕ, ◌-◌, ◌*◌, ◌≤◌, ◌<◌}
+use Prim.Native.Nat.{ℕ, ◌*◌, ◌<◌}
 use mathlib.Core.Bool.{false}
 use mathlib.Core.Path.{◌≡◌}
 use Rattle.sets.specs.Inner.Rows.{rules_of}
@@ -8,8 +8,4 @@ use Rattle.apart_words.proofs.search.Given as goal
 
 abbrev pub invariant-loop-w : goal.invariant-loop-w
 invariant-loop-w l =
-    (l.w ≤ 64) × (l.b < 4096) × ((u : ℕ) → u < l.w * 64 → apart_with (rules_of l.table) l.n l.b u ≡ false)
-
-abbrev pub decreases-loop-w : goal.decreases-loop-w
-decreases-loop-w l =
-    64 - l.w
+    (l.b < 4096) × ((u : ℕ) → u < l.w * 64 → apart_with (rules_of l.table) l.n l.b u ≡ false)

@@ -8,22 +8,16 @@ use Rattle.asking.proofs.BoundLaws.{left-same}
 use Rattle.sets.proofs.Rows.{rows-promises, quorum-asked, slice-asked}
 use Rattle.sets.specs.Inner.Rows.{row_questions}
 use Rattle.asking.proofs.belongs.Goals as goal
+use Rattle.asking.proofs.belongs.Goals.{then-not-has-via-then-not-has, then-not-has-via-else-not-has+then-not-has_slice}
 
 pub returns-then-not-has : goal.returns-then-not-has
 returns-then-not-has c =
-    let a = c.args in let Q = row_questions a.table.now a.n in
-    let e = c.bounded-left.ensures in record {
-      value = outside (rows-promises c.requires.rows) a.receiver _ (sym c.has.ensures ∙ c.if-not-has.true)
-          ∙ ap (Q.in_quorum a.receiver) c.bounded-left.ensures ∙ sym (left-same c.requires.asked.bounds a.receiver a.w);
-      asked_2 = c.requires.asked;
-    }
-
-pub returns-then-not-has_slice : goal.returns-then-not-has_slice
-returns-then-not-has_slice c =
-    let a = c.args in let Q = row_questions a.table.now a.n in
-    let left = c.bounded-left in let f = sym (slice-asked a.table.now a.n a.receiver a.receiver c.bounded-left.result) ∙ sym c.has_slice.ensures ∙ c.if-not-has_slice.true in record {
-      value = unheld (rows-promises c.requires.rows) a.receiver c.bounded-left.result f ∙ ap (Q.in_quorum a.receiver) c.bounded-left.ensures
-          ∙ sym (left-same c.requires.asked.bounds a.receiver a.w);
+    let a = c.args in let Q = row_questions a.table.now a.n in let P = rows-promises c.requires.rows in let left = c.bounded-left in record {
+      value = elim c.then-not-has.branch [
+        | then-not-has-via-then-not-has w ↦ outside P a.receiver _ (sym c.has.ensures ∙ w.if-not-has.true)
+        | then-not-has-via-else-not-has+then-not-has_slice w ↦
+            unheld P a.receiver left.result (sym (slice-asked a.table.now a.n a.receiver a.receiver left.result) ∙ sym w.has_slice.ensures ∙ w.if-not-has_slice.true)
+      ] ∙ ap (Q.in_quorum a.receiver) left.ensures ∙ sym (left-same c.requires.asked.bounds a.receiver a.w);
       asked_2 = c.requires.asked;
     }
 

@@ -19,23 +19,23 @@ returns-then-is_silent c =
 
 pub loop-side-init : goal.loop-side-init
 loop-side-init c =
-    (search rules, some-none _, c.requires.asked)
+    (some-none _, c.requires.asked)
 
 pub is_bad_side-requires : goal.is_bad_side-requires
 is_bad_side-requires c =
-    let p = c.requires in record { rows = p.rows; state_len = p.state_len; v_lt_n = p.v_lt_n; side_bound = search rules; asked = c.loop-side.invariant.2 }
+    let p = c.requires in record { rows = p.rows; state_len = p.state_len; v_lt_n = p.v_lt_n; side_bound = search rules; asked = c.loop-side.invariant.1 }
 
 pub returns-then-is_bad_side : goal.returns-then-is_bad_side
 returns-then-is_bad_side c =
     let a = c.args in let r = c.is_bad_side.ensures in record
-    { value = sides-bad (row_questions a.table.now a.n) a.n a.faulty a.state.now a.v r.value c.loop-side.invariant.1 c.loop-side-test.true c.if-is_bad_side.true; asked_2 = r.asked_2 }
+    { value = sides-bad (row_questions a.table.now a.n) a.n a.faulty a.state.now a.v r.value c.loop-side.invariant.0 c.loop-side-test.true c.if-is_bad_side.true; asked_2 = r.asked_2 }
 
 pub loop-side-preserved : goal.loop-side-preserved
 loop-side-preserved c =
     let a = c.args in let r = c.is_bad_side.ensures in
-    (search rules, some_more c.loop-side.side (bad_side (row_questions a.table.now a.n) a.n a.faulty a.state.now a.v) c.loop-side.invariant.1 (sym r.value ∙ c.if-is_bad_side.false), r.asked_2)
+    (some_more c.loop-side.side (bad_side (row_questions a.table.now a.n) a.n a.faulty a.state.now a.v) c.loop-side.invariant.0 (sym r.value ∙ c.if-is_bad_side.false), r.asked_2)
 
 pub returns : goal.returns
 returns c =
     let a = c.args in let Q = row_questions a.table.now a.n in
-    let e : c.loop-side.side ≡ 2 = omega (arith, c.loop-side.invariant.0) in record { value = sides-good Q a.n a.faulty a.state.now a.v (rw e at c.loop-side.invariant.1); asked_2 = c.loop-side.invariant.2 }
+    let e : c.loop-side.side ≡ 2 = omega arith in record { value = sides-good Q a.n a.faulty a.state.now a.v (rw e at c.loop-side.invariant.0); asked_2 = c.loop-side.invariant.1 }

@@ -1,5 +1,4 @@
 -- `is_bad_site` meets its contract: who has nothing of either side is not bad; else no side before is bad.
-use Prim.Native.Nat.{◌-◌, ◌≤◌}
 use mathlib.Core.Bool.{false}
 use mathlib.Core.Path.{◌≡◌}
 use Rattle.asking.specs.Inner.{Asked}
@@ -10,8 +9,4 @@ use Rattle.bad_sites.proofs.is_bad_site.Given as goal
 
 abbrev pub invariant-loop-side : goal.invariant-loop-side
 invariant-loop-side l =
-    (l.side ≤ 2) × (some l.side (bad_side (row_questions l.table l.n) l.n l.faulty l.state l.v) ≡ false) × Asked (row_questions l.table l.n) l.n l.asked
-
-abbrev pub decreases-loop-side : goal.decreases-loop-side
-decreases-loop-side l =
-    2 - l.side
+    (some l.side (bad_side (row_questions l.table l.n) l.n l.faulty l.state l.v) ≡ false) × Asked (row_questions l.table l.n) l.n l.asked

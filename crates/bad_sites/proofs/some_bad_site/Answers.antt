@@ -15,11 +15,11 @@ named-named-requires c =
 
 pub loop-v-init : goal.loop-v-init
 loop-v-init c =
-    (search rules, some-none _, asked-none (rows-rests c.requires.rows).promises c.args.n c.args.larger)
+    (some-none _, asked-none (rows-rests c.requires.rows).promises c.args.n c.args.larger)
 
 pub is_bad_site-requires : goal.is_bad_site-requires
 is_bad_site-requires c =
-    let p = c.requires in record { rows = p.rows; state_len = p.state_len; v_lt_n = search rules; named_value = c.named-named.ensures; asked = c.loop-v.invariant.2 }
+    let p = c.requires in record { rows = p.rows; state_len = p.state_len; v_lt_n = search rules; named_value = c.named-named.ensures; asked = c.loop-v.invariant.1 }
 
 pub returns-then-is_bad_site : goal.returns-then-is_bad_site
 returns-then-is_bad_site c =
@@ -27,9 +27,9 @@ returns-then-is_bad_site c =
 
 pub loop-v-preserved : goal.loop-v-preserved
 loop-v-preserved c =
-    let a = c.args in let r = c.is_bad_site.ensures in (search rules, sites-good (row_questions a.table.now a.n) a.n a.faulty a.state.now c.loop-v.v r.value c.loop-v.invariant.1 c.if-is_bad_site.false, r.asked_2)
+    let a = c.args in let r = c.is_bad_site.ensures in (sites-good (row_questions a.table.now a.n) a.n a.faulty a.state.now c.loop-v.v r.value c.loop-v.invariant.0 c.if-is_bad_site.false, r.asked_2)
 
 pub returns : goal.returns
 returns c =
     let e : c.loop-v.v ≡ c.args.n = omega arith in
-    sym (rw e at c.loop-v.invariant.1)
+    sym (rw e at c.loop-v.invariant.0)

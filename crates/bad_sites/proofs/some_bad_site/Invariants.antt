@@ -1,7 +1,6 @@
 -- `some_bad_site` meets its contract: no site before v is bad, and what is kept from one question to the next is known.
 use mathlib.Core.Bool.{false}
 use mathlib.Core.Path.{◌≡◌}
-use Prim.Native.Nat.{◌-◌, ◌≤◌}
 use Rattle.asking.specs.Inner.{Asked}
 use Rattle.ground.specs.Search.{some}
 use Rattle.rules.specs.Sound.{bad_site}
@@ -10,8 +9,4 @@ use Rattle.bad_sites.proofs.some_bad_site.Given as goal
 
 abbrev pub invariant-loop-v : goal.invariant-loop-v
 invariant-loop-v l =
-    (l.v ≤ l.n) × (some l.v (bad_site (row_questions l.table l.n) l.n l.faulty l.state) ≡ false) × Asked (row_questions l.table l.n) l.n l.asked
-
-abbrev pub decreases-loop-v : goal.decreases-loop-v
-decreases-loop-v l =
-    l.n - l.v
+    (some l.v (bad_site (row_questions l.table l.n) l.n l.faulty l.state) ≡ false) × Asked (row_questions l.table l.n) l.n l.asked

@@ -1,5 +1,5 @@
 -- `sum_words` meets its contract: after so many turns of six words the sums are those of these words modulo 2^32.
-use Rattle.std.proofs.Common.{◌≡◌, ◌-◌, ◌*◌, arith, rules}
+use Rattle.std.proofs.Common.{◌≡◌, ◌*◌, arith, rules}
 use Rattle.block.specs.Block.{sum_s, sum_t, check_s, check_t}
 use Rattle.block.proofs.Laws.{as-many-s, as-many-t}
 use Rattle.block.proofs.sum_words.Goals as goal

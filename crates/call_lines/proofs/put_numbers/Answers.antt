@@ -8,17 +8,17 @@ use Rattle.call_lines.proofs.put_numbers.Goals as goal
 
 pub put-at-requires : goal.put-at-requires
 put-at-requires c =
-    omega (arith, length-decimal c.args.kind)
+    omega (arith, length-decimal c.from.result)
 
 pub put_pair-at-requires : goal.put_pair-at-requires
 put_pair-at-requires c =
-    omega (arith, length-decimal c.args.kind)
+    omega (arith, length-decimal c.from.result)
 
 pub line_decimal-requires : goal.line_decimal-requires
 line_decimal-requires c =
-    let a = c.args in omega (arith, length-decimal a.kind, length-pair a.from a.to)
+    let a = c.args in omega (arith, length-decimal c.from.result, length-pair a.from a.to)
 
 pub returns : goal.returns
 returns c =
     let a = c.args in as-text (said-numbers a.kind a.from a.to a.side c.requires.side_value)
-    (then (three c.put_decimal-at.ensures c.put-at.ensures c.put_pair-at.ensures (omega arith)) c.line_decimal.ensures (omega arith))
+    (then (three (rw c.from.ensures at c.put_decimal-at.ensures) c.put-at.ensures c.put_pair-at.ensures (omega arith)) (rw c.from-2.ensures at c.line_decimal.ensures) (omega arith))

@@ -7,12 +7,12 @@ use Rattle.call_lines.proofs.put_words.Goals as goal
 
 pub put_side-requires : goal.put_side-requires
 put_side-requires c =
-    omega (arith, length-decimal c.args.from)
+    omega (arith, length-decimal c.from.result)
 
 pub returns-then-kind-eq0 : goal.returns-then-kind-eq0
 returns-then-kind-eq0 c =
     let a = c.args in as-text (said-proposal a.kind a.from a.to a.side c.requires.side_value c.if-kind-eq0.true)
-    (three c.put-at.ensures c.put_decimal-at.ensures c.put_side.ensures (omega arith))
+    (three c.put-at.ensures (rw c.from.ensures at c.put_decimal-at.ensures) c.put_side.ensures (omega arith))
 
 pub put_side-requires-then-kind-eq1 : goal.put_side-requires-then-kind-eq1
 put_side-requires-then-kind-eq1 c =

@@ -1,68 +1,73 @@
--- `spoken` meets its contract: one law for each way out.
-use mathlib.Core.Path.{sym, ◌∙◌}
-use Rattle.call_words.proofs.Words.{said-number, said-propose, said-vote, said-accept, said-drill, said-live, said-nothing}
+-- `meant` meets its contract: a number, or one of the names.
+use mathlib.Core.Path.{refl, sym, ◌∙◌}
+use Rattle.call_words.proofs.Words.{spelt}
+use Rattle.call_words.specs.Word.{meant}
+use Rattle.text.specs.Text.{ascii}
 use Rattle.call_words.proofs.meant.Goals as goal
 
-pub returns-then-x-lt256 : goal.returns-then-x-lt256
-returns-then-x-lt256 c =
-    let f = c.figure-x in c.figure-x.ensures ∙ sym (said-number c.args.word.now (rw c.figure-x.ensures at c.if-x-lt256.true))
+pub returns-in-Some : goal.returns-in-Some
+unfolding meant
+returns-in-Some c =
+    rw (sym c.figure.ensures ∙ c.in-Some.is) refl
 
-pub returns-then-spells : goal.returns-then-spells
-returns-then-spells c =
-    sym
-    (said-propose c.args.word.now (rw c.figure-x.ensures at c.if-x-lt256.false)
-    (sym c.spells.ensures ∙ c.if-spells.true))
+pub returns-then-eq_ignore_ascii_case : goal.returns-then-eq_ignore_ascii_case
+unfolding meant
+returns-then-eq_ignore_ascii_case c =
+    rw (
+      sym c.figure.ensures ∙ c.in_default.is,
+      spelt _ (ascii "propose") _ c.eq_ignore_ascii_case.ensures.test ∙ c.if-eq_ignore_ascii_case.true,
+    ) refl
 
-pub returns-then-spells-2 : goal.returns-then-spells-2
-returns-then-spells-2 c =
-    sym
-    (said-vote c.args.word.now (rw c.figure-x.ensures at
-    c.if-x-lt256.false)
-    (sym c.spells.ensures ∙ c.if-spells.false)
-    (sym c.spells-2.ensures ∙ c.if-spells-2.true))
+pub returns-then-eq_ignore_ascii_case-2 : goal.returns-then-eq_ignore_ascii_case-2
+unfolding meant
+returns-then-eq_ignore_ascii_case-2 c =
+    rw (
+      sym c.figure.ensures ∙ c.in_default.is,
+      spelt _ (ascii "propose") _ c.eq_ignore_ascii_case.ensures.test ∙ c.if-eq_ignore_ascii_case.false,
+      spelt _ (ascii "vote") _ c.eq_ignore_ascii_case-2.ensures.test ∙ c.if-eq_ignore_ascii_case-2.true,
+    ) refl
 
-pub returns-then-spells-3 : goal.returns-then-spells-3
-returns-then-spells-3 c =
-    sym
-    (said-accept c.args.word.now (rw
-    c.figure-x.ensures at c.if-x-lt256.false)
-    (sym c.spells.ensures ∙ c.if-spells.false)
-    (sym c.spells-2.ensures ∙ c.if-spells-2.false)
-    (sym c.spells-3.ensures ∙ c.if-spells-3.true))
+pub returns-then-eq_ignore_ascii_case-3 : goal.returns-then-eq_ignore_ascii_case-3
+unfolding meant
+returns-then-eq_ignore_ascii_case-3 c =
+    rw (
+      sym c.figure.ensures ∙ c.in_default.is,
+      spelt _ (ascii "propose") _ c.eq_ignore_ascii_case.ensures.test ∙ c.if-eq_ignore_ascii_case.false,
+      spelt _ (ascii "vote") _ c.eq_ignore_ascii_case-2.ensures.test ∙ c.if-eq_ignore_ascii_case-2.false,
+      spelt _ (ascii "accept") _ c.eq_ignore_ascii_case-3.ensures.test ∙ c.if-eq_ignore_ascii_case-3.true,
+    ) refl
 
-pub returns-then-spells-4 : goal.returns-then-spells-4
-returns-then-spells-4 c =
-    sym
-    (said-drill c.args.word.now (rw
-    c.figure-x.ensures at
-    c.if-x-lt256.false)
-    (sym c.spells.ensures ∙ c.if-spells.false)
-    (sym c.spells-2.ensures ∙ c.if-spells-2.false)
-    (sym c.spells-3.ensures ∙ c.if-spells-3.false)
-    (sym c.spells-4.ensures ∙ c.if-spells-4.true))
+pub returns-then-eq_ignore_ascii_case-4 : goal.returns-then-eq_ignore_ascii_case-4
+unfolding meant
+returns-then-eq_ignore_ascii_case-4 c =
+    rw (
+      sym c.figure.ensures ∙ c.in_default.is,
+      spelt _ (ascii "propose") _ c.eq_ignore_ascii_case.ensures.test ∙ c.if-eq_ignore_ascii_case.false,
+      spelt _ (ascii "vote") _ c.eq_ignore_ascii_case-2.ensures.test ∙ c.if-eq_ignore_ascii_case-2.false,
+      spelt _ (ascii "accept") _ c.eq_ignore_ascii_case-3.ensures.test ∙ c.if-eq_ignore_ascii_case-3.false,
+      spelt _ (ascii "drill") _ c.eq_ignore_ascii_case-4.ensures.test ∙ c.if-eq_ignore_ascii_case-4.true,
+    ) refl
 
-pub returns-then-spells-5 : goal.returns-then-spells-5
-returns-then-spells-5 c =
-    sym
-    (said-live c.args.word.now (rw
-    c.figure-x.ensures at
-    c.if-x-lt256.false)
-    (sym c.spells.ensures
-    ∙ c.if-spells.false)
-    (sym c.spells-2.ensures ∙ c.if-spells-2.false)
-    (sym c.spells-3.ensures ∙ c.if-spells-3.false)
-    (sym c.spells-4.ensures ∙ c.if-spells-4.false)
-    (sym c.spells-5.ensures ∙ c.if-spells-5.true))
+pub returns-then-eq_ignore_ascii_case-5 : goal.returns-then-eq_ignore_ascii_case-5
+unfolding meant
+returns-then-eq_ignore_ascii_case-5 c =
+    rw (
+      sym c.figure.ensures ∙ c.in_default.is,
+      spelt _ (ascii "propose") _ c.eq_ignore_ascii_case.ensures.test ∙ c.if-eq_ignore_ascii_case.false,
+      spelt _ (ascii "vote") _ c.eq_ignore_ascii_case-2.ensures.test ∙ c.if-eq_ignore_ascii_case-2.false,
+      spelt _ (ascii "accept") _ c.eq_ignore_ascii_case-3.ensures.test ∙ c.if-eq_ignore_ascii_case-3.false,
+      spelt _ (ascii "drill") _ c.eq_ignore_ascii_case-4.ensures.test ∙ c.if-eq_ignore_ascii_case-4.false,
+      spelt _ (ascii "live") _ c.eq_ignore_ascii_case-5.ensures.test ∙ c.if-eq_ignore_ascii_case-5.true,
+    ) refl
 
 pub returns : goal.returns
+unfolding meant
 returns c =
-    sym
-    (said-nothing c.args.word.now (rw
-    c.figure-x.ensures at
-    c.if-x-lt256.false)
-    (sym c.spells.ensures
-    ∙ c.if-spells.false)
-    (sym c.spells-2.ensures ∙ c.if-spells-2.false)
-    (sym c.spells-3.ensures ∙ c.if-spells-3.false)
-    (sym c.spells-4.ensures ∙ c.if-spells-4.false)
-    (sym c.spells-5.ensures ∙ c.if-spells-5.false))
+    rw (
+      sym c.figure.ensures ∙ c.in_default.is,
+      spelt _ (ascii "propose") _ c.eq_ignore_ascii_case.ensures.test ∙ c.if-eq_ignore_ascii_case.false,
+      spelt _ (ascii "vote") _ c.eq_ignore_ascii_case-2.ensures.test ∙ c.if-eq_ignore_ascii_case-2.false,
+      spelt _ (ascii "accept") _ c.eq_ignore_ascii_case-3.ensures.test ∙ c.if-eq_ignore_ascii_case-3.false,
+      spelt _ (ascii "drill") _ c.eq_ignore_ascii_case-4.ensures.test ∙ c.if-eq_ignore_ascii_case-4.false,
+      spelt _ (ascii "live") _ c.eq_ignore_ascii_case-5.ensures.test ∙ c.if-eq_ignore_ascii_case-5.false,
+    ) refl

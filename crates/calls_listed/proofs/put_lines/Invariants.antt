@@ -1,5 +1,4 @@
 -- `put_lines` meets its contract: after i turns the lines of the first i calls stand in the room.
-use Prim.Native.Nat.{◌-◌, ◌/◌, ◌≤◌}
 use mathlib.Core.Path.{◌≡◌}
 use lib.ListN.{length}
 use Rattle.calls_listed.specs.Listed.{said_at}
@@ -9,8 +8,4 @@ use Rattle.calls_listed.proofs.put_lines.Given as goal
 
 abbrev pub invariant-loop-i : goal.invariant-loop-i
 invariant-loop-i l =
-    (l.i ≤ length l.list / 4) × (length l.room ≡ length l.initial.room) × Writes (cat (said_at l.list) l.i) l.initial.room 0 l.end l.room
-
-abbrev pub decreases-loop-i : goal.decreases-loop-i
-decreases-loop-i l =
-    length l.list / 4 - l.i
+    (length l.room ≡ length l.initial.room) × Writes (cat (said_at l.list) l.i) l.initial.room 0 l.end l.room

@@ -5,11 +5,11 @@ use Rattle.calls_shell.proofs.Filed.{in-room, filed}
 use Rattle.calls_shell.proofs.make_list.Goals as goal
 
 pub slice_bounds-list-end : goal.slice_bounds-list-end
-slice_bounds-list-end c = in-room c.args.text.now _ _ _ (sym c.in-Bytes.ensures.answer) c.in-Bytes.ensures.memory
+slice_bounds-list-end c = in-room c.args.text.now _ _ _ (sym c.in-Ok.ensures.answer) c.in-Ok.ensures.memory
 
-pub slice_bounds-list-end-in-Bytes : goal.slice_bounds-list-end-in-Bytes
-slice_bounds-list-end-in-Bytes c =
-    sym (length-take-le _ _ (in-room c.args.text.now _ _ _ (sym c.in-Bytes.ensures.answer) c.in-Bytes.ensures.memory))
+pub slice_bounds-list-end-in-Ok : goal.slice_bounds-list-end-in-Ok
+slice_bounds-list-end-in-Ok c =
+    sym (length-take-le _ _ (in-room c.args.text.now _ _ _ (sym c.in-Ok.ensures.answer) c.in-Ok.ensures.memory))
 
 pub put_on_file-requires : goal.put_on_file-requires
-put_on_file-requires c = filed c.args.text.now _ _ _ (sym c.in-Bytes.ensures.answer) c.in-Bytes.ensures.memory
+put_on_file-requires c = filed c.args.text.now _ _ _ (sym c.in-Ok.ensures.answer) c.in-Ok.ensures.memory

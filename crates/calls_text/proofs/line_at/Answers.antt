@@ -1,21 +1,18 @@
 -- `line_at` meets its contract: one law for each way out.
 use mathlib.Core.Path.{◌∙◌}
 use native.Mathlib.Omega.{arith}
-use Rattle.calls_text.proofs.Cuts.{last_line, empty-line, returned-line, kept_line}
+use Rattle.calls_text.proofs.Cuts.{last_line, no_line, returned-line, kept_line}
 use Rattle.calls_text.proofs.line_at.Goals as goal
+use Rattle.calls_text.proofs.line_at.Goals.{else-at-end-via-then-at-end+then-end-text+else-text-end-eq13, else-at-end-via-then-at-end+else-end-text, else-at-end-via-else-at-end}
 
-pub returns-then-end-text : goal.returns-then-end-text
-returns-then-end-text c =
-    let a = c.args in c.says.ensures ∙ last_line a.text.now a.at a.end (omega arith) c.if-end-text.true
+pub returns-then-text-end-eq13 : goal.returns-then-text-end-eq13
+returns-then-text-end-eq13 c =
+    let a = c.args in c.says.ensures ∙ returned-line a.text.now a.at a.end c.requires.at_le_end c.if-end-text.true c.if-at-end.true c.if-text-end-eq13.true
 
-pub returns-then-end-at : goal.returns-then-end-at
-returns-then-end-at c =
-    let a = c.args in c.says-then-end-at.ensures ∙ empty-line a.text.now a.at a.end (omega arith) (omega arith) c.if-end-at.true
-
-pub returns-then-text-last-eq13 : goal.returns-then-text-last-eq13
-returns-then-text-last-eq13 c =
-    let a = c.args in c.says-then-text-last-eq13.ensures ∙ returned-line a.text.now a.at a.end (omega arith) (omega arith) (omega arith) c.if-text-last-eq13.true
-
-pub returns : goal.returns
-returns c =
-    let a = c.args in c.says-2.ensures ∙ kept_line a.text.now a.at a.end (omega arith) (omega arith) (omega arith) c.if-text-last-eq13.false
+pub returns-else-at-end : goal.returns-else-at-end
+returns-else-at-end c =
+    let a = c.args in let text = a.text.now in let le = c.requires.at_le_end in c.says-else-at-end.ensures ∙ elim c.else-at-end.branch [
+      | else-at-end-via-then-at-end+then-end-text+else-text-end-eq13 w ↦ kept_line text a.at a.end le w.if-end-text.true w.if-at-end.true w.if-text-end-eq13.false
+      | else-at-end-via-then-at-end+else-end-text w ↦ last_line text a.at a.end le (omega arith)
+      | else-at-end-via-else-at-end w ↦ no_line text a.at a.end le (omega arith)
+    ]

@@ -1,5 +1,5 @@
 -- `make` meets its contract: the lines from here on, behind the calls so far, give what the whole text gives.
-use Prim.Native.Nat.{ℕ, ◌+◌, ◌-◌, ◌≤◌, ◌<◌}
+use Prim.Native.Nat.{ℕ, ◌+◌, ◌≤◌, ◌<◌}
 use mathlib.Core.List.{List}
 use mathlib.Core.Path.{◌≡◌, refl, sym, ◌∙◌}
 use native.Mathlib.Omega.{arith}
@@ -21,8 +21,8 @@ pub line_at-line-requires : goal.line_at-line-requires
 line_at-line-requires c =
     let r = ends c.args.text.now c.loop-at.at c.upto-end.result c.loop-at-test.true c.upto-end.ensures in record { at_le_end = r.0; end_in_bounds = r.1 }
 
-pub take-took-requires : goal.take-took-requires
-take-took-requires c =
+pub take-requires : goal.take-requires
+take-requires c =
     let l = c.loop-at in record { room_len = search rules; n_bound = c.loop-at.invariant.2; n_value = c.loop-at.invariant.3 }
 
 pub overflow_add-at : goal.overflow_add-at
@@ -37,19 +37,19 @@ loop-at-smaller c =
 
 pub loop-at-preserved : goal.loop-at-preserved
 loop-at-preserved c =
-    let t = c.take-took in let l = c.loop-at in let a = c.args in let text = a.text.now in
+    let t = c.take in let l = c.loop-at in let a = c.args in let text = a.text.now in
     let i = ends text c.loop-at.at c.upto-end.result c.loop-at-test.true c.upto-end.ensures in
-    let inv = c.loop-at.invariant in let z = after_line text a.room.now c.loop-at.room c.take-took.new.room c.loop-at.number c.loop-at.at c.loop-at.n c.upto-end.result c.line_at-line.result
+    let inv = c.loop-at.invariant in let z = after_line text a.room.now c.loop-at.room c.take.new.room c.loop-at.number c.loop-at.at c.loop-at.n c.upto-end.result c.line_at-line.result
     (omega arith) inv.4 c.upto-end.ensures c.line_at-line.ensures inv.6
-    c.in-To.m inv.2 inv.3 inv.5 (sym c.take-took.ensures.answer ∙ c.in-To.is) c.take-took.ensures.memory in
+    c.in-Ok.m inv.2 inv.3 inv.5 (sym c.take.ensures.answer ∙ c.in-Ok.is) c.take.ensures.memory in
     (omega arith, omega arith, z.0, z.1, z.2, z.3, z.4)
 
-pub returns-in-Not : goal.returns-in-Not
-returns-in-Not c =
-    let t = c.take-took in let l = c.loop-at in let a = c.args in let inv = c.loop-at.invariant in let r = after-fault a.text.now a.room.now c.loop-at.room c.take-took.new.room c.loop-at.number
+pub returns-in-Err : goal.returns-in-Err
+returns-in-Err c =
+    let t = c.take in let l = c.loop-at in let a = c.args in let inv = c.loop-at.invariant in let r = after-fault a.text.now a.room.now c.loop-at.room c.take.new.room c.loop-at.number
     c.loop-at.at c.loop-at.n c.upto-end.result c.line_at-line.result
     (omega arith) inv.4 c.upto-end.ensures c.line_at-line.ensures inv.6
-    c.in-Not.what inv.5 (sym c.take-took.ensures.answer ∙ c.in-Not.is) c.take-took.ensures.memory in record { answer = r.0; memory = r.1 }
+    c.in-Err.wanted inv.5 (sym c.take.ensures.answer ∙ c.in-Err.is) c.take.ensures.memory in record { answer = r.0; memory = r.1 }
 
 pub returns : goal.returns
 returns c =

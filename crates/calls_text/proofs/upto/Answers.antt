@@ -1,5 +1,4 @@
 -- `upto` meets its contract: no byte so far stops.
-use Prim.Native.Nat.{◌-◌}
 use mathlib.Core.Path.{refl, sym, ◌∙◌}
 use native.Mathlib.Omega.{arith}
 use Rattle.calls_text.specs.Pieces.{stops}
@@ -8,7 +7,7 @@ use Rattle.calls_text.proofs.upto.Goals as goal
 
 pub loop-i-init : goal.loop-i-init
 loop-i-init c =
-    (c.requires, refl)
+    refl
 
 pub returns-then-stops : goal.returns-then-stops
 returns-then-stops c =
@@ -18,7 +17,7 @@ returns-then-stops c =
 pub loop-i-preserved : goal.loop-i-preserved
 loop-i-preserved c =
     let l = c.loop-i in let a = c.args in let z = stop-later (stops a.kind) a.text.now c.loop-i.i c.loop-i-test.true (sym c.stops.ensures ∙ c.if-stops.false) in
-    (omega arith, omega arith)
+    omega arith
 
 pub returns : goal.returns
 returns c =

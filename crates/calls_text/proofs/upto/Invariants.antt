@@ -1,14 +1,10 @@
 -- `upto` meets its contract: no byte so far stops.
-use Prim.Native.Nat.{◌+◌, ◌-◌, ◌≤◌}
+use Prim.Native.Nat.{◌+◌}
 use mathlib.Core.Path.{◌≡◌}
-use lib.ListN.{length, drop}
+use lib.ListN.{drop}
 use Rattle.calls_text.specs.Pieces.{stops, upto}
 use Rattle.calls_text.proofs.upto.Given as goal
 
 abbrev pub invariant-loop-i : goal.invariant-loop-i
 invariant-loop-i l =
-    (l.i ≤ length l.text) × (l.i + upto (stops l.kind) (drop l.i l.text) ≡ l.at + upto (stops l.kind) (drop l.at l.text))
-
-abbrev pub decreases-loop-i : goal.decreases-loop-i
-decreases-loop-i l =
-    length l.text - l.i
+    l.i + upto (stops l.kind) (drop l.i l.text) ≡ l.at + upto (stops l.kind) (drop l.at l.text)

@@ -1,11 +1,11 @@
 -- `siren_image_write` meets its contract: it says what the library answers, and the room is as the library leaves it.
 use mathlib.Core.Path.{ap, ◌∙◌}
-use Rattle.said.specs.Said.{of_writing}
+use Rattle.said.specs.Said.{of_number}
 use Rattle.image_write.specs.Write.{write_into}
 use Rattle.telling.proofs.Laws.{said}
 use Rattle.capi.proofs.siren_image_write.Goals as goal
 
 pub returns : goal.returns
 returns c =
-    let a = c.args in let e = c.write.ensures in let p = said of_writing e.answer (c.writing.ensures.answer, c.writing.ensures.memory) in record
+    let a = c.args in let e = c.write.ensures in let p = said of_number e.answer (c.number.ensures.answer, c.number.ensures.memory) in record
     { answer = p.0; told = p.1; memory = e.memory ∙ ap (λ r. write_into r a.table.now a.room.now) e.answer }

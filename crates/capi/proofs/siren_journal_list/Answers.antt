@@ -1,11 +1,11 @@
 -- `siren_journal_list` meets its contract: it says what the library answers, and the room is as the library leaves it.
 use mathlib.Core.Path.{ap, ◌∙◌}
 use Rattle.journal.specs.Journal.{list_into}
-use Rattle.said_journal.specs.Said.{of_listed}
+use Rattle.said.specs.Said.{of_number}
 use Rattle.telling.proofs.Laws.{said}
 use Rattle.capi.proofs.siren_journal_list.Goals as goal
 
 pub returns : goal.returns
 returns c =
-    let a = c.args in let e = c.list.ensures in let p = said of_listed e.answer (c.listed.ensures.answer, c.listed.ensures.memory) in record
+    let a = c.args in let e = c.list.ensures in let p = said of_number e.answer (c.number.ensures.answer, c.number.ensures.memory) in record
     { answer = p.0; told = p.1; memory = e.memory ∙ ap (λ r. list_into r a.journal.now a.room.now) e.answer }

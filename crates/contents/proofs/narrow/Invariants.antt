@@ -1,5 +1,5 @@
 -- `narrow` meets its contract: the words below w are narrowed.
-use Prim.Native.Nat.{ℕ, ◌-◌, ◌≤◌}
+use Prim.Native.Nat.{ℕ}
 use mathlib.Core.Bool.{Bool, ◌&&◌}
 use mathlib.Core.List.{List}
 use Rattle.set_words.specs.Inner.{in_family, Written}
@@ -11,8 +11,4 @@ left old kept v s = in_family old s && content_at kept v s
 
 abbrev pub invariant-loop-w : goal.invariant-loop-w
 invariant-loop-w l =
-    (l.w ≤ 64) × Written (left l.initial.sets l.kept l.v) l.initial.sets l.w l.sets
-
-abbrev pub decreases-loop-w : goal.decreases-loop-w
-decreases-loop-w l =
-    64 - l.w
+    Written (left l.initial.sets l.kept l.v) l.initial.sets l.w l.sets

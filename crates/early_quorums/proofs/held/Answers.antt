@@ -1,8 +1,7 @@
 -- `held` meets its contract: the members below v are asked.
-use Prim.Native.Nat.{ℕ, ◌-◌}
+use Prim.Native.Nat.{ℕ}
 use mathlib.Core.Path.{◌≡◌, subst}
 use native.Mathlib.Omega.{arith}
-use borrow.Author.Rules.{rules}
 use Rattle.sets.specs.Inner.Rows.{rules_of}
 use Rattle.early_quorums.specs.Inner.{Held}
 use Rattle.early_quorums.proofs.EarlyLaws.{held_none, held_more}
@@ -10,13 +9,13 @@ use Rattle.early_quorums.proofs.held.Goals as goal
 
 pub loop-v-init : goal.loop-v-init
 loop-v-init c =
-    (search rules, held_none (rules_of c.args.table.now))
+    held_none (rules_of c.args.table.now)
 
 pub loop-v-preserved : goal.loop-v-preserved
 loop-v-preserved c =
-    let a = c.args in let l = c.loop-v in (search rules, held_more (rules_of a.table.now) c.loop-v.v c.loop-v.invariant.1 c.without.ensures c.inside.ensures)
+    let a = c.args in held_more (rules_of a.table.now) c.loop-v.v c.loop-v.invariant c.without.ensures c.inside.ensures
 
 pub returns : goal.returns
 returns c =
-    let a = c.args in let l = c.loop-v in let h = c.loop-v.invariant.0 in let e : c.loop-v.v ≡ 6 = omega arith in
-    subst (λ (k : ℕ). Held (rules_of a.table.now) k c.loop-v.sets) e c.loop-v.invariant.1
+    let a = c.args in let e : c.loop-v.v ≡ 6 = omega arith in
+    subst (λ (k : ℕ). Held (rules_of a.table.now) k c.loop-v.sets) e c.loop-v.invariant

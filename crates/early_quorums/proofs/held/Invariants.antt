@@ -1,13 +1,8 @@
 -- `held` meets its contract: the members below v are asked.
-use Prim.Native.Nat.{◌-◌, ◌≤◌}
 use Rattle.sets.specs.Inner.Rows.{rules_of}
 use Rattle.early_quorums.specs.Inner.{Held}
 use Rattle.early_quorums.proofs.held.Given as goal
 
 abbrev pub invariant-loop-v : goal.invariant-loop-v
 invariant-loop-v l =
-    (l.v ≤ 6) × Held (rules_of l.table) l.v l.sets
-
-abbrev pub decreases-loop-v : goal.decreases-loop-v
-decreases-loop-v l =
-    6 - l.v
+    Held (rules_of l.table) l.v l.sets

@@ -1,30 +1,33 @@
--- `known` meets its contract: one law for each way out.
-use mathlib.Core.Path.{◌≡◌, sym}
+-- `known` meets its contract: some group of those behind the count is this one.
+use Prim.Native.Nat.{ℕ, zero, suc, ◌+◌, ◌-◌, ◌<◌}
+use mathlib.Core.Bool.{◌||◌}
+use mathlib.Core.List.{List}
+use mathlib.Core.Path.{◌≡◌, refl, sym, ap, ap₂, ◌∙◌}
+use native.Mathlib.Numerals.{add-one}
 use native.Mathlib.Omega.{arith}
-use borrow.Author.Tests.{eq-eqb, ne_eqb}
-use Rattle.group_order.specs.Joined.{known}
-use Prim.Native.Nat.{◌-◌}
-use mathlib.Core.Bool.{false}
 use lib.Dec.{eqb}
-use Rattle.ground.proofs.Some.{some_of, some_more, some-none}
-use Rattle.rows.specs.Site.{count, slice}
+use lib.ListN.{length, take, drop, length-drop}
+use Rattle.std.specs.List.{list_any}
+use Rattle.std.proofs.lemmas.List.Folds.{list_any_more}
+use Rattle.std.proofs.lemmas.Grind.{get_or_after_one}
+use Rattle.ground.specs.Search.{some}
+use Rattle.rows.specs.Site.{slice, count}
+use Rattle.group_order.specs.Joined.{known}
 use Rattle.group_order.proofs.known.Goals as goal
 
-pub loop-k-init : goal.loop-k-init
-loop-k-init c =
-    (omega arith, some-none _)
+among : (q : ℕ) (m : List ℕ) (n : ℕ) → n < length m → list_any (λ y. eqb y q) (take n (drop 1 m)) ≡ some n (λ j. eqb (slice m j) q)
+unfolding some
+among q m zero h = refl
+among q m (suc k) h =
+    ap (λ (i : ℕ). list_any (λ (y : ℕ). eqb y q) (take i (drop 1 m))) (sym (add-one k))
+    ∙ list_any_more (λ (y : ℕ). eqb y q) (drop 1 m) k 0 (omega (arith, length-drop 1 m))
+    ∙ ap₂ ◌||◌ (among q m k (omega arith)) (ap (λ (x : ℕ). eqb x q) (get_or_after_one m k 0))
 
-pub returns-then-m-k : goal.returns-then-m-k
-unfolding known
-returns-then-m-k c =
-    let a = c.args in sym (some_of (count a.m.now) (λ j. eqb (slice a.m.now j) a.q) c.loop-k-test.true (eq-eqb _ _ c.if-m-k.true))
-
-pub loop-k-preserved : goal.loop-k-preserved
-loop-k-preserved c =
-    let a = c.args in let l = c.loop-k in (omega arith, some_more c.loop-k.k (λ j. eqb (slice a.m.now j) a.q) c.loop-k.invariant.1 (ne_eqb _ _ c.if-m-k.false))
+same : (n : ℕ) → 1 + n - 1 ≡ n
+same n = omega arith
 
 pub returns : goal.returns
 unfolding known
 returns c =
-    let a = c.args in let l = c.loop-k in let e : c.loop-k.k ≡ count a.m.now = omega arith in
-    sym (rw e at c.loop-k.invariant.1)
+    let m = c.args.m.now in
+    c.contains.ensures.value ∙ ap (λ (n : ℕ). list_any (λ (y : ℕ). eqb y c.args.q) (take n (drop 1 m))) (same (count m)) ∙ among c.args.q m (count m) (omega arith)

@@ -4,6 +4,7 @@ use mathlib.Core.Path.{refl, sym, ◌∙◌}
 use native.Mathlib.Omega.{arith}
 use lib.ListN.{length}
 use lib.Seq.{length-take-le}
+use Rattle.refusals.proofs.Passed.{passed_on}
 use Rattle.image.specs.Read.{read_into}
 use Rattle.image.proofs.ReadLaws.{no_blocks, odd-blocks, too_many_blocks, whole-blocks, room-rows, room-quorum, read_length, read-room, read-block, read-sites}
 use Rattle.image.proofs.read.Goals as goal
@@ -29,11 +30,12 @@ returns-then-room-n c =
     let a = c.args in let b = a.image.now in
     let e = whole-blocks (length b) c.if-n-eq0.false c.if-image-ne0.false c.if-n-gt64.false in record { answer = sym (read-room b (length a.room.now) e c.if-room-n.true); memory = refl }
 
-pub returns-in-Refused : goal.returns-in-Refused
+pub returns-in_err-check_blocks : goal.returns-in_err-check_blocks
 unfolding read_into
-returns-in-Refused c =
+returns-in_err-check_blocks c =
     let a = c.args in let b = a.image.now in
-    let e = whole-blocks (length b) c.if-n-eq0.false c.if-image-ne0.false c.if-n-gt64.false in record { answer = sym (read-block b (length a.room.now) e c.if-room-n.false _ (sym c.check_blocks-q.ensures ∙ c.in-Refused.is)); memory = refl }
+    let e = whole-blocks (length b) c.if-n-eq0.false c.if-image-ne0.false c.if-n-gt64.false in
+    rw (passed_on c.from_residual.result c.from_residual.ensures.1) (record { answer = sym (read-block b (length a.room.now) e c.if-room-n.false _ (sym c.check_blocks.ensures ∙ c.in_err-check_blocks.was)); memory = refl })
 
 pub slice_bounds-largest_set-end-2 : goal.slice_bounds-largest_set-end-2
 slice_bounds-largest_set-end-2 c =
@@ -44,16 +46,16 @@ pub largest_set-quorum-requires : goal.largest_set-quorum-requires
 largest_set-quorum-requires c =
     let a = c.args in let b = a.image.now in
     room-rows (length b / 512) b _ _ c.load_blocks.ensures (omega arith) (omega arith)
-    (sym c.check_blocks-q.ensures ∙ c.in_default.is)
+    (sym c.check_blocks.ensures ∙ c.in_ok-check_blocks.was)
 
 pub returns-then-quorum-eq0 : goal.returns-then-quorum-eq0
 returns-then-quorum-eq0 c =
     let a = c.args in let b = a.image.now in absurd (room-quorum (length b / 512) b _ _ c.load_blocks.ensures (omega arith) (omega arith)
-    (sym c.check_blocks-q.ensures ∙ c.in_default.is) _ c.all_below.ensures (sym c.largest_set-quorum.ensures ∙ c.if-quorum-eq0.true))
+    (sym c.check_blocks.ensures ∙ c.in_ok-check_blocks.was) _ c.all_below.ensures (sym c.largest_set-quorum.ensures ∙ c.if-quorum-eq0.true))
 
 pub returns : goal.returns
 unfolding read_into
 returns c =
     let a = c.args in let b = a.image.now in
     let e = whole-blocks (length b) c.if-n-eq0.false c.if-image-ne0.false c.if-n-gt64.false in record
-    { answer = sym (read-sites b (length a.room.now) e c.if-room-n.false (sym c.check_blocks-q.ensures ∙ c.in_default.is)); memory = c.load_blocks.ensures }
+    { answer = sym (read-sites b (length a.room.now) e c.if-room-n.false (sym c.check_blocks.ensures ∙ c.in_ok-check_blocks.was)); memory = c.load_blocks.ensures }

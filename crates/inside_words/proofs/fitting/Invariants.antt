@@ -1,5 +1,4 @@
 -- `fitting` meets its contract: the members below v are asked.
-use Prim.Native.Nat.{◌-◌, ◌≤◌}
 use Rattle.set_words.specs.Inner.{Says}
 use Rattle.sets.specs.Inner.Rows.{rules_of}
 use Rattle.inside_words.specs.Inner.{fits}
@@ -7,8 +6,4 @@ use Rattle.inside_words.proofs.fitting.Given as goal
 
 abbrev pub invariant-loop-v : goal.invariant-loop-v
 invariant-loop-v l =
-    (l.v ≤ 12) × Says (fits (rules_of l.table) 0 l.v) l.sets
-
-abbrev pub decreases-loop-v : goal.decreases-loop-v
-decreases-loop-v l =
-    12 - l.v
+    Says (fits (rules_of l.table) 0 l.v) l.sets

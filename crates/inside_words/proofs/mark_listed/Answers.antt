@@ -26,11 +26,7 @@ slice-few {t} {n} {v} row few-sites i l h = subst (λ (q : ℕ). q < 4096) (slic
 
 pub loop-i-init : goal.loop-i-init
 loop-i-init c =
-    let t = c.args.table.now in (search rules, subst (λ (k : ℕ). k ≤ 62) (count_at t c.args.v) c.requires.listed_row.few-slices, marking-none t c.args.v c.requires.empty)
-
-pub offset_bounds-words-here : goal.offset_bounds-words-here
-offset_bounds-words-here c =
-    omega (arith, slice-few c.requires.listed_row c.requires.n_bound c.loop-i.i (omega arith) c.loop-i-test.true)
+    let t = c.args.table.now in (subst (λ (k : ℕ). k ≤ 62) (count_at t c.args.v) c.requires.listed_row.few-slices, marking-none t c.args.v c.requires.empty)
 
 pub bounds-words-here : goal.bounds-words-here
 bounds-words-here c =
@@ -39,10 +35,9 @@ bounds-words-here c =
 pub loop-i-preserved : goal.loop-i-preserved
 loop-i-preserved c =
     let a = c.args in let t = a.table.now in
-    let l = c.loop-i in let small : c.loop-i.i < 62 = omega arith in
+    let small : c.loop-i.i < 62 = omega arith in
     let own : c.loop-i.i < count_of t a.v = omega (arith, count_at t a.v) in
     let row = c.requires.listed_row in let q = get_or t (63 * a.v + 1 + c.loop-i.i) 0 in (
-      search rules,
       search rules,
       subst
           (λ (x : ℕ). Marking t a.v (c.loop-i.i + 1) (q / 64) (bit_or x (get_or a.above.now (q % 64) 0)) (set c.loop-i.words (q / 64) (bit_or x (get_or a.above.now (q % 64) 0))))
@@ -51,11 +46,11 @@ loop-i-preserved c =
           (λ (q : ℕ). Marking t a.v (c.loop-i.i + 1) (q / 64) (bit_or (cond (eqb (q / 64) c.loop-i.at) c.loop-i.word 0) (get_or a.above.now (q % 64) 0))
           (set c.loop-i.words (q / 64) (bit_or (cond (eqb (q / 64) c.loop-i.at) c.loop-i.word 0) (get_or a.above.now (q % 64) 0))))
           (slice_at t a.v c.loop-i.i small)
-          (marking-more row c.loop-i.i c.loop-i.at c.loop-i.word c.requires.above own (few row c.requires.n_bound c.loop-i.i own) c.loop-i.invariant.2)),
+          (marking-more row c.loop-i.i c.loop-i.at c.loop-i.word c.requires.above own (few row c.requires.n_bound c.loop-i.i own) c.loop-i.invariant.1)),
     )
 
 pub returns : goal.returns
 returns c =
     let a = c.args in let t = a.table.now in
-    let l = c.loop-i in let h = c.loop-i.invariant.0 in let e : c.loop-i.i ≡ count_of t a.v = omega (arith, count_at t a.v) in
-    subst (λ (k : ℕ). Marked t a.v k c.loop-i.words) e c.loop-i.invariant.2.marked
+    let e : c.loop-i.i ≡ count_of t a.v = omega (arith, count_at t a.v) in
+    subst (λ (k : ℕ). Marked t a.v k c.loop-i.words) e c.loop-i.invariant.1.marked

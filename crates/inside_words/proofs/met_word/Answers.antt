@@ -1,11 +1,9 @@
 -- `met_word` meets its contract: the sets before j are asked.
 use Prim.Native.Nat.{ℕ, ◌+◌, ◌*◌, ◌^◌}
 use mathlib.Core.Bool.{Bool}
-use mathlib.Core.Path.{◌≡◌, refl, sym, ap, ◌∙◌}
+use mathlib.Core.Path.{refl, sym, ap, ◌∙◌}
 use native.Mathlib.Numerals.{add-one}
-use native.Mathlib.Omega.{arith}
 use lib.Bits.{bit_or}
-use borrow.Author.Rules.{rules}
 use Rattle.masks.proofs.Laws.Gather.{gather-in, gather-out}
 use Rattle.masks.specs.Mask.{gather}
 use Rattle.sets.specs.Inner.Rows.{rules_of}
@@ -15,21 +13,13 @@ use Rattle.inside_words.proofs.met_word.Goals.{then-has_met, else-has_met}
 pub loop-j-init : goal.loop-j-init
 unfolding gather
 loop-j-init c =
-    (search rules, refl)
+    refl
 
 pub loop-j-preserved : goal.loop-j-preserved
 loop-j-preserved c =
-    let a = c.args in let l = c.loop-j in let p : ℕ → Bool = λ k. (rules_of a.table.now).inside a.v (a.w * 64 + k) in
-    let h = c.has_met.ensures in (
-      search rules,
-      (elim c.if-has_met.branch [
-        | then-has_met w ↦ w.word-is ∙ ap (bit_or c.loop-j.word) w.single-word.ensures ∙ ap (λ (m : ℕ). bit_or m (2 ^ c.loop-j.j)) c.loop-j.invariant.1 ∙ sym
-            (gather-in c.loop-j.j p (sym c.has_met.ensures ∙ w.if-has_met.true)) ∙ ap (λ (k : ℕ). gather k p) (sym (add-one c.loop-j.j))
-        | else-has_met w ↦ w.word-is ∙ c.loop-j.invariant.1 ∙ sym (gather-out c.loop-j.j p (sym c.has_met.ensures ∙ w.if-has_met.false)) ∙ ap (λ (k : ℕ). gather k p) (sym (add-one c.loop-j.j))
-      ]),
-    )
-
-pub returns : goal.returns
-returns c =
-    let a = c.args in let l = c.loop-j in let h = c.loop-j.invariant.0 in let e : c.loop-j.j ≡ 64 = omega arith in
-    c.loop-j.invariant.1 ∙ ap (λ (k : ℕ). gather k (λ j. (rules_of a.table.now).inside a.v (a.w * 64 + j))) e
+    let a = c.args in let p : ℕ → Bool = λ k. (rules_of a.table.now).inside a.v (a.w * 64 + k) in
+    elim c.if-has_met.branch [
+      | then-has_met w ↦ w.word-is ∙ ap (bit_or c.loop-j.word) w.single-word.ensures ∙ ap (λ (m : ℕ). bit_or m (2 ^ c.loop-j.j)) c.loop-j.invariant ∙ sym
+          (gather-in c.loop-j.j p (sym c.has_met.ensures ∙ w.if-has_met.true)) ∙ ap (λ (k : ℕ). gather k p) (sym (add-one c.loop-j.j))
+      | else-has_met w ↦ w.word-is ∙ c.loop-j.invariant ∙ sym (gather-out c.loop-j.j p (sym c.has_met.ensures ∙ w.if-has_met.false)) ∙ ap (λ (k : ℕ). gather k p) (sym (add-one c.loop-j.j))
+    ]

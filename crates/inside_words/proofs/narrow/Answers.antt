@@ -2,33 +2,18 @@
 use Prim.Native.Nat.{ℕ}
 use mathlib.Core.Bool.{Bool, ◌&&◌, ◌||◌, not}
 use mathlib.Core.List.{List}
-use mathlib.Core.Path.{◌≡◌, subst}
 use native.Mathlib.Nat.{le_refl}
-use native.Mathlib.Omega.{arith}
-use borrow.Author.Rules.{rules}
 use Rattle.masks.specs.Mask.{has}
-use Rattle.set_words.specs.Inner.{in_family, Written}
-use Rattle.set_words.proofs.WordLaws.{written_none, written-more, written_all}
+use Rattle.set_words.specs.Inner.{in_family}
+use Rattle.set_words.proofs.WordLaws.{written-more}
 use Rattle.inside_words.proofs.InsideLaws.{narrowed}
 use Rattle.inside_words.proofs.narrow.Goals as goal
 
 abbrev kept : List ℕ → List ℕ → ℕ → ℕ → Bool
 kept old words v s = in_family old s && (not (has s v) || in_family words s)
 
-pub loop-w-init : goal.loop-w-init
-loop-w-init c =
-    let a = c.args in (search rules, written_none (kept a.sets.now a.words.now a.v) a.sets.now c.requires.sets_len)
-
 pub loop-w-preserved : goal.loop-w-preserved
 loop-w-preserved c =
-    let a = c.args in let l = c.loop-w in let k = c.loop-w-test.true in (
-      search rules,
-      written-more (kept a.sets.now a.words.now a.v) c.loop-w.w _ k
-          (narrowed a.sets.now a.words.now a.v c.loop-w.w (c.loop-w.invariant.1.above c.loop-w.w (le_refl c.loop-w.w)) c.lacking.ensures) c.loop-w.invariant.1,
-    )
-
-pub returns : goal.returns
-returns c =
-    let a = c.args in let p = kept a.sets.now a.words.now a.v in
-    let l = c.loop-w in let h = c.loop-w.invariant.0 in let e : c.loop-w.w ≡ 64 = omega arith in
-    written_all p (subst (λ (k : ℕ). Written p a.sets.now k c.loop-w.sets) e c.loop-w.invariant.1)
+    let a = c.args in let k = c.loop-w-test.true in
+    written-more (kept a.sets.now a.words.now a.v) c.loop-w.w _ k
+    (narrowed a.sets.now a.words.now a.v c.loop-w.w (c.loop-w.invariant.above c.loop-w.w (le_refl c.loop-w.w)) c.lacking.ensures) c.loop-w.invariant

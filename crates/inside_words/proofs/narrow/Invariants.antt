@@ -1,5 +1,5 @@
 -- `narrow` meets its contract: the words below w are narrowed.
-use Prim.Native.Nat.{ℕ, ◌-◌, ◌≤◌}
+use Prim.Native.Nat.{ℕ}
 use mathlib.Core.Bool.{Bool, ◌&&◌, ◌||◌, not}
 use mathlib.Core.List.{List}
 use Rattle.masks.specs.Mask.{has}
@@ -11,8 +11,4 @@ kept old words v s = in_family old s && (not (has s v) || in_family words s)
 
 abbrev pub invariant-loop-w : goal.invariant-loop-w
 invariant-loop-w l =
-    (l.w ≤ 64) × Written (kept l.initial.sets l.words l.v) l.initial.sets l.w l.sets
-
-abbrev pub decreases-loop-w : goal.decreases-loop-w
-decreases-loop-w l =
-    64 - l.w
+    Written (kept l.initial.sets l.words l.v) l.initial.sets l.w l.sets

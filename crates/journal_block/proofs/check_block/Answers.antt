@@ -15,9 +15,9 @@ pub returns-then-check-ne0 : goal.returns-then-check-ne0
 returns-then-check-ne0 c =
     sym (wrong-sums c.args.k c.args.i c.args.b.now (says-unsealed _ c.requires.b_len (λ e. c.if-check-ne0.true (c.check.ensures ∙ e))))
 
-pub returns-then-get16-i : goal.returns-then-get16-i
-returns-then-get16-i c =
-    let a = c.args in sym (wrong-number a.k a.i a.b.now (says-sealed _ (sym c.check.ensures ∙ c.if-check-ne0.false)) (λ e. c.if-get16-i.true (c.get16.ensures ∙ e)))
+pub returns-then-from-i : goal.returns-then-from-i
+returns-then-from-i c =
+    let a = c.args in sym (wrong-number a.k a.i a.b.now (says-sealed _ (sym c.check.ensures ∙ c.if-check-ne0.false)) (λ e. c.if-from-i.true (c.from.ensures ∙ c.get16.ensures ∙ e)))
 
 pub returns-then-is_miscounted : goal.returns-then-is_miscounted
 returns-then-is_miscounted c =
@@ -27,13 +27,13 @@ returns-then-is_miscounted c =
 pub returns-then-is_unfilled : goal.returns-then-is_unfilled
 returns-then-is_unfilled c =
     let u = c.is_unfilled in let m = c.is_miscounted in let n = c.calls_in in let a = c.args in sym (wrong-filler a.k a.i a.b.now (says-sealed _ (sym c.check.ensures ∙ c.if-check-ne0.false))
-    (sym c.get16.ensures ∙ c.if-get16-i.false)
+    (sym c.get16.ensures ∙ sym c.from.ensures ∙ c.if-from-i.false)
     (sym (told a.k a.i _ _ c.calls_in.ensures) ∙ sym c.is_miscounted.ensures ∙ c.if-is_miscounted.false)
     (sym c.is_unfilled.ensures ∙ c.if-is_unfilled.true))
 
 pub returns : goal.returns
 returns c =
     let u = c.is_unfilled in let m = c.is_miscounted in let n = c.calls_in in let a = c.args in sym (all_right a.k a.i a.b.now (says-sealed _ (sym c.check.ensures ∙ c.if-check-ne0.false))
-    (sym c.get16.ensures ∙ c.if-get16-i.false)
+    (sym c.get16.ensures ∙ sym c.from.ensures ∙ c.if-from-i.false)
     (sym (told a.k a.i _ _ c.calls_in.ensures) ∙ sym c.is_miscounted.ensures ∙ c.if-is_miscounted.false)
     (sym c.is_unfilled.ensures ∙ c.if-is_unfilled.false))

@@ -24,7 +24,7 @@ count-read journal i n e = e ∙ ap calls_field (part_cut 512 i journal)
 pub loop-i-init : goal.loop-i-init
 unfolding cat
 loop-i-init c =
-    (omega arith, refl, omega arith, refl, refl)
+    (refl, omega arith, refl, refl)
 
 pub overflow_mul-end : goal.overflow_mul-end
 overflow_mul-end c =
@@ -34,12 +34,12 @@ overflow_mul-end c =
 pub overflow_add-end : goal.overflow_add-end
 overflow_add-end c =
     let l = c.loop-i in let j = c.args.journal.now in let h = c.loop-i-test.true in let n = count-read j c.loop-i.i _ c.calls_in.ensures in
-    omega (arith, n, few j c.args.k c.requires.journal_len c.requires.journal_value c.loop-i.i h, front_length j c.args.k c.requires.journal_len c.requires.journal_value c.loop-i.i h, c.loop-i.invariant.1, c.requires.k_bound)
+    omega (arith, n, few j c.args.k c.requires.journal_len c.requires.journal_value c.loop-i.i h, front_length j c.args.k c.requires.journal_len c.requires.journal_value c.loop-i.i h, c.loop-i.invariant.0, c.requires.k_bound)
 
-pub slice_bounds-copy_calls-end-in-loop-i : goal.slice_bounds-copy_calls-end-in-loop-i
-slice_bounds-copy_calls-end-in-loop-i c =
+pub slice_bounds-copy_calls-end : goal.slice_bounds-copy_calls-end
+slice_bounds-copy_calls-end c =
     let l = c.loop-i in let n = count-read c.args.journal.now c.loop-i.i _ c.calls_in.ensures in
-    omega (arith, n, room_for c.args.journal.now c.args.k c.requires.journal_len c.requires.journal_value c.loop-i.i c.loop-i-test.true, c.loop-i.invariant.1, c.loop-i.invariant.3, c.requires.journal_in_bounds)
+    omega (arith, n, room_for c.args.journal.now c.args.k c.requires.journal_len c.requires.journal_value c.loop-i.i c.loop-i-test.true, c.loop-i.invariant.0, c.loop-i.invariant.2, c.requires.journal_in_bounds)
 
 pub copy_calls-requires : goal.copy_calls-requires
 copy_calls-requires c =
@@ -58,12 +58,11 @@ loop-i-preserved c =
     let room = room_for j k c.requires.journal_len c.requires.journal_value c.loop-i.i h in
     let size = c.loop-i.at + 4 * m - c.loop-i.at in
     let long : length (take size (drop c.loop-i.at c.loop-i.room)) ≡ 4 * m =
-    length-take-le size (drop c.loop-i.at c.loop-i.room) (omega (arith, length-drop c.loop-i.at c.loop-i.room, room, n, c.loop-i.invariant.1, c.loop-i.invariant.3, c.requires.journal_in_bounds)) ∙ omega arith in (
-      omega arith,
-      omega (arith, c.loop-i.invariant.1, p, ap length (cat-more f c.loop-i.i) ∙ length-append (cat f c.loop-i.i) (f c.loop-i.i)),
-      omega (arith, c.loop-i.invariant.1, n, room),
-      same_len_mid {X = ℕ} c.loop-i.at size c.loop-i.room c.copy_calls.new.room c.copy_calls.auto.room ∙ c.loop-i.invariant.3,
-      fill-piece f c.loop-i.i c.loop-i.at (c.loop-i.at + 4 * m) c.loop-i.room c.args.room.now _ c.loop-i.invariant.1 (ap (λ (y : ℕ). c.loop-i.at + y) (sym p)) c.loop-i.invariant.4
+    length-take-le size (drop c.loop-i.at c.loop-i.room) (omega (arith, length-drop c.loop-i.at c.loop-i.room, room, n, c.loop-i.invariant.0, c.loop-i.invariant.2, c.requires.journal_in_bounds)) ∙ omega arith in (
+      omega (arith, c.loop-i.invariant.0, p, ap length (cat-more f c.loop-i.i) ∙ length-append (cat f c.loop-i.i) (f c.loop-i.i)),
+      omega (arith, c.loop-i.invariant.0, n, room),
+      same_len_mid {X = ℕ} c.loop-i.at size c.loop-i.room c.copy_calls.new.room c.copy_calls.auto.room ∙ c.loop-i.invariant.2,
+      fill-piece f c.loop-i.i c.loop-i.at (c.loop-i.at + 4 * m) c.loop-i.room c.args.room.now _ c.loop-i.invariant.0 (ap (λ (y : ℕ). c.loop-i.at + y) (sym p)) c.loop-i.invariant.3
           (c.copy_calls.ensures ∙ ap (λ (y : ℕ). take y (drop 4 (take (512 * c.loop-i.i + 512 - 512 * c.loop-i.i) (drop (512 * c.loop-i.i) j)))) (long ∙ ap (λ (y : ℕ). 4 * y) n)
           ∙ ap (λ (y : List ℕ). take (4 * calls_field (part 512 c.loop-i.i j)) (drop 4 y)) (part_cut 512 c.loop-i.i j)),
     )
@@ -72,6 +71,6 @@ pub returns : goal.returns
 returns c =
     let l = c.loop-i in let j = c.args.journal.now in let e : c.loop-i.i ≡ c.args.k = omega arith in
     let q : front j c.loop-i.i ≡ list_of j = ap (front j) e ∙ sym (pieces j c.args.k c.requires.journal_len c.requires.journal_value) in
-    c.loop-i.invariant.4
-    ∙ ap (λ (x : ℕ). front j c.loop-i.i ++ drop x c.args.room.now) c.loop-i.invariant.1
+    c.loop-i.invariant.3
+    ∙ ap (λ (x : ℕ). front j c.loop-i.i ++ drop x c.args.room.now) c.loop-i.invariant.0
     ∙ ap (λ (x : List ℕ). x ++ drop (length x) c.args.room.now) q

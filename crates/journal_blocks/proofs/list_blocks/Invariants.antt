@@ -1,5 +1,5 @@
 -- `list_blocks` meets its contract: after i turns the room begins with the calls of the first i blocks.
-use Prim.Native.Nat.{ℕ, ◌-◌, ◌≤◌}
+use Prim.Native.Nat.{ℕ, ◌≤◌}
 use mathlib.Core.List.{List, ◌++◌}
 use mathlib.Core.Path.{◌≡◌}
 use lib.ListN.{length, drop}
@@ -13,8 +13,4 @@ front journal i = cat (λ j. calls_in (part 512 j journal)) i
 
 abbrev pub invariant-loop-i : goal.invariant-loop-i
 invariant-loop-i l =
-    (l.i ≤ l.k) × (l.at ≡ length (front l.journal l.i)) × (l.at ≤ length (list_of l.journal)) × (length l.room ≡ length l.initial.room) × (l.room ≡ front l.journal l.i ++ drop l.at l.initial.room)
-
-abbrev pub decreases-loop-i : goal.decreases-loop-i
-decreases-loop-i l =
-    l.k - l.i
+    (l.at ≡ length (front l.journal l.i)) × (l.at ≤ length (list_of l.journal)) × (length l.room ≡ length l.initial.room) × (l.room ≡ front l.journal l.i ++ drop l.at l.initial.room)

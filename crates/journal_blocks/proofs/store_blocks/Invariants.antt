@@ -1,5 +1,5 @@
 -- `store_blocks` meets its contract: after i turns the room begins with the first i blocks.
-use Prim.Native.Nat.{ℕ, ◌-◌, ◌*◌, ◌≤◌}
+use Prim.Native.Nat.{ℕ, ◌*◌}
 use mathlib.Core.List.{List, ◌++◌}
 use mathlib.Core.Path.{◌≡◌}
 use lib.ListN.{length, drop}
@@ -12,8 +12,4 @@ block list i = journal_block i (part 500 i list)
 
 abbrev pub invariant-loop-i : goal.invariant-loop-i
 invariant-loop-i l =
-    (l.i ≤ l.k) × (length l.room ≡ length l.initial.room) × (l.room ≡ cat (block l.list) l.i ++ drop (512 * l.i) l.initial.room)
-
-abbrev pub decreases-loop-i : goal.decreases-loop-i
-decreases-loop-i l =
-    l.k - l.i
+    (length l.room ≡ length l.initial.room) × (l.room ≡ cat (block l.list) l.i ++ drop (512 * l.i) l.initial.room)

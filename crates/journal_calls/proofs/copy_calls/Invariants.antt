@@ -8,7 +8,3 @@ use Rattle.journal_calls.proofs.copy_calls.Given as goal
 abbrev pub invariant-loop-j : goal.invariant-loop-j
 invariant-loop-j l =
     (l.j ≤ length l.initial.room) × (length l.room ≡ length l.initial.room) × (l.room ≡ take l.j (drop 4 l.b) ++ drop l.j l.initial.room)
-
-abbrev pub decreases-loop-j : goal.decreases-loop-j
-decreases-loop-j l =
-    length l.initial.room - l.j

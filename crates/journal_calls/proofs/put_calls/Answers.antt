@@ -1,7 +1,7 @@
 -- `put_calls` meets its contract: after j turns the first j of the 500 bytes stand in the block.
 use Prim.Native.Nat.{ℕ, ◌-◌, ◌≤◌}
 use mathlib.Core.List.{List, ◌++◌}
-use mathlib.Core.Path.{◌≡◌, refl, sym, ap, ap₂, ◌∙◌}
+use mathlib.Core.Path.{◌≡◌, refl, sym, ap, ap₂, subst, ◌∙◌}
 use native.Mathlib.Omega.{arith}
 use lib.ListN.{length, take, drop, length-set}
 use lib.Seq.{paste, paste-zero, take_all}
@@ -24,12 +24,13 @@ loop-j-preserved c =
 
 pub loop-j-2-init : goal.loop-j-2-init
 loop-j-2-init c =
-    let calls = c.args.calls.now in let i = c.loop-j.invariant in (
+    let calls = c.args.calls.now in let i = c.loop-j.invariant in let e : c.loop-j.j ≡ length calls = omega (arith, i.0, c.loop-j-test.false) in (
       omega arith,
       omega (arith, i.0, c.requires.calls_len_bound),
       refl,
-      i.2 ∙ paste-again c.args.b.now (call_bytes calls) c.loop-j.j (omega (arith, c.requires.b_len)) (omega (arith, call-bytes-long calls c.requires.calls_len_bound, i.0, c.requires.calls_len_bound))
-          ∙ ap (λ (x : List ℕ). paste x 4 (call_bytes calls) c.loop-j.j) (sym i.2),
+      subst (λ (k : ℕ). c.loop-j.b ≡ paste c.loop-j.b 4 (call_bytes calls) k) e
+          (i.2 ∙ paste-again c.args.b.now (call_bytes calls) c.loop-j.j (omega (arith, c.requires.b_len)) (omega (arith, call-bytes-long calls c.requires.calls_len_bound, i.0, c.requires.calls_len_bound))
+          ∙ ap (λ (x : List ℕ). paste x 4 (call_bytes calls) c.loop-j.j) (sym i.2)),
     )
 
 pub loop-j-2-preserved : goal.loop-j-2-preserved

@@ -10,14 +10,6 @@ abbrev pub invariant-loop-j : goal.invariant-loop-j
 invariant-loop-j l =
     (l.j ≤ length l.calls) × (length l.b ≡ length l.initial.b) × (l.b ≡ paste l.initial.b 4 (call_bytes l.calls) l.j)
 
-abbrev pub decreases-loop-j : goal.decreases-loop-j
-decreases-loop-j l =
-    length l.calls - l.j
-
 abbrev pub invariant-loop-j-2 : goal.invariant-loop-j-2
 invariant-loop-j-2 l =
     (length l.calls ≤ l.j) × (l.j ≤ 500) × (length l.b ≡ length l.initial.b) × (l.b ≡ paste l.initial.b 4 (call_bytes l.calls) l.j)
-
-abbrev pub decreases-loop-j-2 : goal.decreases-loop-j-2
-decreases-loop-j-2 l =
-    500 - l.j

@@ -4,16 +4,15 @@ use lib.ListN.{length}
 use Rattle.journal_write.specs.Keep.{keep_into}
 use Rattle.journal_write.proofs.Keep.{odd-list, long-list, no_room, written}
 use Rattle.journal_write.proofs.write.Goals as goal
+use Rattle.journal_write.proofs.write.Goals.{then-list-ne0-via-then-list-ne0, then-list-ne0-via-else-list-ne0+then-list-gt16384}
 
 pub returns-then-list-ne0 : goal.returns-then-list-ne0
 unfolding keep_into
 returns-then-list-ne0 c =
-    let a = c.args in record { answer = sym (odd-list a.list.now (length a.room.now) c.if-list-ne0.true); memory = refl }
-
-pub returns-then-list-gt16384 : goal.returns-then-list-gt16384
-unfolding keep_into
-returns-then-list-gt16384 c =
-    let a = c.args in record { answer = sym (long-list a.list.now (length a.room.now) c.if-list-gt16384.true); memory = refl }
+    let l = c.args.list.now in let room = length c.args.room.now in elim c.then-list-ne0.branch [
+      | then-list-ne0-via-then-list-ne0 w ↦ record { answer = sym (odd-list l room w.if-list-ne0.true); memory = refl }
+      | then-list-ne0-via-else-list-ne0+then-list-gt16384 w ↦ record { answer = sym (long-list l room w.if-list-gt16384.true); memory = refl }
+    ]
 
 pub returns-then-room-k : goal.returns-then-room-k
 unfolding keep_into

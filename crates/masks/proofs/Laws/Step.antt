@@ -1,11 +1,11 @@
 -- Counting up through the sets with no member of b: the next after p is `minus (bit_or p b + 1) b`.
-use Prim.Native.Nat.{ℕ, ◌+◌, ◌*◌, ◌/◌, ◌%◌, ◌^◌, ◌≤◌, ◌<◌, max}
+use Prim.Native.Nat.{ℕ, ◌+◌, ◌*◌, ◌/◌, ◌%◌, ◌≤◌, ◌<◌, max}
 use mathlib.Core.Logic.{⊎_elim}
 use mathlib.Core.Path.{◌≡◌, sym, ap, ◌∙◌, subst}
 use native.Mathlib.Nat.{mod-lt}
 use native.Mathlib.Omega.{arith}
 use lib.Arith.{bin_ind}
-use lib.Bits.{bit_and, bit_or, or_step, or_lt, or_disjoint}
+use lib.Bits.{bit_or, or_step, or_disjoint}
 use lib.Dec.{eqb}
 use borrow.Author.Tests.{eqb-true, eqb-false}
 use Rattle.ground.proofs.Logic.{cases}
@@ -13,7 +13,7 @@ use Rattle.masks.specs.Mask.{minus, ◌⊆◌}
 use Rattle.masks.proofs.Laws.Apart.{minus-apart, minus-⊆-or}
 use Rattle.masks.proofs.Laws.Members.{two_pos}
 use Rattle.masks.proofs.Laws.Size.{halve-⊆, low-⊆}
-use Rattle.masks.proofs.Laws.Subsets.{⊆-refl, ⊆-trans, ⊆-antisym, ⊆-le, or-⊆, or-⊆-l, or-⊆-r, minus-⊆}
+use Rattle.masks.proofs.Laws.Subsets.{⊆-refl, ⊆-trans, ⊆-antisym, or-⊆, or-⊆-l, or-⊆-r, minus-⊆}
 
 -- a set and a part of it
 pub or-part : {a b : ℕ} → b ⊆ a → bit_or a b ≡ a

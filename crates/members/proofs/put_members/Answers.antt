@@ -1,5 +1,4 @@
 -- `put_members` meets its contract: the members below u are written.
-use Prim.Native.Nat.{◌-◌}
 use mathlib.Core.Path.{◌≡◌, refl, sym}
 use native.Mathlib.Omega.{arith}
 use Rattle.lines.proofs.Chain.{as-text}
@@ -10,7 +9,6 @@ use Rattle.members.proofs.put_members.Goals as goal
 
 pub loop-u-init : goal.loop-u-init
 loop-u-init c = (
-  omega arith,
   refl,
   omega arith,
   as-text (sym (cat-none (site_shown c.args.set)))
@@ -21,13 +19,12 @@ pub loop-u-preserved : goal.loop-u-preserved
 loop-u-preserved c =
     let p = c.put_member-end in let l = c.loop-u in let a = c.args in (
       omega arith,
-      omega arith,
       omega (arith, c.put_member-end.ensures.place, length-member a.set c.loop-u.u c.loop-u-test.true),
-      more (site_shown a.set) c.loop-u.u c.loop-u.invariant.3 c.put_member-end.ensures (omega arith),
+      more (site_shown a.set) c.loop-u.u c.loop-u.invariant.2 c.put_member-end.ensures (omega arith),
     )
 
 pub returns : goal.returns
 unfolding members
 returns c =
     let l = c.loop-u in let e : c.loop-u.u ≡ 64 = omega arith in
-    rw e at c.loop-u.invariant.3
+    rw e at c.loop-u.invariant.2

@@ -1,5 +1,5 @@
 -- `put_members` meets its contract: the members below u are written.
-use Prim.Native.Nat.{◌+◌, ◌-◌, ◌*◌, ◌≤◌}
+use Prim.Native.Nat.{◌+◌, ◌*◌, ◌≤◌}
 use mathlib.Core.Path.{◌≡◌}
 use lib.ListN.{length}
 use Rattle.ground.specs.Pieces.{cat}
@@ -9,8 +9,4 @@ use Rattle.members.proofs.put_members.Given as goal
 
 abbrev pub invariant-loop-u : goal.invariant-loop-u
 invariant-loop-u l =
-    (l.u ≤ 64) × (length l.room ≡ length l.initial.room) × (l.end ≤ l.at + 3 * l.u) × Writes (cat (site_shown l.set) l.u) l.initial.room l.at l.end l.room
-
-abbrev pub decreases-loop-u : goal.decreases-loop-u
-decreases-loop-u l =
-    64 - l.u
+    (length l.room ≡ length l.initial.room) × (l.end ≤ l.at + 3 * l.u) × Writes (cat (site_shown l.set) l.u) l.initial.room l.at l.end l.room

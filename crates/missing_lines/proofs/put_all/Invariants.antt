@@ -1,5 +1,4 @@
 -- `put_all` meets its contract: after u turns the lines of the first u senders stand in the room.
-use Prim.Native.Nat.{◌-◌, ◌≤◌}
 use mathlib.Core.Path.{◌≡◌}
 use lib.ListN.{length}
 use Rattle.ground.specs.Pieces.{cat}
@@ -9,8 +8,4 @@ use Rattle.missing_lines.proofs.put_all.Given as goal
 
 abbrev pub invariant-loop-u : goal.invariant-loop-u
 invariant-loop-u l =
-    (l.u ≤ l.n) × (length l.room ≡ length l.initial.room) × Writes (cat (missing_from l.n l.among l.side l.list l.accepters) l.u) l.initial.room l.at l.end l.room
-
-abbrev pub decreases-loop-u : goal.decreases-loop-u
-decreases-loop-u l =
-    l.n - l.u
+    (length l.room ≡ length l.initial.room) × Writes (cat (missing_from l.n l.among l.side l.list l.accepters) l.u) l.initial.room l.at l.end l.room

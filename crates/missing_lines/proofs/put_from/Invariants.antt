@@ -1,5 +1,4 @@
 -- `put_from` meets its contract: after v turns the lines to the first v receivers stand in the room.
-use Prim.Native.Nat.{◌-◌, ◌≤◌}
 use mathlib.Core.Path.{◌≡◌}
 use lib.ListN.{length}
 use Rattle.ground.specs.Pieces.{cat}
@@ -9,8 +8,4 @@ use Rattle.missing_lines.proofs.put_from.Given as goal
 
 abbrev pub invariant-loop-v : goal.invariant-loop-v
 invariant-loop-v l =
-    (l.v ≤ l.n) × (length l.room ≡ length l.initial.room) × Writes (cat (missing_line l.among l.side l.list l.accepters l.u) l.v) l.initial.room l.at l.end l.room
-
-abbrev pub decreases-loop-v : goal.decreases-loop-v
-decreases-loop-v l =
-    l.n - l.v
+    (length l.room ≡ length l.initial.room) × Writes (cat (missing_line l.among l.side l.list l.accepters l.u) l.v) l.initial.room l.at l.end l.room

@@ -14,8 +14,9 @@ put_decimal-at-requires c =
 
 pub line_decimal-requires : goal.line_decimal-requires
 line_decimal-requires c =
-    let a = c.args in omega (arith, length-name a.side, length-decimal a.u)
+    let a = c.args in omega (arith, length-name a.side, length-decimal c.from.result)
 
 pub returns : goal.returns
 returns c =
-    let a = c.args in as-text (three-words (side_name a.side ++ ascii " ") (decimal a.u) (decimal a.v)) (three c.put_name-at.ensures c.put_decimal-at.ensures c.line_decimal.ensures (omega arith))
+    let a = c.args in as-text (three-words (side_name a.side ++ ascii " ") (decimal a.u) (decimal a.v)) (three c.put_name-at.ensures (rw c.from.ensures at c.put_decimal-at.ensures) (rw c.from-2.ensures at c.line_decimal.ensures)
+    (omega arith))

@@ -8,12 +8,12 @@ use Rattle.missing_text.proofs.missing_read.Goals as goal
 
 pub missing_run-requires : goal.missing_run-requires
 missing_run-requires c =
-    record { in_bounds = search rules; table_len = c.requires.table_len; intact_value = sym c.in-Intact.is ∙ c.intact-standing.ensures }
+    record { in_bounds = search rules; table_len = c.requires.table_len; intact_value = sym c.in-Ok.is ∙ c.intact-standing.ensures }
 
-pub returns-in-Refused : goal.returns-in-Refused
-returns-in-Refused c =
-    let a = c.args in as-text (verdict-refused (lists a.table.now) a.faulty a.list.now _ (sym c.in-Refused.is ∙ c.intact-standing.ensures)) c.put_explained.ensures
+pub returns-in-Err : goal.returns-in-Err
+returns-in-Err c =
+    let a = c.args in as-text (verdict-refused (lists a.table.now) a.faulty a.list.now _ (sym c.in-Err.is ∙ c.intact-standing.ensures)) c.put_explained.ensures
 
-pub returns-in-Intact : goal.returns-in-Intact
-returns-in-Intact c =
+pub returns-in-Ok : goal.returns-in-Ok
+returns-in-Ok c =
     c.missing_run.ensures

@@ -17,13 +17,13 @@ pub bounds-state-accepted : goal.bounds-state-accepted
 bounds-state-accepted c =
     let a = c.args in omega (arith, c.accepted.ensures, few-sites a.table.now a.faulty a.n a.intact c.requires.table_len c.requires.intact_value)
 
-pub accepted-requires-in-Passes : goal.accepted-requires-in-Passes
-accepted-requires-in-Passes c =
+pub accepted-requires-in-Ok : goal.accepted-requires-in-Ok
+accepted-requires-in-Ok c =
     let a = c.args in record { n_bound = omega (arith, few-sites a.table.now a.faulty a.n a.intact c.requires.table_len c.requires.intact_value); side_bound = omega arith }
 
-pub bounds-state-accepted-in-Passes : goal.bounds-state-accepted-in-Passes
-bounds-state-accepted-in-Passes c =
-    let a = c.args in omega (arith, c.accepted-in-Passes.ensures, few-sites a.table.now a.faulty a.n a.intact c.requires.table_len c.requires.intact_value)
+pub bounds-state-accepted-in-Ok : goal.bounds-state-accepted-in-Ok
+bounds-state-accepted-in-Ok c =
+    let a = c.args in omega (arith, c.accepted-in-Ok.ensures, few-sites a.table.now a.faulty a.n a.intact c.requires.table_len c.requires.intact_value)
 
 pub overflow_cast-n : goal.overflow_cast-n
 overflow_cast-n c =
@@ -33,17 +33,17 @@ pub put_lacking-requires : goal.put_lacking-requires
 put_lacking-requires c =
     let a = c.args in record { n_bound = omega (arith, few-sites a.table.now a.faulty a.n a.intact c.requires.table_len c.requires.intact_value); in_bounds = omega arith }
 
-pub returns-in-Refused : goal.returns-in-Refused
-returns-in-Refused c =
-    let a = c.args in as-text (run-refused (lists a.table.now) a.faulty a.list.now a.intact c.requires.intact_value _ (sym c.in-Refused.is ∙ c.run-ran.ensures.answer)) c.put_explained.ensures
+pub returns-in-Err : goal.returns-in-Err
+returns-in-Err c =
+    let a = c.args in as-text (run-refused (lists a.table.now) a.faulty a.list.now a.intact c.requires.intact_value _ (sym c.in-Err.is ∙ c.run-ran.ensures.answer)) c.put_explained.ensures
 
-pub returns-in-Passes : goal.returns-in-Passes
-returns-in-Passes c =
-    let r = c.run-ran in let a = c.args in let e = c.in-Passes.is in let n : a.n ≡ sites_of (lists a.table.now) = omega (arith, c.requires.table_len) in
+pub returns-in-Ok : goal.returns-in-Ok
+returns-in-Ok c =
+    let r = c.run-ran in let a = c.args in let e = c.in-Ok.is in let n : a.n ≡ sites_of (lists a.table.now) = omega (arith, c.requires.table_len) in
     as-text
     (lacking-is (lists a.table.now) a.faulty a.list.now a.intact c.requires.intact_value _ (sym e ∙ c.run-ran.ensures.answer) _ _ refl c.run-ran.auto.state
     (c.run-ran.ensures.states ∙ ap (λ x. state_into x (lists a.table.now) a.faulty a.list.now _) e) a.n _ _ _ n
     (c.meets-meet.ensures ∙ ap met c.shared.ensures)
     (ap (λ i. get_or c.run-ran.new.state i 0) c.accepted.ensures)
-    (ap (λ i. get_or c.run-ran.new.state i 0) c.accepted-in-Passes.ensures))
+    (ap (λ i. get_or c.run-ran.new.state i 0) c.accepted-in-Ok.ensures))
     c.put_lacking.ensures

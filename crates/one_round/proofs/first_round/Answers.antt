@@ -1,13 +1,13 @@
 -- `first_round` meets its contract: who is asked stays if it has a slice inside w, and then has its place, and goes if not.
 use Prim.Native.Nat.{ℕ, ◌<◌}
-use mathlib.Core.Bool.{Bool, false, cond}
+use mathlib.Core.Bool.{Bool, cond}
 use mathlib.Core.Logic.{⊎_elim}
 use mathlib.Core.Path.{sym, ap, ◌∙◌, subst}
 use lib.Bits.{bit_and}
 use Rattle.ground.proofs.Logic.{clash, cases}
 use Rattle.masks.proofs.Laws.Single.{∈-eq, ∈-single}
 use Rattle.masks.proofs.Laws.Subsets.{⊆-refl, ⊆-antisym, ⊆-trans, and-⊆-l, minus-⊆, minus-not-in, not-in-zero}
-use Rattle.masks.specs.Mask.{single, minus, all_below, ◌∈◌, ◌⊆◌}
+use Rattle.masks.specs.Mask.{single, minus, all_below, ◌⊆◌}
 use Rattle.one_round.proofs.First.{out-next}
 use Rattle.one_round.proofs.Places.{place-less, asked-placed}
 use Rattle.one_round.proofs.Rounds.{is-site, round-part, in-round, fewer, minus-none, SomeAsked, asked-none, asked-all, asked-member, asked-stays, asked-goes}

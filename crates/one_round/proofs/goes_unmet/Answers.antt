@@ -11,6 +11,6 @@ pub single-requires : goal.single-requires
 single-requires c =
     let p = c.requires in omega (arith, p.rows.few-sites, p.v_lt_n)
 
-pub returns : goal.returns
-returns c =
+pub returns-else-has_met : goal.returns-else-has_met
+returns-else-has_met c =
     rw (sym c.has_met.ensures ∙ c.if-has_met.false) c.single.ensures

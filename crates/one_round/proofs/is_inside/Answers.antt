@@ -13,4 +13,4 @@ bounds-table-v c =
 pub returns : goal.returns
 returns c =
     let a = c.args in let few : a.i < 62 = omega (arith, c.requires.listed_row.few-slices) in
-    c.within.ensures ∙ sym (ap (λ (x : ℕ). within x a.w) (slice_at a.table.now a.v a.i few))
+    c.within.ensures ∙ rw c.from.ensures (sym (ap (λ (x : ℕ). within x a.w) (slice_at a.table.now a.v a.i few)))

@@ -8,4 +8,4 @@ use Rattle.one_round.proofs.stays_held.Goals as goal
 pub returns-then-within : goal.returns-then-within
 returns-then-within c =
     let a = c.args in let held = within-⊆ (get_or a.held.now a.v 0) a.w (sym c.within.ensures ∙ c.if-within.true) in record
-    { value = sym (row-grows c.requires.rows a.v _ a.w held (c.requires.slices_held.at a.v c.requires.v_lt_n c.requires.v)); places_2 = c.requires.places; slices_held_2 = c.requires.slices_held }
+    { value = c.if-within.true ∙ sym (row-grows c.requires.rows a.v _ a.w held (c.requires.slices_held.at a.v c.requires.v_lt_n c.requires.v)); places_2 = c.requires.places; slices_held_2 = c.requires.slices_held }

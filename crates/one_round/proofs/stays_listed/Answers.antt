@@ -11,4 +11,4 @@ is_inside-requires c =
 pub returns-then-is_inside : goal.returns-then-is_inside
 returns-then-is_inside c =
     let a = c.args in let l = (c.requires.places.at a.v c.requires.v_lt_n c.requires.v (listed-so c.requires.listed_row)).slice in record
-    { value = sym (row-found c.requires.listed_row a.w (get_or a.places.now a.v 0) l (sym c.is_inside.ensures ∙ c.if-is_inside.true)); places_2 = c.requires.places }
+    { value = c.if-is_inside.true ∙ sym (row-found c.requires.listed_row a.w (get_or a.places.now a.v 0) l (sym c.is_inside.ensures ∙ c.if-is_inside.true)); places_2 = c.requires.places }

@@ -1,6 +1,6 @@
 -- `put_calls` meets its contract: after i turns the lines of the first i calls stand in the room.
 -- the line of call i
-use Prim.Native.Nat.{ℕ, ◌+◌, ◌-◌, ◌*◌, ◌≤◌}
+use Prim.Native.Nat.{ℕ, ◌+◌, ◌*◌}
 use mathlib.Core.List.{List}
 use mathlib.Core.Path.{◌≡◌}
 use lib.ListN.{length, get_or}
@@ -14,8 +14,4 @@ row list answers i = call_line i (get_or answers i 0) (get_or list (4 * i) 0) (g
 
 abbrev pub invariant-loop-i : goal.invariant-loop-i
 invariant-loop-i l =
-    (l.i ≤ length l.answers) × (length l.room ≡ length l.initial.room) × Writes (cat (row l.list l.answers) l.i) l.initial.room l.at l.end l.room
-
-abbrev pub decreases-loop-i : goal.decreases-loop-i
-decreases-loop-i l =
-    length l.answers - l.i
+    (length l.room ≡ length l.initial.room) × Writes (cat (row l.list l.answers) l.i) l.initial.room l.at l.end l.room

@@ -8,7 +8,7 @@ packable-room : (n : ℕ) → packable n ≤ 4096
 packable-room n = grind (arith, packable-none n, packable-all n)
 
 pub loop-i-init : goal.loop-i-init
-loop-i-init c = (omega arith, sym (pack_to-zero _ _))
+loop-i-init c = sym (pack_to-zero _ _)
 
 pub offset_bounds-calls-i : goal.offset_bounds-calls-i
 offset_bounds-calls-i c =
@@ -20,4 +20,4 @@ bounds-calls-i c =
 
 pub loop-i-preserved : goal.loop-i-preserved
 loop-i-preserved c =
-    let e = pack_to-suc c.args.room.now c.args.calls.now c.loop-i.i in (omega arith, rw add-one cc)
+    let e = pack_to-suc c.args.room.now c.args.calls.now c.loop-i.i in rw add-one cc

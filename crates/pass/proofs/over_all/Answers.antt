@@ -1,5 +1,4 @@
 -- `over_all` meets its contract: after i calls the loop has the first i calls of the pass behind it.
-use Prim.Native.Nat.{◌-◌}
 use mathlib.Core.Path.{refl}
 use native.Mathlib.Omega.{arith}
 use Rattle.pass.proofs.Lawful.{rows-vote}
@@ -17,14 +16,6 @@ work_at-worked-requires c =
 pub bounds-answers-i : goal.bounds-answers-i
 bounds-answers-i c =
     omega (arith, c.loop-i.invariant.0.long, c.loop-i-test.true)
-
-pub overflow_add-i : goal.overflow_add-i
-overflow_add-i c =
-    omega (arith, c.loop-i-test.true, c.loop-i.invariant.0.long)
-
-pub loop-i-smaller : goal.loop-i-smaller
-loop-i-smaller c =
-    omega (arith, c.loop-i-test.true, c.loop-i.invariant.0.long)
 
 pub loop-i-preserved : goal.loop-i-preserved
 loop-i-preserved c =

@@ -10,20 +10,20 @@ use Rattle.pass.proofs.work_at.Goals as goal
 pub returns-in_default : goal.returns-in_default
 returns-in_default c =
     let a = c.args in record {
-      works = works_at (row_vote a.table.now a.n a.faulty) a.i a.list.now c.wide-kind.ensures.0 c.wide-from.ensures.0 c.wide-to.ensures.0 c.wide-side.ensures.0
-          (works-refused c.requires.fact (call c.wide-kind.result c.wide-from.result c.wide-to.result c.wide-side.result) c.answer-a.ensures
+      works = works_at (row_vote a.table.now a.n a.faulty) a.i a.list.now c.from-kind.ensures c.from-from.ensures c.from-to.ensures c.from-side.ensures
+          (works-refused c.requires.fact (call c.from-kind.result c.from-from.result c.from-to.result c.from-side.result) c.answer-a.ensures
           c.in_default.is);
       known_2 = c.requires.known;
     }
 
 pub change-changed-requires : goal.change-changed-requires
 change-changed-requires c =
-    let p = c.requires in record { rows = p.rows; sound = p.fact; state_value = sym c.answer-a.ensures ∙ c.in-Sound.is; known = p.known }
+    let p = c.requires in record { rows = p.rows; sound = p.fact; state_value = sym c.answer-a.ensures ∙ c.in-Ok.is; known = p.known }
 
 pub returns : goal.returns
 returns c =
     let a = c.args in let r = c.change-changed.ensures in record {
-      works = works_at (row_vote a.table.now a.n a.faulty) a.i a.list.now c.wide-kind.ensures.0 c.wide-from.ensures.0 c.wide-to.ensures.0 c.wide-side.ensures.0
-          (same_answer c.in-Sound.is r.works);
+      works = works_at (row_vote a.table.now a.n a.faulty) a.i a.list.now c.from-kind.ensures c.from-from.ensures c.from-to.ensures c.from-side.ensures
+          (same_answer c.in-Ok.is r.works);
       known_2 = r.known_2;
     }

@@ -1,5 +1,5 @@
 -- `over_waiting` meets its contract: after k turns the first k of the calls that wait are worked on again.
-use Prim.Native.Nat.{ℕ, ◌-◌}
+use Prim.Native.Nat.{ℕ}
 use mathlib.Core.Path.{refl, ap, ◌∙◌}
 use native.Mathlib.Omega.{arith}
 use lib.ListN.{get_or}
@@ -36,10 +36,6 @@ keep-left-requires c =
     let a = c.args in let p = c.requires in let L = c.loop-k in let h = c.loop-k-test.true in let b = amid-below (rows-vote p.rows a.faulty) a.list.now a.state.now a.answers.now a.waiting.now a.count
     p.waiting c.loop-k.invariant.0 h in record
     { count_in_bounds = omega (arith, h, c.loop-k.invariant.0.few, c.loop-k.invariant.1, p.waiting.few); i_bound = omega (arith, c.place-i.ensures, b, p.waiting.short) }
-
-pub loop-k-smaller : goal.loop-k-smaller
-loop-k-smaller c =
-    omega (arith, c.loop-k-test.true)
 
 pub loop-k-preserved : goal.loop-k-preserved
 loop-k-preserved c =

@@ -1,5 +1,4 @@
 -- `over_waiting` meets its contract: after k turns the first k of the calls that wait are worked on again.
-use Prim.Native.Nat.{◌-◌}
 use mathlib.Core.Path.{◌≡◌}
 use lib.ListN.{length}
 use Rattle.pass_again.specs.Inner.{Amid}
@@ -12,7 +11,3 @@ abbrev pub invariant-loop-k : goal.invariant-loop-k
 invariant-loop-k l =
     Amid (row_vote l.table l.n l.faulty) l.list l.initial.state l.initial.answers l.count l.k l.left l.changed l.state l.answers l.waiting × (length l.waiting ≡ length l.initial.waiting)
     × Known (row_questions l.table l.n) l.known
-
-abbrev pub decreases-loop-k : goal.decreases-loop-k
-decreases-loop-k l =
-    l.count - l.k

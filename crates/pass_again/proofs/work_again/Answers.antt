@@ -16,21 +16,21 @@ has_sent-requires c =
     let a = c.args in let p = c.requires in let d = call_at a.list.now a.i in
     let w = p.waited in let S = sending a.n a.faulty d w.once w.refused in
     let r = sending-range a.n a.faulty d S in
-    let k = c.wide-kind.ensures.0 in let few = p.rows.few-sites in record {
+    let k = c.from-kind.ensures in let few = p.rows.few-sites in record {
       state_len = p.fact.long;
       n_bound = few;
       le_kind = omega (arith, k, sending-kind a.n a.faulty d S);
       kind_bound = omega (arith, k, r.kind-in);
       from_bound = omega
-          (arith, c.wide-from.ensures.0, r.from_in, few);
-      side_bound = omega (arith, c.wide-side.ensures.0, r.side-in);
+          (arith, c.from-from.ensures, r.from_in, few);
+      side_bound = omega (arith, c.from-side.ensures, r.side-in);
     }
 
 pub returns-then-not-has_sent : goal.returns-then-not-has_sent
 returns-then-not-has_sent c =
     let a = c.args in let p = c.requires in let d = call_at a.list.now a.i in
     let w = p.waited in let S = sending a.n a.faulty d w.once w.refused in
-    let h = sent-read a.n d a.state.now c.wide-kind.ensures.0 c.wide-from.ensures.0 c.wide-side.ensures.0 c.has_sent.ensures in record {
+    let h = sent-read a.n d a.state.now c.from-kind.ensures c.from-from.ensures c.from-side.ensures c.has_sent.ensures in record {
       again = again-waits a.i a.answers.now
           (works-refused p.fact d (waits-still a.n a.faulty d S a.state.now h (c.if-not-has_sent.true)) refl) p.i_value;
       known_2 = p.known;
@@ -41,7 +41,7 @@ change-changed-requires c =
     let a = c.args in let p = c.requires in let s = a.state.now in
     let d = call_at a.list.now a.i in
     let w = p.waited in let S = sending a.n a.faulty d w.once w.refused in
-    let ek = c.wide-kind.ensures.0 in let ef = c.wide-from.ensures.0 in let ed = c.wide-side.ensures.0 in let ev = c.wide-to.ensures.0 in let h = sent-read a.n d s ek ef ed c.has_sent.ensures in
+    let ek = c.from-kind.ensures in let ef = c.from-from.ensures in let ed = c.from-side.ensures in let ev = c.from-to.ensures in let h = sent-read a.n d s ek ef ed c.has_sent.ensures in
     record {
       rows = p.rows;
       sound = p.fact;
@@ -54,7 +54,7 @@ pub returns : goal.returns
 returns c =
     let a = c.args in let r = c.change-changed.ensures in record {
       again = again-taken a.i a.answers.now
-          (works_at (row_vote a.table.now a.n a.faulty) a.i a.list.now c.wide-kind.ensures.0 c.wide-from.ensures.0 c.wide-to.ensures.0
-          c.wide-side.ensures.0 r.works);
+          (works_at (row_vote a.table.now a.n a.faulty) a.i a.list.now c.from-kind.ensures c.from-from.ensures c.from-to.ensures
+          c.from-side.ensures r.works);
       known_2 = r.known_2;
     }

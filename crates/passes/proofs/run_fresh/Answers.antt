@@ -16,7 +16,7 @@ pub over_all-changed-requires : goal.over_all-changed-requires
 over_all-changed-requires c =
     let p = c.requires in record {
       rows = p.rows;
-      fact = (going-none (rows-vote p.rows c.args.faulty) (calls c.args.list.now) c.args.state.now p.state_len c.clear.ensures).sound;
+      fact = (going-none (rows-vote p.rows c.args.faulty) (calls c.args.list.now) c.args.state.now p.state_len (c.fill.ensures.after (λ y e. e))).sound;
       list_len =
           p.list_len;
       known = known-none (row_questions c.args.table.now c.args.n);
@@ -26,12 +26,12 @@ pub returns-then-not-changed : goal.returns-then-not-changed
 returns-then-not-changed c =
     let law = rows-vote c.requires.rows c.args.faulty in
     let l = calls c.args.list.now in
-    going_done law l 0 (going-none law l c.args.state.now c.requires.state_len c.clear.ensures) c.over_all-changed.ensures.passed (c.if-not-changed.true)
+    going_done law l 0 (going-none law l c.args.state.now c.requires.state_len (c.fill.ensures.after (λ y e. e))) c.over_all-changed.ensures.passed (c.if-not-changed.true)
 
 pub run_on-requires : goal.run_on-requires
 run_on-requires c =
     let p = c.requires in let list = c.args.list.now in let law = rows-vote p.rows c.args.faulty in
-    let G = going-none law (calls list) c.args.state.now p.state_len c.clear.ensures in
+    let G = going-none law (calls list) c.args.state.now p.state_len (c.fill.ensures.after (λ y e. e)) in
     let R = c.over_all-changed.ensures in let Z = R.passed in let k = length c.args.answers.now in
     let e = passed-long law list k p.list_len Z in
     let many : length {A = ℕ} (replicate 4096 0) ≡ 4096 = length-replicate {A = ℕ} 4096 0 in record {

@@ -1,5 +1,4 @@
 -- `run_on` meets its contract: so many passes changed something, and the last one nothing.
-use Prim.Native.Nat.{◌-◌}
 use mathlib.Core.Path.{refl, ◌∙◌}
 use native.Mathlib.Omega.{arith}
 use borrow.Author.Tests.{not-true, not-false}

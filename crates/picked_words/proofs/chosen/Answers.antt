@@ -7,6 +7,6 @@ use Rattle.masks.proofs.Laws.Members.{has-zero}
 use Rattle.masks.specs.Mask.{has}
 use Rattle.picked_words.proofs.chosen.Goals as goal
 
-pub returns : goal.returns
-returns c =
+pub returns-else-high-w-eq0 : goal.returns-else-high-w-eq0
+returns-else-high-w-eq0 c =
     let a = c.args in record { each = λ j. has-zero j ∙ sym (ap (λ (b : Bool). b && has a.low j) (ne_eqb (bit_and a.high a.w) 0 c.if-high-w-eq0.false)) }

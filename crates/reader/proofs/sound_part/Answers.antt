@@ -3,10 +3,10 @@ use mathlib.Core.Path.{sym, ◌∙◌}
 use Rattle.reader.proofs.Part.{all-of-it, none-of-it}
 use Rattle.reader.proofs.sound_part.Goals as goal
 
-pub returns-in-Sound : goal.returns-in-Sound
-returns-in-Sound c =
-    sym (all-of-it c.args.journal.now _ _ (sym c.check-q.ensures ∙ c.in-Sound.is))
+pub returns-in-Ok : goal.returns-in-Ok
+returns-in-Ok c =
+    sym (all-of-it c.args.journal.now _ _ (sym c.check.ensures ∙ c.in-Ok.is))
 
-pub returns-in-Refused : goal.returns-in-Refused
-returns-in-Refused c =
-    sym (none-of-it c.args.journal.now _ (sym c.check-q.ensures ∙ c.in-Refused.is))
+pub returns-in-Err : goal.returns-in-Err
+returns-in-Err c =
+    sym (none-of-it c.args.journal.now _ (sym c.check.ensures ∙ c.in-Err.is))

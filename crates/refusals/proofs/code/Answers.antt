@@ -7,12 +7,12 @@ use Rattle.refusals.proofs.code.Goals as goal
 
 pub overflow_cast-result : goal.overflow_cast-result
 overflow_cast-result c =
-    omega (arith, c.number.ensures, small-number c.in-Refused.r)
+    omega (arith, c.number.ensures, small-number c.in-Err.r)
 
-pub returns-in-Sound : goal.returns-in-Sound
-returns-in-Sound c =
-    sym (ap code c.in-Sound.is)
+pub returns-in-Ok : goal.returns-in-Ok
+returns-in-Ok c =
+    sym (ap code c.in-Ok.is)
 
-pub returns-in-Refused : goal.returns-in-Refused
-returns-in-Refused c =
-    c.number.ensures ∙ sym (ap code c.in-Refused.is)
+pub returns-in-Err : goal.returns-in-Err
+returns-in-Err c =
+    c.number.ensures ∙ sym (ap code c.in-Err.is)

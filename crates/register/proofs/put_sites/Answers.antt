@@ -1,5 +1,4 @@
 -- `put_sites` meets its contract: after v turns the lines of the first v sites stand in the room.
-use Prim.Native.Nat.{◌-◌}
 use mathlib.Core.Path.{◌≡◌, refl, ap, ◌∙◌}
 use native.Mathlib.Omega.{arith}
 use Rattle.ground.specs.Pieces.{cat}
@@ -10,7 +9,7 @@ use Rattle.register.proofs.put_sites.Goals as goal
 
 pub loop-v-init : goal.loop-v-init
 loop-v-init c =
-    let a = c.args in (omega arith, refl, no_row (site_line a.n a.faulty a.whole a.drill a.live) a.room.now a.at (omega (arith, c.requires.n_in_bounds)))
+    let a = c.args in (refl, no_row (site_line a.n a.faulty a.whole a.drill a.live) a.room.now a.at (omega (arith, c.requires.n_in_bounds)))
 
 pub put_site-end-requires : goal.put_site-end-requires
 put_site-end-requires c =
@@ -18,7 +17,7 @@ put_site-end-requires c =
       at_in_bounds = omega (
         arith,
         c.requires.n_in_bounds,
-        c.loop-v.invariant.2.place,
+        c.loop-v.invariant.1.place,
         length-rows (site_line a.n a.faulty a.whole a.drill a.live) 41 c.loop-v.v (length-site a.n a.faulty a.whole a.drill a.live),
       );
       v_bound = omega (arith, c.requires.n_bound);
@@ -26,13 +25,13 @@ put_site-end-requires c =
 
 pub loop-v-preserved : goal.loop-v-preserved
 loop-v-preserved c =
-    let l = c.loop-v in let p = c.put_site-end in (omega arith, c.put_site-end.auto.room ∙ c.loop-v.invariant.1, row_more _ c.loop-v.v c.loop-v.invariant.2 c.put_site-end.ensures (omega (arith, c.requires.n_in_bounds)))
+    let l = c.loop-v in let p = c.put_site-end in (c.put_site-end.auto.room ∙ c.loop-v.invariant.0, row_more _ c.loop-v.v c.loop-v.invariant.1 c.put_site-end.ensures (omega (arith, c.requires.n_in_bounds)))
 
 pub shape_of-room : goal.shape_of-room
 shape_of-room c =
-    c.loop-v.invariant.1
+    c.loop-v.invariant.0
 
 pub returns : goal.returns
 returns c =
     let l = c.loop-v in let a = c.args in let e : c.loop-v.v ≡ a.n = omega arith in
-    as-text (ap (cat (site_line a.n a.faulty a.whole a.drill a.live)) e) c.loop-v.invariant.2
+    as-text (ap (cat (site_line a.n a.faulty a.whole a.drill a.live)) e) c.loop-v.invariant.1

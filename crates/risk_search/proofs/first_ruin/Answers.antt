@@ -1,5 +1,5 @@
 -- `first_ruin` meets its contract: the best of the sets so far, from all sites on.
-use Prim.Native.Nat.{ℕ, ◌+◌, ◌-◌, ◌≤◌, ◌<◌}
+use Prim.Native.Nat.{ℕ, ◌+◌, ◌≤◌, ◌<◌}
 use mathlib.Core.Path.{sym, ◌∙◌, subst}
 use Rattle.risk.specs.Inner.{Best}
 use Rattle.risk.proofs.RiskLaws.{best_none, best-taken, best-passed, best-end}

@@ -12,23 +12,23 @@ use Rattle.risk_text.proofs.risk.Goals as goal
 
 pub overflow_mul-table : goal.overflow_mul-table
 overflow_mul-table c =
-    record { fits = omega (arith, few c.args.image.now _ (sym c.read-q.ensures.answer ∙ c.in-Sites.is)) }
+    record { fits = omega (arith, few c.args.image.now _ (sym c.read-q.ensures.answer ∙ c.in-Ok.is)) }
 
 pub slice_bounds-table-end : goal.slice_bounds-table-end
 slice_bounds-table-end c =
-    omega (arith, few c.args.image.now _ (sym c.read-q.ensures.answer ∙ c.in-Sites.is), c.read-q.auto.room)
+    omega (arith, few c.args.image.now _ (sym c.read-q.ensures.answer ∙ c.in-Ok.is), c.read-q.auto.room)
 
 pub slice_bounds-risk_read-end : goal.slice_bounds-risk_read-end
 slice_bounds-risk_read-end c =
-    sym (length-take-le _ _ ((omega (arith, few c.args.image.now _ (sym c.read-q.ensures.answer ∙ c.in-Sites.is), c.read-q.auto.room))))
+    sym (length-take-le _ _ ((omega (arith, few c.args.image.now _ (sym c.read-q.ensures.answer ∙ c.in-Ok.is), c.read-q.auto.room))))
 
-pub returns-in-Sites : goal.returns-in-Sites
-returns-in-Sites c =
+pub returns-in-Ok : goal.returns-in-Ok
+returns-in-Ok c =
     let a = c.args in let r = both (as-text
-    (risk-taken a.image.now c.in-Sites.n _ _ (sym c.read-q.ensures.answer ∙ c.in-Sites.is)
-    (ap (take (63 * c.in-Sites.n)) (c.read-q.ensures.memory ∙ ap (λ x. read_into x a.image.now _) c.in-Sites.is)))
+    (risk-taken a.image.now c.in-Ok.n _ _ (sym c.read-q.ensures.answer ∙ c.in-Ok.is)
+    (ap (take (63 * c.in-Ok.n)) (c.read-q.ensures.memory ∙ ap (λ x. read_into x a.image.now _) c.in-Ok.is)))
     c.risk_read.ensures) in record { text = r.0; counts = r.1 }
 
-pub returns-in-Refused : goal.returns-in-Refused
-returns-in-Refused c =
-    let r = both (as-text (risk-refused c.args.image.now _ (sym c.read-q.ensures.answer ∙ c.in-Refused.is)) c.put_explained.ensures) in record { text = r.0; counts = r.1 }
+pub returns-in-Err : goal.returns-in-Err
+returns-in-Err c =
+    let r = both (as-text (risk-refused c.args.image.now _ (sym c.read-q.ensures.answer ∙ c.in-Err.is)) c.put_explained.ensures) in record { text = r.0; counts = r.1 }

@@ -6,9 +6,9 @@ use Rattle.sets.specs.Groups.{lists}
 use Rattle.risk_text.proofs.Ways.{read-refused, read-large, read-lines}
 use Rattle.risk_text.proofs.risk_read.Goals as goal
 
-pub returns-in-Refused : goal.returns-in-Refused
-returns-in-Refused c =
-    as-text (read-refused (lists c.args.table.now) _ (sym c.check-q.ensures ∙ c.in-Refused.is)) c.put_explained.ensures
+pub returns-in-Err : goal.returns-in-Err
+returns-in-Err c =
+    as-text (read-refused (lists c.args.table.now) _ (sym c.check-q.ensures ∙ c.in-Err.is)) c.put_explained.ensures
 
 pub returns-then-n-gt-MOST : goal.returns-then-n-gt-MOST
 returns-then-n-gt-MOST c =

@@ -1,6 +1,5 @@
 -- `in_largest` meets its contract: v is in what is left, which has the largest quorum of w; a sweep that drops v, or nobody, settles it.
 use Prim.Native.Nat.{ℕ}
-use mathlib.Core.Bool.{true}
 use mathlib.Core.Path.{◌≡◌, refl, sym, ap, ◌∙◌, subst}
 use Rattle.ground.proofs.Logic.{is_false, clash}
 use Rattle.masks.proofs.Laws.Subsets.{mem}
@@ -13,18 +12,17 @@ use Rattle.sets.proofs.Quorum.{∈-round, round-slice, largest-stop, largest_ste
 use Rattle.sets.proofs.Rows.{rows-lawful}
 use Rattle.sets.specs.Inner.Rows.{rules_of}
 use Rattle.rounds.proofs.in_largest.Goals as goal
+use Rattle.rounds.proofs.in_largest.Goals.{then-not-has-via-then-not-has, then-not-has-via-else-not-has+then-not-has_slice}
 
 pub returns-then-not-has : goal.returns-then-not-has
 returns-then-not-has c =
     let a = c.args in let s = (rules_of a.table.now).inside in
     sym (is_false (has (largest s a.n a.w) a.v)
-    (λ h. clash ((largest-⊆ s a.n a.w).each a.v (mem h)).holds (sym c.has.ensures ∙ c.if-not-has.true)))
-
-pub returns-then-not-has_slice : goal.returns-then-not-has_slice
-returns-then-not-has_slice c =
-    let a = c.args in let s = (rules_of a.table.now).inside in
-    sym (is_false (has (largest s a.n a.w) a.v)
-    (λ h. clash (round-slice s a.n ((largest-⊆-round s a.n a.w).each a.v (mem h))) (sym c.has_slice.ensures ∙ c.if-not-has_slice.true)))
+    (λ h. elim c.then-not-has.branch [
+      | then-not-has-via-then-not-has w ↦ clash ((largest-⊆ s a.n a.w).each a.v (mem h)).holds (sym c.has.ensures ∙ w.if-not-has.true)
+      | then-not-has-via-else-not-has+then-not-has_slice w ↦
+          clash (round-slice s a.n ((largest-⊆-round s a.n a.w).each a.v (mem h))) (sym w.has_slice.ensures ∙ w.if-not-has_slice.true)
+    ]))
 
 pub first_round-set-requires : goal.first_round-set-requires
 first_round-set-requires c =

@@ -1,5 +1,5 @@
 -- `are_sound` meets its contract: the slices before k are gathered.
-use Prim.Native.Nat.{◌-◌, ◌≤◌}
+use Prim.Native.Nat.{◌≤◌}
 use Rattle.rows.specs.Site.{slice}
 use Rattle.rows.proofs.Row.{Gathers}
 use Rattle.rows.proofs.are_sound.Given as goal
@@ -7,7 +7,3 @@ use Rattle.rows.proofs.are_sound.Given as goal
 abbrev pub invariant-loop-k : goal.invariant-loop-k
 invariant-loop-k l =
     (1 ≤ l.k) × Gathers (slice l.m) l.k l.g.every l.g.some l.g.ascend
-
-abbrev pub decreases-loop-k : goal.decreases-loop-k
-decreases-loop-k l =
-    l.many - l.k

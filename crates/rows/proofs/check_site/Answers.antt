@@ -2,6 +2,7 @@
 use mathlib.Core.Bool.{Bool}
 use mathlib.Core.Path.{sym, ap, ◌∙◌}
 use native.Mathlib.Omega.{arith}
+use Rattle.refusals.proofs.Passed.{passed_on}
 use Rattle.refusals.specs.First.{refuse}
 use Rattle.refusals.specs.declared.Refusal.TheVariants.{Filler}
 use Rattle.rows.specs.Row.{slice_check}
@@ -21,25 +22,26 @@ returns-then-many-gt62 c =
     let a = c.args in let m = a.m.now in
     sym (many-slices (slice_check a.n a.owner a.place (slice m)) a.place (count m) (row_unfilled m) (omega arith))
 
-pub returns-in_default : goal.returns-in_default
+pub returns-in_err-check_slices : goal.returns-in_err-check_slices
 unfolding site_check
-returns-in_default c =
+returns-in_err-check_slices c =
     let a = c.args in let m = a.m.now in
-    let e = c.in_default.is in e
-    ∙ sym (bad-slice (slice_check a.n a.owner a.place (slice m)) a.place (count m) (row_unfilled m) (λ e. omega arith) (omega arith) c.check_slices-q.ensures e)
+    let e = c.in_err-check_slices.was in
+    passed_on c.from_residual.result c.from_residual.ensures.1
+    ∙ (sym (bad-slice (slice_check a.n a.owner a.place (slice m)) a.place (count m) (row_unfilled m) (λ e. omega arith) (omega arith) c.check_slices.ensures e))
 
 pub returns-then-is_unfilled : goal.returns-then-is_unfilled
 unfolding site_check
 returns-then-is_unfilled c =
     let a = c.args in let m = a.m.now in
-    sym (good-slices (slice_check a.n a.owner a.place (slice m)) a.place (count m) (row_unfilled m) (λ e. omega arith) (omega arith) c.check_slices-q.ensures
-    c.in-Sound.is
+    sym (good-slices (slice_check a.n a.owner a.place (slice m)) a.place (count m) (row_unfilled m) (λ e. omega arith) (omega arith) c.check_slices.ensures
+    c.in_ok-check_slices.was
     ∙ ap (λ (u : Bool). refuse u (Filler a.place)) (sym c.is_unfilled.ensures ∙ c.if-is_unfilled.true))
 
 pub returns : goal.returns
 unfolding site_check
 returns c =
     let a = c.args in let m = a.m.now in
-    sym (good-slices (slice_check a.n a.owner a.place (slice m)) a.place (count m) (row_unfilled m) (λ e. omega arith) (omega arith) c.check_slices-q.ensures
-    c.in-Sound.is
+    sym (good-slices (slice_check a.n a.owner a.place (slice m)) a.place (count m) (row_unfilled m) (λ e. omega arith) (omega arith) c.check_slices.ensures
+    c.in_ok-check_slices.was
     ∙ ap (λ (u : Bool). refuse u (Filler a.place)) (sym c.is_unfilled.ensures ∙ c.if-is_unfilled.false))

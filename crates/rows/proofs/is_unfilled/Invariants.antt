@@ -1,5 +1,5 @@
 -- `is_unfilled` meets its contract: one of the unused places before j is not zero just if all of them together are not.
-use Prim.Native.Nat.{◌+◌, ◌-◌, ◌≤◌}
+use Prim.Native.Nat.{◌+◌, ◌≤◌}
 use mathlib.Core.Bool.{not}
 use mathlib.Core.Path.{◌≡◌}
 use lib.Dec.{eqb}
@@ -10,7 +10,3 @@ use Rattle.rows.proofs.is_unfilled.Given as goal
 abbrev pub invariant-loop-j : goal.invariant-loop-j
 invariant-loop-j l =
     (l.j ≤ l.left) × (not (eqb l.any 0) ≡ some l.j (λ i. not (eqb (slice l.m (l.many + i)) 0)))
-
-abbrev pub decreases-loop-j : goal.decreases-loop-j
-decreases-loop-j l =
-    l.left - l.j

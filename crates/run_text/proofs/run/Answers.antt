@@ -13,33 +13,33 @@ use Rattle.run_text.proofs.run.Goals as goal
 
 pub overflow_mul-table : goal.overflow_mul-table
 overflow_mul-table c =
-    let a = c.args in record { fits = omega (arith, few a.image.now _ (sym c.read-q.ensures.answer ∙ c.in-Sites.is)) }
+    let a = c.args in record { fits = omega (arith, few a.image.now _ (sym c.read-q.ensures.answer ∙ c.in-Ok.is)) }
 
 pub slice_bounds-table-end : goal.slice_bounds-table-end
 slice_bounds-table-end c =
-    let a = c.args in omega (arith, few a.image.now _ (sym c.read-q.ensures.answer ∙ c.in-Sites.is), c.read-q.auto.room)
+    let a = c.args in omega (arith, few a.image.now _ (sym c.read-q.ensures.answer ∙ c.in-Ok.is), c.read-q.auto.room)
 
 pub slice_bounds-run_read-end : goal.slice_bounds-run_read-end
 slice_bounds-run_read-end c =
-    sym (length-take-le _ _ ((let a = c.args in omega (arith, few a.image.now _ (sym c.read-q.ensures.answer ∙ c.in-Sites.is), c.read-q.auto.room))))
+    sym (length-take-le _ _ ((let a = c.args in omega (arith, few a.image.now _ (sym c.read-q.ensures.answer ∙ c.in-Ok.is), c.read-q.auto.room))))
 
 pub run_read-requires : goal.run_read-requires
 run_read-requires c =
     let a = c.args in record {
       in_bounds = search rules;
       table_len = length-take-le _ _
-          ((let a = c.args in omega (arith, few a.image.now _ (sym c.read-q.ensures.answer ∙ c.in-Sites.is), c.read-q.auto.room)));
+          ((let a = c.args in omega (arith, few a.image.now _ (sym c.read-q.ensures.answer ∙ c.in-Ok.is), c.read-q.auto.room)));
       n_bound = few a.image.now _
-          (sym c.read-q.ensures.answer ∙ c.in-Sites.is);
+          (sym c.read-q.ensures.answer ∙ c.in-Ok.is);
     }
 
-pub returns-in-Sites : goal.returns-in-Sites
-returns-in-Sites c =
+pub returns-in-Ok : goal.returns-in-Ok
+returns-in-Ok c =
     let a = c.args in let r = both (as-text
-    (run-taken a.faulty a.image.now a.list.now c.in-Sites.n _ _ (sym c.read-q.ensures.answer ∙ c.in-Sites.is)
-    (ap (take (63 * c.in-Sites.n)) (c.read-q.ensures.memory ∙ ap (λ x. read_into x a.image.now _) c.in-Sites.is)))
+    (run-taken a.faulty a.image.now a.list.now c.in-Ok.n _ _ (sym c.read-q.ensures.answer ∙ c.in-Ok.is)
+    (ap (take (63 * c.in-Ok.n)) (c.read-q.ensures.memory ∙ ap (λ x. read_into x a.image.now _) c.in-Ok.is)))
     c.run_read.ensures) in record { text = r.0; counts = r.1 }
 
-pub returns-in-Refused : goal.returns-in-Refused
-returns-in-Refused c =
-    let a = c.args in let r = both (as-text (run-refused a.faulty a.image.now a.list.now _ (sym c.read-q.ensures.answer ∙ c.in-Refused.is)) c.put_explained.ensures) in record { text = r.0; counts = r.1 }
+pub returns-in-Err : goal.returns-in-Err
+returns-in-Err c =
+    let a = c.args in let r = both (as-text (run-refused a.faulty a.image.now a.list.now _ (sym c.read-q.ensures.answer ∙ c.in-Err.is)) c.put_explained.ensures) in record { text = r.0; counts = r.1 }

@@ -21,17 +21,17 @@ slice_bounds-put_run-end c =
 
 pub slice_bounds-answers-end : goal.slice_bounds-answers-end
 slice_bounds-answers-end c =
-    let a = c.args in omega (arith, (fitting (lists a.table.now) a.faulty a.list.now _ (sym c.in-Passes.is ∙ c.run-ran.ensures.answer)).many, c.run-ran.auto.answers)
+    let a = c.args in omega (arith, (fitting (lists a.table.now) a.faulty a.list.now _ (sym c.in-Ok.is ∙ c.run-ran.ensures.answer)).many, c.run-ran.auto.answers)
 
-pub slice_bounds-put_run-end-in-Passes : goal.slice_bounds-put_run-end-in-Passes
-slice_bounds-put_run-end-in-Passes c =
-    sym (length-take-le _ _ ((let a = c.args in omega (arith, (fitting (lists a.table.now) a.faulty a.list.now _ (sym c.in-Passes.is ∙ c.run-ran.ensures.answer)).many, c.run-ran.auto.answers))))
+pub slice_bounds-put_run-end-in-Ok : goal.slice_bounds-put_run-end-in-Ok
+slice_bounds-put_run-end-in-Ok c =
+    sym (length-take-le _ _ ((let a = c.args in omega (arith, (fitting (lists a.table.now) a.faulty a.list.now _ (sym c.in-Ok.is ∙ c.run-ran.ensures.answer)).many, c.run-ran.auto.answers))))
 
 pub put_run-requires : goal.put_run-requires
 put_run-requires c =
-    let a = c.args in let r = c.run-ran in let f = fitting (lists a.table.now) a.faulty a.list.now _ (sym c.in-Passes.is ∙ c.run-ran.ensures.answer) in
+    let a = c.args in let r = c.run-ran in let f = fitting (lists a.table.now) a.faulty a.list.now _ (sym c.in-Ok.is ∙ c.run-ran.ensures.answer) in
     let l = length-take-le (length a.list.now / 4) c.run-ran.new.answers
-    ((let a = c.args in omega (arith, (fitting (lists a.table.now) a.faulty a.list.now _ (sym c.in-Passes.is ∙ c.run-ran.ensures.answer)).many, c.run-ran.auto.answers))) in
+    ((let a = c.args in omega (arith, (fitting (lists a.table.now) a.faulty a.list.now _ (sym c.in-Ok.is ∙ c.run-ran.ensures.answer)).many, c.run-ran.auto.answers))) in
     let few : length (take (length a.list.now / 4) c.run-ran.new.answers) ≤ 4096 = omega (arith, l, f.few) in
     let each : 4 * length (take (length a.list.now / 4) c.run-ran.new.answers) ≤ length a.list.now = omega (arith, l) in record {
       in_bounds = search rules;
@@ -42,13 +42,13 @@ put_run-requires c =
       answers_in_bounds = each;
     }
 
-pub returns-in-Refused : goal.returns-in-Refused
-returns-in-Refused c =
-    let a = c.args in as-text (ran-refused (lists a.table.now) a.faulty a.list.now _ (sym c.in-Refused.is ∙ c.run-ran.ensures.answer)) c.put_explained.ensures
+pub returns-in-Err : goal.returns-in-Err
+returns-in-Err c =
+    let a = c.args in as-text (ran-refused (lists a.table.now) a.faulty a.list.now _ (sym c.in-Err.is ∙ c.run-ran.ensures.answer)) c.put_explained.ensures
 
-pub returns-in-Passes : goal.returns-in-Passes
-returns-in-Passes c =
-    let a = c.args in let r = c.run-ran in let g = c.in-Passes.is in let n : a.n ≡ sites_of (lists a.table.now) = omega (arith, c.requires.table_len) in
+pub returns-in-Ok : goal.returns-in-Ok
+returns-in-Ok c =
+    let a = c.args in let r = c.run-ran in let g = c.in-Ok.is in let n : a.n ≡ sites_of (lists a.table.now) = omega (arith, c.requires.table_len) in
     as-text
     (ran-ended (lists a.table.now) a.faulty a.list.now _ (sym g ∙ c.run-ran.ensures.answer) a.n _ _ _ _ _ _ n c.whole-whole.ensures c.width-end.ensures refl refl c.run-ran.auto.state
     c.run-ran.auto.answers

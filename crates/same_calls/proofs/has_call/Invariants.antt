@@ -1,5 +1,4 @@
 -- `has_call` meets its contract: none of the calls so far is this one.
-use Prim.Native.Nat.{◌-◌, ◌≤◌}
 use mathlib.Core.Bool.{false}
 use mathlib.Core.Path.{◌≡◌}
 use Rattle.ground.specs.Search.{some}
@@ -8,8 +7,4 @@ use Rattle.same_calls.proofs.has_call.Given as goal
 
 abbrev pub invariant-loop-i : goal.invariant-loop-i
 invariant-loop-i l =
-    (l.i ≤ l.n) × (some l.i (λ j. is_call l.list j l.kind l.from l.to l.side) ≡ false)
-
-abbrev pub decreases-loop-i : goal.decreases-loop-i
-decreases-loop-i l =
-    l.n - l.i
+    some l.i (λ j. is_call l.list j l.kind l.from l.to l.side) ≡ false

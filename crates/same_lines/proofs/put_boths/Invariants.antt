@@ -1,5 +1,4 @@
 -- `put_boths` meets its contract: after v turns the lines of the first v sites stand in the room.
-use Prim.Native.Nat.{◌-◌, ◌≤◌}
 use mathlib.Core.Path.{◌≡◌}
 use lib.ListN.{length}
 use Rattle.ground.specs.Pieces.{cat}
@@ -9,8 +8,4 @@ use Rattle.same_lines.proofs.put_boths.Given as goal
 
 abbrev pub invariant-loop-v : goal.invariant-loop-v
 invariant-loop-v l =
-    (l.v ≤ 256) × (length l.room ≡ length l.initial.room) × Writes (cat (both_line l.a l.b) l.v) l.initial.room l.at l.end l.room
-
-abbrev pub decreases-loop-v : goal.decreases-loop-v
-decreases-loop-v l =
-    256 - l.v
+    (length l.room ≡ length l.initial.room) × Writes (cat (both_line l.a l.b) l.v) l.initial.room l.at l.end l.room

@@ -1,5 +1,4 @@
 -- `put_lacks` meets its contract: after i turns the lines of the first i calls stand in the room.
-use Prim.Native.Nat.{◌-◌, ◌/◌, ◌≤◌}
 use mathlib.Core.Path.{◌≡◌}
 use lib.ListN.{length}
 use Rattle.ground.specs.Pieces.{cat}
@@ -9,8 +8,4 @@ use Rattle.same_lines.proofs.put_lacks.Given as goal
 
 abbrev pub invariant-loop-i : goal.invariant-loop-i
 invariant-loop-i l =
-    (l.i ≤ length l.a / 4) × (length l.room ≡ length l.initial.room) × Writes (cat (lack_line l.word l.a l.b) l.i) l.initial.room l.at l.end l.room
-
-abbrev pub decreases-loop-i : goal.decreases-loop-i
-decreases-loop-i l =
-    length l.a / 4 - l.i
+    (length l.room ≡ length l.initial.room) × Writes (cat (lack_line l.word l.a l.b) l.i) l.initial.room l.at l.end l.room

@@ -1,9 +1,7 @@
 -- `above` meets its contract: the sets of the sites below x have their words.
-use Prim.Native.Nat.{◌-◌}
-use borrow.Author.Rules.{rules}
 use Rattle.set_words.proofs.WordLaws.{above-one}
 use Rattle.set_words.proofs.above.Goals as goal
 
 pub loop-x-init : goal.loop-x-init
 loop-x-init c =
-    (search rules, above-one c.args.list.now c.requires)
+    above-one c.args.list.now c.requires

@@ -1,12 +1,8 @@
 -- `above` meets its contract: the sets of the sites below x have their words.
-use Prim.Native.Nat.{◌-◌, ◌^◌, ◌≤◌}
+use Prim.Native.Nat.{◌^◌}
 use Rattle.set_words.specs.Inner.{Above}
 use Rattle.set_words.proofs.above.Given as goal
 
 abbrev pub invariant-loop-x : goal.invariant-loop-x
 invariant-loop-x l =
-    (l.x ≤ 6) × Above (2 ^ l.x) l.list
-
-abbrev pub decreases-loop-x : goal.decreases-loop-x
-decreases-loop-x l =
-    6 - l.x
+    Above (2 ^ l.x) l.list

@@ -5,4 +5,4 @@ use Rattle.set_words.proofs.first.Goals as goal
 
 pub returns : goal.returns
 returns c =
-    first-is c.args.word c.requires (search rules)
+    rw c.from.ensures (first-is c.args.word c.requires (search rules))

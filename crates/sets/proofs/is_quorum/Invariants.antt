@@ -1,5 +1,5 @@
 -- `is_quorum` meets its contract: each member of q below v has a slice inside q.
-use Prim.Native.Nat.{ℕ, ◌-◌, ◌≤◌, ◌<◌}
+use Prim.Native.Nat.{ℕ, ◌<◌}
 use mathlib.Core.Bool.{true}
 use mathlib.Core.Path.{◌≡◌}
 use Rattle.masks.specs.Mask.{◌∈◌}
@@ -8,8 +8,4 @@ use Rattle.sets.proofs.is_quorum.Given as goal
 
 abbrev pub invariant-loop-v : goal.invariant-loop-v
 invariant-loop-v l =
-    (l.v ≤ l.n) × ((x : ℕ) → x < l.v → x ∈ l.q → (rules_of l.table).inside x l.q ≡ true)
-
-abbrev pub decreases-loop-v : goal.decreases-loop-v
-decreases-loop-v l =
-    l.n - l.v
+    ((x : ℕ) → x < l.v → x ∈ l.q → (rules_of l.table).inside x l.q ≡ true)

@@ -1,8 +1,8 @@
 -- `check_slices` meets its contract: all slices are sound, or those before k are, and a refusal is the first.
-use Prim.Native.Nat.{◌-◌}
 use mathlib.Core.Path.{refl, sym, ◌∙◌}
 use native.Mathlib.Omega.{arith}
 use borrow.Author.Rules.{rules}
+use Rattle.refusals.proofs.Passed.{passed_on}
 use Rattle.refusals.proofs.First.{first_more, first-stop}
 use Rattle.refusals.specs.First.{first}
 use Rattle.rows.specs.Row.{slice_check}
@@ -15,12 +15,11 @@ unfolding first
 loop-k-init c =
     (search rules, c.get64-before.ensures, refl)
 
-pub returns-in_default : goal.returns-in_default
-returns-in_default c =
-    let a = c.args in let e = c.in_default.is in let row = slice_field a.b.now in
-    e
-    ∙ sym (first-stop (slice_check a.n a.owner a.place row) a.many c.loop-k.k _ (omega arith) c.loop-k.invariant.2
-    (slice-walked a.n a.owner a.place row c.loop-k.k c.loop-k.invariant.1 c.get64-q.ensures c.check_slice-fault.ensures ∙ e))
+pub returns-in_err-check_slice : goal.returns-in_err-check_slice
+returns-in_err-check_slice c =
+    let a = c.args in let e = c.in_err-check_slice.was in let row = slice_field a.b.now in
+    passed_on c.from_residual.result c.from_residual.ensures.1 ∙ (sym (first-stop (slice_check a.n a.owner a.place row) a.many c.loop-k.k _ (omega arith) c.loop-k.invariant.2
+    (slice-walked a.n a.owner a.place row c.loop-k.k c.loop-k.invariant.1 c.get64-q.ensures c.check_slice.ensures ∙ e)))
 
 pub loop-k-preserved : goal.loop-k-preserved
 loop-k-preserved c =
@@ -28,5 +27,5 @@ loop-k-preserved c =
       search rules,
       c.get64-q.ensures ∙ before-next row c.loop-k.k,
       first_more _ _ c.loop-k.invariant.2
-          (slice-walked a.n a.owner a.place row c.loop-k.k c.loop-k.invariant.1 c.get64-q.ensures c.check_slice-fault.ensures ∙ c.in-Sound.is),
+          (slice-walked a.n a.owner a.place row c.loop-k.k c.loop-k.invariant.1 c.get64-q.ensures c.check_slice.ensures ∙ c.in_ok-check_slice.was),
     )

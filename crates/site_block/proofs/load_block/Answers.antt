@@ -1,5 +1,4 @@
 -- `load_block` meets its contract: after k turns the room holds the count and the first k places of the block.
-use Prim.Native.Nat.{◌-◌}
 use native.Mathlib.Omega.{arith}
 use lib.ListN.{set, length-set}
 use Rattle.site_block.proofs.Load.{load-holds, load_again, load-done}

@@ -1,5 +1,5 @@
 -- `load_block` meets its contract: after k turns the room holds the count and the first k places of the block.
-use Prim.Native.Nat.{◌+◌, ◌-◌, ◌≤◌}
+use Prim.Native.Nat.{◌+◌, ◌≤◌}
 use mathlib.Core.List.{◌++◌}
 use mathlib.Core.Path.{◌≡◌}
 use lib.ListN.{length, drop}
@@ -9,7 +9,3 @@ use Rattle.site_block.proofs.load_block.Given as goal
 abbrev pub invariant-loop-k : goal.invariant-loop-k
 invariant-loop-k l =
     (l.k ≤ 62) × (length l.initial.m ≡ 63) × (length l.m ≡ 63) × (l.m ≡ load_to l.b l.k ++ drop (1 + l.k) l.initial.m)
-
-abbrev pub decreases-loop-k : goal.decreases-loop-k
-decreases-loop-k l =
-    62 - l.k

@@ -1,10 +1,9 @@
--- `together` meets its contract: of the numbers before i one is not inside a set if all of them together are not.
-use Prim.Native.Nat.{ℕ, ◌-◌}
+-- `together` meets its contract: of the numbers so far one is not inside a set if all of them together are not.
+use Prim.Native.Nat.{ℕ}
 use mathlib.Core.Bool.{Bool, true, false, ◌&&◌, ◌||◌, not}
 use mathlib.Core.Path.{◌≡◌, refl, sym, ap, ◌∙◌}
 use native.Mathlib.Omega.{arith}
 use lib.ListN.{length}
-use borrow.Author.Rules.{rules}
 use Rattle.ground.proofs.Some.{some-none, some-suc}
 use Rattle.ground.specs.Search.{some}
 use Rattle.masks.proofs.Laws.Subsets.{⊆-within, not-in-zero, or-within}
@@ -19,20 +18,16 @@ not-both false b = refl
 empty-within : (u : ℕ) → within 0 u ≡ true
 empty-within u = ⊆-within (record { each = λ v h. absurd (not-in-zero h) })
 
-pub loop-i-init : goal.loop-i-init
-loop-i-init c =
-    (search rules, λ u. ap not (empty-within u) ∙ sym (some-none _))
+pub loop-number-init : goal.loop-number-init
+loop-number-init c u = ap not (empty-within u) ∙ sym (some-none _)
 
-pub loop-i-preserved : goal.loop-i-preserved
-loop-i-preserved c =
-    let s = c.args.state.now in let i = c.loop-i.i in (
-      search rules,
-      λ u.
-          ap not (or-within c.loop-i.any (get s i) u) ∙ not-both (within c.loop-i.any u) (within (get s i) u)
-          ∙ ap (λ (x : Bool). x || not (within (get s i) u)) (c.loop-i.invariant.1 u) ∙ sym (some-suc i (λ j. not (within (get s j) u))),
-    )
+pub loop-number-preserved : goal.loop-number-preserved
+loop-number-preserved c u =
+    let L = c.loop-number in let x = get c.args.state.now L.number-index in
+    ap not (or-within L.any x u) ∙ not-both (within L.any u) (within x u)
+    ∙ ap (λ (b : Bool). b || not (within x u)) (L.invariant u) ∙ sym (some-suc L.number-index (λ j. not (within (get c.args.state.now j) u)))
 
 pub returns : goal.returns
 returns c =
-    let s = c.args.state.now in let e : c.loop-i.i ≡ length s = omega (arith, c.loop-i.invariant.0) in
-    λ u. c.loop-i.invariant.1 u ∙ ap (λ (k : ℕ). some k (λ j. not (within (get s j) u))) e
+    let s = c.args.state.now in let e : c.loop-number.number-index ≡ length s = omega arith in
+    λ u. c.loop-number.invariant u ∙ ap (λ (k : ℕ). some k (λ j. not (within (get s j) u))) e

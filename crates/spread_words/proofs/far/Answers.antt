@@ -1,26 +1,20 @@
 -- `far` meets its contract: the eights of every eighth word are joined one after the other.
-use Prim.Native.Nat.{ℕ, ◌+◌, ◌-◌}
-use mathlib.Core.Path.{◌≡◌, sym, subst}
-use mathlib.Core.List.{List}
+use Prim.Native.Nat.{ℕ}
+use mathlib.Core.Path.{◌≡◌, subst}
 use native.Mathlib.Omega.{arith}
-use borrow.Author.Rules.{rules}
 use Rattle.spread_words.specs.Inner.{Joined, far_place}
 use Rattle.spread_words.proofs.Joining.{joined-none, joined-more, far-inside, far-alone}
 use Rattle.spread_words.proofs.far.Goals as goal
 
 pub loop-k-init : goal.loop-k-init
 loop-k-init c =
-    (search rules, joined-none far_place far-inside far-alone c.args.words.now c.requires)
+    joined-none far_place far-inside far-alone c.args.words.now c.requires
 
 pub loop-k-preserved : goal.loop-k-preserved
 loop-k-preserved c =
-    let old = c.args.words.now in let l = c.loop-k in (
-      search rules,
-      subst (λ (w : List ℕ). Joined far_place old (c.loop-k.k + 1) w) (sym c.join.ensures)
-          (joined-more far_place far-inside far-alone c.loop-k.k c.loop-k-test.true c.loop-k.invariant.1),
-    )
+    rw c.join.ensures (joined-more far_place far-inside far-alone c.loop-k.k c.loop-k-test.true c.loop-k.invariant)
 
 pub returns : goal.returns
 returns c =
-    let old = c.args.words.now in let l = c.loop-k in let h = c.loop-k.invariant.0 in let e : c.loop-k.k ≡ 8 = omega arith in
-    subst (λ (k : ℕ). Joined far_place old k c.loop-k.words) e c.loop-k.invariant.1
+    let old = c.args.words.now in let e : c.loop-k.k ≡ 8 = omega arith in
+    subst (λ (k : ℕ). Joined far_place old k c.loop-k.words) e c.loop-k.invariant

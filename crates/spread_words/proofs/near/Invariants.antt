@@ -1,12 +1,7 @@
 -- `near` meets its contract: the eights of words beside each other are joined one after the other.
-use Prim.Native.Nat.{◌-◌, ◌≤◌}
 use Rattle.spread_words.specs.Inner.{Joined, near_place}
 use Rattle.spread_words.proofs.near.Given as goal
 
 abbrev pub invariant-loop-k : goal.invariant-loop-k
 invariant-loop-k l =
-    (l.k ≤ 8) × Joined near_place l.initial.words l.k l.words
-
-abbrev pub decreases-loop-k : goal.decreases-loop-k
-decreases-loop-k l =
-    8 - l.k
+    Joined near_place l.initial.words l.k l.words

@@ -1,10 +1,9 @@
 -- `strange_calls` meets its contract: after i turns those of the first i calls are counted.
 -- call i is out of range
-use Prim.Native.Nat.{ℕ, ◌-◌, ◌/◌, ◌≤◌}
+use Prim.Native.Nat.{ℕ}
 use mathlib.Core.Bool.{Bool}
 use mathlib.Core.List.{List}
 use mathlib.Core.Path.{◌≡◌}
-use lib.ListN.{length}
 use Rattle.pass.specs.Calls.{call_at}
 use Rattle.rules.specs.Rules.{out_of_range}
 use Rattle.strange_calls.specs.Strange.{how_many}
@@ -15,8 +14,4 @@ out n list i = out_of_range n (call_at list i)
 
 abbrev pub invariant-loop-i : goal.invariant-loop-i
 invariant-loop-i l =
-    (l.i ≤ length l.list / 4) × (l.count ≡ how_many l.i (out l.n l.list))
-
-abbrev pub decreases-loop-i : goal.decreases-loop-i
-decreases-loop-i l =
-    length l.list / 4 - l.i
+    l.count ≡ how_many l.i (out l.n l.list)

@@ -1,7 +1,6 @@
 -- The word, then the byte.
 use mathlib.Core.Path.{refl}
 use native.Mathlib.Omega.{arith}
-use Prim.Native.Nat.{◌-◌}
 use Rattle.table_reading.proofs.Steps.{sane₁, sane₂, line₂, byte}
 use Rattle.table_reading.proofs.hear.Goals as goal
 

@@ -1,6 +1,5 @@
 -- Refused, or joined to its row.
 use native.Mathlib.Omega.{arith}
-use Prim.Native.Nat.{◌-◌}
 use Rattle.table_reading.proofs.Steps.{few-here, joins, stops}
 use Rattle.ground.proofs.Pieces.{part_cut, length_part}
 use Rattle.table_reading.proofs.take_group.Goals as goal
@@ -20,4 +19,4 @@ returns-in_default c =
 
 pub returns : goal.returns
 returns c =
-    let a = c.args in let o = c.own-u in stops a.s a.t.now c.own-u.result c.group_check-p.result c.own-u.ensures c.group_check-p.ensures _ _ c.in-Refused.is c.at.ensures
+    let a = c.args in let o = c.own-u in stops a.s a.t.now c.own-u.result c.group_check-p.result c.own-u.ensures c.group_check-p.ensures _ _ c.in-Err.is c.at.ensures

@@ -2,7 +2,6 @@
 use mathlib.Core.Path.{◌≡◌, refl, sym}
 use native.Mathlib.Omega.{arith}
 use Rattle.table_shown.specs.Show.{placed}
-use Prim.Native.Nat.{◌-◌}
 use Rattle.text.proofs.Written.{written-nothing}
 use Rattle.lines.proofs.Chain.{as-text}
 use Rattle.members.proofs.Laws.{more, cat-none}
@@ -11,7 +10,6 @@ use Rattle.table_shown.proofs.put_groups.Goals as goal
 
 pub loop-k-init : goal.loop-k-init
 loop-k-init c = (
-  omega arith,
   refl,
   omega arith,
   as-text (sym (cat-none (placed c.args.m.now)))
@@ -22,12 +20,11 @@ pub loop-k-preserved : goal.loop-k-preserved
 loop-k-preserved c =
     let p = c.put_placed-end in let l = c.loop-k in let m = c.args.m.now in (
       omega arith,
-      omega arith,
       omega (arith, c.put_placed-end.ensures.place, length-placed m c.loop-k.k),
-      more (placed m) c.loop-k.k c.loop-k.invariant.3 c.put_placed-end.ensures (omega arith),
+      more (placed m) c.loop-k.k c.loop-k.invariant.2 c.put_placed-end.ensures (omega arith),
     )
 
 pub returns : goal.returns
 returns c =
     let l = c.loop-k in let e : c.loop-k.k ≡ c.args.many = omega arith in
-    rw e at c.loop-k.invariant.3
+    rw e at c.loop-k.invariant.2

@@ -1,7 +1,6 @@
 -- `put_placed` meets its contract: one law for each way out.
 use native.Mathlib.Omega.{arith}
 use Rattle.table_shown.specs.Show.{placed}
-use Prim.Native.Nat.{◌-◌}
 use lib.Dec.{eqb}
 use Rattle.text.proofs.Written.{then}
 use Rattle.table_shown.proofs.Laws.{bar}

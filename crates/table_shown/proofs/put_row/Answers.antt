@@ -1,7 +1,6 @@
 -- `put_row` meets its contract: one law for each way out.
 use native.Mathlib.Omega.{arith}
 use Rattle.table_shown.specs.Show.{row}
-use Prim.Native.Nat.{◌-◌}
 use Rattle.rows.specs.Site.{count}
 use Rattle.members.proofs.Laws.{two_digits}
 use Rattle.table_shown.proofs.Laws.{length-groups, four}

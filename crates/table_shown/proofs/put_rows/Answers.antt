@@ -2,7 +2,7 @@
 use mathlib.Core.Path.{◌≡◌, refl, sym, ap}
 use native.Mathlib.Omega.{arith}
 use Rattle.table_shown.specs.Show.{row, rows}
-use Prim.Native.Nat.{◌-◌, ◌*◌, ◌≤◌, ◌<◌}
+use Prim.Native.Nat.{◌*◌, ◌≤◌, ◌<◌}
 use lib.ListN.{length}
 use Rattle.table.specs.Table.{site_of}
 use Rattle.text.proofs.Written.{written-nothing}
@@ -14,7 +14,6 @@ use Rattle.table_shown.proofs.put_rows.Goals as goal
 
 pub loop-v-init : goal.loop-v-init
 loop-v-init c = (
-  omega arith,
   refl,
   omega arith,
   as-text (sym (cat-none (λ w. row w (site_of c.args.table.now w))))
@@ -32,13 +31,12 @@ loop-v-preserved c =
     let p = c.put_row-end in let a = c.args in let T = c.requires.table in let l = c.loop-v in let t = a.table.now in
     let h : l.v < a.n = c.loop-v-test.true in let w = as-text (ap (row c.loop-v.v) (part_cut 63 c.loop-v.v t)) c.put_row-end.ensures in (
       omega arith,
-      omega arith,
       omega (arith, w.place, length-row c.loop-v.v (site_of t c.loop-v.v) (omega (arith, T.few-sites)) (T.few-slices c.loop-v.v h)),
-      more (λ w. row w (site_of t w)) c.loop-v.v c.loop-v.invariant.3 w (omega arith),
+      more (λ w. row w (site_of t w)) c.loop-v.v c.loop-v.invariant.2 w (omega arith),
     )
 
 pub returns : goal.returns
 unfolding rows
 returns c =
     let l = c.loop-v in let e : c.loop-v.v ≡ c.args.n = omega arith in
-    rw e at c.loop-v.invariant.3
+    rw e at c.loop-v.invariant.2

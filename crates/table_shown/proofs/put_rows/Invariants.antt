@@ -1,7 +1,7 @@
 -- `put_rows` meets its contract: one law for each way out.
 use mathlib.Core.Path.{◌≡◌}
 use Rattle.table_shown.specs.Show.{row}
-use Prim.Native.Nat.{◌+◌, ◌-◌, ◌*◌, ◌≤◌}
+use Prim.Native.Nat.{◌+◌, ◌*◌, ◌≤◌}
 use lib.ListN.{length}
 use Rattle.table.specs.Table.{site_of}
 use Rattle.text.specs.Written.{Writes}
@@ -10,8 +10,4 @@ use Rattle.table_shown.proofs.put_rows.Given as goal
 
 abbrev pub invariant-loop-v : goal.invariant-loop-v
 invariant-loop-v l =
-    (l.v ≤ l.n) × (length l.room ≡ length l.initial.room) × (l.end ≤ l.at + 12032 * l.v) × Writes (cat (λ w. row w (site_of l.table w)) l.v) l.initial.room l.at l.end l.room
-
-abbrev pub decreases-loop-v : goal.decreases-loop-v
-decreases-loop-v l =
-    l.n - l.v
+    (length l.room ≡ length l.initial.room) × (l.end ≤ l.at + 12032 * l.v) × Writes (cat (λ w. row w (site_of l.table w)) l.v) l.initial.room l.at l.end l.room

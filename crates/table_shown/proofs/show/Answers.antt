@@ -1,7 +1,6 @@
 -- `show` meets its contract: one law for each way out.
 use native.Mathlib.Omega.{arith}
 use Rattle.table_shown.specs.Show.{show}
-use Prim.Native.Nat.{◌-◌}
 use lib.ListN.{length}
 use Rattle.table.specs.Table.{sites}
 use Rattle.table.proofs.Exact.{checked}

@@ -13,27 +13,27 @@ use Rattle.table_text.proofs.show.Goals as goal
 
 pub overflow_mul-table : goal.overflow_mul-table
 overflow_mul-table c =
-    let a = c.args in record { fits = omega (arith, few a.image.now _ (sym c.read-q.ensures.answer ∙ c.in-Sites.is)) }
+    let a = c.args in record { fits = omega (arith, few a.image.now _ (sym c.read-q.ensures.answer ∙ c.in-Ok.is)) }
 
 pub slice_bounds-table-end : goal.slice_bounds-table-end
 slice_bounds-table-end c =
-    let a = c.args in omega (arith, few a.image.now _ (sym c.read-q.ensures.answer ∙ c.in-Sites.is), c.read-q.auto.room)
+    let a = c.args in omega (arith, few a.image.now _ (sym c.read-q.ensures.answer ∙ c.in-Ok.is), c.read-q.auto.room)
 
-pub slice_bounds-show-end-in-Sites : goal.slice_bounds-show-end-in-Sites
-slice_bounds-show-end-in-Sites c =
-    sym (length-take-le _ _ (let a = c.args in omega (arith, few a.image.now _ (sym c.read-q.ensures.answer ∙ c.in-Sites.is), c.read-q.auto.room)))
+pub slice_bounds-show-end-in-Ok : goal.slice_bounds-show-end-in-Ok
+slice_bounds-show-end-in-Ok c =
+    sym (length-take-le _ _ (let a = c.args in omega (arith, few a.image.now _ (sym c.read-q.ensures.answer ∙ c.in-Ok.is), c.read-q.auto.room)))
 
 pub show-requires : goal.show-requires
 show-requires c =
-    let a = c.args in let h = sym c.read-q.ensures.answer ∙ c.in-Sites.is in record
-    { table_value = ap check (in-front a.image.now _ h _ _ (c.read-q.ensures.memory ∙ ap (λ x. read_into x a.image.now _) c.in-Sites.is)) ∙ loaded a.image.now _ h; in_bounds = search rules }
+    let a = c.args in let h = sym c.read-q.ensures.answer ∙ c.in-Ok.is in record
+    { table_value = ap check (in-front a.image.now _ h _ _ (c.read-q.ensures.memory ∙ ap (λ x. read_into x a.image.now _) c.in-Ok.is)) ∙ loaded a.image.now _ h; in_bounds = search rules }
 
-pub returns-in-Sites : goal.returns-in-Sites
-returns-in-Sites c =
-    let a = c.args in let h = sym c.read-q.ensures.answer ∙ c.in-Sites.is in let r = both (as-text
-    (ap show (in-front a.image.now _ h _ _ (c.read-q.ensures.memory ∙ ap (λ x. read_into x a.image.now _) c.in-Sites.is)) ∙ shown-sound a.image.now _ h)
+pub returns-in-Ok : goal.returns-in-Ok
+returns-in-Ok c =
+    let a = c.args in let h = sym c.read-q.ensures.answer ∙ c.in-Ok.is in let r = both (as-text
+    (ap show (in-front a.image.now _ h _ _ (c.read-q.ensures.memory ∙ ap (λ x. read_into x a.image.now _) c.in-Ok.is)) ∙ shown-sound a.image.now _ h)
     c.show.ensures) in record { text = r.0; counts = r.1 }
 
-pub returns-in-Refused : goal.returns-in-Refused
-returns-in-Refused c =
-    let a = c.args in let r = both (as-text (shown-refused a.image.now _ (sym c.read-q.ensures.answer ∙ c.in-Refused.is)) c.put_explained.ensures) in record { text = r.0; counts = r.1 }
+pub returns-in-Err : goal.returns-in-Err
+returns-in-Err c =
+    let a = c.args in let r = both (as-text (shown-refused a.image.now _ (sym c.read-q.ensures.answer ∙ c.in-Err.is)) c.put_explained.ensures) in record { text = r.0; counts = r.1 }

@@ -12,7 +12,7 @@ returns-in_default c =
 
 pub is_heard-heard-requires : goal.is_heard-heard-requires
 is_heard-heard-requires c =
-    let a = c.args in let K = takes a.n a.faulty (call a.kind a.from a.to a.side) a.state.now (sym c.answer-a.ensures ∙ c.in-Sound.is) in record { state_len = c.requires.sound.long; n_bound = c.requires.rows.few-sites; in_range = K.range }
+    let a = c.args in let K = takes a.n a.faulty (call a.kind a.from a.to a.side) a.state.now (sym c.answer-a.ensures ∙ c.in-Ok.is) in record { state_len = c.requires.sound.long; n_bound = c.requires.rows.few-sites; in_range = K.range }
 
 pub returns-then-heard : goal.returns-then-heard
 returns-then-heard c =
@@ -20,10 +20,10 @@ returns-then-heard c =
 
 pub take-requires : goal.take-requires
 take-requires c =
-    let a = c.args in let K = takes a.n a.faulty (call a.kind a.from a.to a.side) a.state.now (sym c.answer-a.ensures ∙ c.in-Sound.is) in
+    let a = c.args in let K = takes a.n a.faulty (call a.kind a.from a.to a.side) a.state.now (sym c.answer-a.ensures ∙ c.in-Ok.is) in
     let r = K.range in record { rows = c.requires.rows; state_len = c.requires.sound.long; in_range = r; since = sound-since c.requires.sound {v = a.to} {side = a.side} a.from r.side-in r.to_in K.correct }
 
 pub returns : goal.returns
 returns c =
-    let a = c.args in works-taken c.requires.sound (call a.kind a.from a.to a.side) c.answer-a.ensures c.is_heard-heard.ensures c.in-Sound.is
+    let a = c.args in works-taken c.requires.sound (call a.kind a.from a.to a.side) c.answer-a.ensures c.is_heard-heard.ensures c.in-Ok.is
     c.if-heard.false c.take.ensures

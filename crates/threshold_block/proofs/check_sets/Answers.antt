@@ -3,6 +3,7 @@ use Prim.Native.Nat.{◌-◌}
 use mathlib.Core.Path.{refl, sym, ◌∙◌}
 use native.Mathlib.Omega.{arith}
 use borrow.Author.Rules.{rules}
+use Rattle.refusals.proofs.Passed.{passed_on}
 use Rattle.refusals.proofs.First.{first_more}
 use Rattle.refusals.specs.First.{first}
 use Rattle.threshold_block.specs.Block.{sets_in}
@@ -16,19 +17,20 @@ unfolding first
 loop-i-init c =
     (search rules, refl, kept-first (sets_in c.args.b.now) _ refl, refl)
 
-pub check_set-q-requires : goal.check_set-q-requires
-check_set-q-requires c =
+pub check_set-requires : goal.check_set-requires
+check_set-requires c =
     let l = c.loop-i in record { b_len = c.requires.b_len; n_bound = c.requires.n_bound; i_bound = search rules; depth_value = kept-depth (sets_in c.args.b.now) c.loop-i.i c.loop-i.levels c.loop-i.depth c.loop-i.invariant.2 }
 
-pub returns-in_default : goal.returns-in_default
-returns-in_default c =
-    let l = c.loop-i in let a = c.args in let e = c.in_default.is in e ∙ sym (sets-stop a.n a.place a.b.now a.many c.loop-i.i _ (omega arith) c.loop-i.invariant.3 (sym c.check_set-q.ensures ∙ e))
+pub returns-in_err-check_set : goal.returns-in_err-check_set
+returns-in_err-check_set c =
+    let l = c.loop-i in let a = c.args in let e = c.in_err-check_set.was in passed_on c.from_residual.result c.from_residual.ensures.1
+    ∙ (sym (sets-stop a.n a.place a.b.now a.many c.loop-i.i _ (omega arith) c.loop-i.invariant.3 (sym c.check_set.ensures ∙ e)))
 
 pub enter-depth-requires : goal.enter-depth-requires
 enter-depth-requires c =
     let l = c.loop-i in let a = c.args in let S = sets_in a.b.now in
     let d = kept-depth S c.loop-i.i c.loop-i.levels c.loop-i.depth c.loop-i.invariant.2 in
-    let s = set-sound a.n a.place S c.loop-i.i (sym c.check_set-q.ensures ∙ c.in-Sound.is) in record {
+    let s = set-sound a.n a.place S c.loop-i.i (sym c.check_set.ensures ∙ c.in_ok-check_set.was) in record {
       levels_len = c.loop-i.invariant.1;
       le_depth = omega (arith, d, s.own-in-root);
       depth_bound = omega (arith, d, s.own-level);
@@ -42,7 +44,7 @@ loop-i-preserved c =
       omega arith,
       c.enter-depth.ensures.2,
       kept_next S c.loop-i.i c.loop-i.levels _ c.loop-i.depth c.enter-depth.result c.enter-depth.ensures.0 c.loop-i.invariant.2,
-      first_more _ _ c.loop-i.invariant.3 (sym c.check_set-q.ensures ∙ c.in-Sound.is),
+      first_more _ _ c.loop-i.invariant.3 (sym c.check_set.ensures ∙ c.in_ok-check_set.was),
     )
 
 pub returns-then-depth-ne0 : goal.returns-then-depth-ne0

@@ -10,7 +10,3 @@ use Rattle.threshold_block.proofs.is_unfilled.Given as goal
 abbrev pub invariant-loop-at : goal.invariant-loop-at
 invariant-loop-at l =
     (8 + 10 * l.many ≤ l.at) × (l.at ≤ 504) × (not (eqb l.any 0) ≡ some (l.at - (8 + 10 * l.many)) (λ j. not (eqb (get_or l.b (8 + 10 * l.many + j) 0) 0)))
-
-abbrev pub decreases-loop-at : goal.decreases-loop-at
-decreases-loop-at l =
-    504 - l.at

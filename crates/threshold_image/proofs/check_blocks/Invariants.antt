@@ -1,7 +1,7 @@
 -- `check_blocks` meets its contract: the blocks before the place are sound, and a refusal is the first.
-use Prim.Native.Nat.{◌-◌, ◌≤◌}
+use Rattle.std.specs.Prelude.{Ok}
+use Prim.Native.Nat.{◌≤◌}
 use mathlib.Core.Path.{◌≡◌}
-use Rattle.refusals.specs.declared.Check.TheVariants.{Sound}
 use Rattle.ground.specs.Pieces.{part}
 use Rattle.threshold_block.specs.Block.{threshold_block_check}
 use Rattle.refusals.specs.First.{first}
@@ -9,8 +9,4 @@ use Rattle.threshold_image.proofs.check_blocks.Given as goal
 
 abbrev pub invariant-loop-place : goal.invariant-loop-place
 invariant-loop-place l =
-    (l.place ≤ l.n) × (first (λ j. threshold_block_check l.n j j (part 512 j l.image)) l.place ≡ Sound)
-
-abbrev pub decreases-loop-place : goal.decreases-loop-place
-decreases-loop-place l =
-    l.n - l.place
+    (l.place ≤ l.n) × (first (λ j. threshold_block_check l.n j j (part 512 j l.image)) l.place ≡ Ok tt)

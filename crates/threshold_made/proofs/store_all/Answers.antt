@@ -11,21 +11,20 @@ use Rattle.threshold_made.proofs.store_all.Goals as goal
 
 pub loop-v-init : goal.loop-v-init
 loop-v-init c =
-    (omega arith, refl, image_holds _ _ _)
+    (refl, image_holds _ _ _)
 
 pub loop-v-preserved : goal.loop-v-preserved
 loop-v-preserved c =
     let a = c.args in let l = c.loop-v in let d = c.store_sets in (
-      omega arith,
-      same_len_mid {X = ℕ} (512 * c.loop-v.v) (512 * c.loop-v.v + 512 - 512 * c.loop-v.v) c.loop-v.room c.store_sets.new.b c.store_sets.auto.b ∙ c.loop-v.invariant.1,
-      image-again a.n a.t.now c.loop-v.room a.room.now _ c.loop-v.v c.loop-v.invariant.2 c.store_sets.ensures,
+      same_len_mid {X = ℕ} (512 * c.loop-v.v) (512 * c.loop-v.v + 512 - 512 * c.loop-v.v) c.loop-v.room c.store_sets.new.b c.store_sets.auto.b ∙ c.loop-v.invariant.0,
+      image-again a.n a.t.now c.loop-v.room a.room.now _ c.loop-v.v c.loop-v.invariant.1 c.store_sets.ensures,
     )
 
 pub shape_of-room : goal.shape_of-room
 shape_of-room c =
-    c.loop-v.invariant.1
+    c.loop-v.invariant.0
 
 pub returns : goal.returns
 returns c =
     let a = c.args in let l = c.loop-v in let e : c.loop-v.v ≡ a.n = omega arith in
-    c.loop-v.invariant.2 ∙ ap (λ (j : ℕ). image_to a.n a.t.now j ++ drop (512 * j) a.room.now) e
+    c.loop-v.invariant.1 ∙ ap (λ (j : ℕ). image_to a.n a.t.now j ++ drop (512 * j) a.room.now) e

@@ -5,10 +5,6 @@ use Prim.Native.Nat.{◌^◌}
 use Rattle.threshold_reading.proofs.Steps.{sane₁, line₁, few₁, length₁, byte}
 use Rattle.threshold_reading.proofs.hear.Goals as goal
 
-pub step-s-requires : goal.step-s-requires
-step-s-requires c =
-    let r = c.requires in record { t_len = r.t_len; threshold_sane = r.threshold_sane; line_bound = r.line_bound; few = r.few }
-
 pub step-requires : goal.step-requires
 step-requires c =
     let p = c.requires in let a = c.args in let t = c.step-s.ensures in let k = c.ended.ensures in let l = line₁ a.c a.w a.s _ a.t.now _ _ c.ended.ensures t.0 t.1 p.threshold_sane in record {

@@ -1,5 +1,5 @@
 -- `load_masks` meets its contract: after i turns the room holds the count and the first i masks.
-use Prim.Native.Nat.{ℕ, ◌+◌, ◌-◌}
+use Prim.Native.Nat.{ℕ, ◌+◌}
 use mathlib.Core.Path.{ap}
 use native.Mathlib.Omega.{arith}
 use lib.ListN.{set, length-set}

@@ -1,5 +1,4 @@
 -- `load_row` meets its contract: the count and the masks, and after k turns k numbers of pairs; the last set has a number of its own.
-use Prim.Native.Nat.{◌-◌}
 use mathlib.Core.Path.{◌∙◌}
 use native.Mathlib.Omega.{arith}
 use lib.ListN.{length-set}

@@ -54,7 +54,3 @@ returns-in-Bracket c =
 pub returns-in-Other : goal.returns-in-Other
 returns-in-Other c =
     as-text (sym (ap said c.in-Other.is)) c.put-in-Other.ensures
-
-pub returns-in-Rule : goal.returns-in-Rule
-returns-in-Rule c =
-    as-text (sym (ap said c.in-Rule.is)) c.put_meaning.ensures

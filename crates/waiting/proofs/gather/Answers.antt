@@ -1,5 +1,4 @@
 -- `gather` meets its contract: the places before i are gathered.
-use Prim.Native.Nat.{◌-◌}
 use mathlib.Core.Path.{refl, ◌∙◌}
 use native.Mathlib.Omega.{arith}
 use lib.Dec.{eqb}
@@ -9,9 +8,8 @@ use Rattle.waiting.proofs.gather.Goals as goal
 
 pub loop-i-preserved : goal.loop-i-preserved
 loop-i-preserved c =
-    let p = c.requires in let L = c.loop-i in let h = c.loop-i-test.true in let K = c.keep-count in let b = eqb (get_or c.args.answers.now c.loop-i.i 0) 15 in (
-      listed-turn b c.loop-i.invariant.0 (omega (arith, c.loop-i.invariant.1, c.loop-i.invariant.3, p.answers_in_bounds, h)) refl c.keep-count.ensures.many c.keep-count.ensures.memory,
-      kept-few b c.keep-count.ensures.many c.loop-i.invariant.1,
-      omega (arith, h),
-      c.keep-count.auto.waiting ∙ c.loop-i.invariant.3,
+    let I = c.loop-i.invariant in let K = c.keep-count in let b = eqb (get_or c.args.answers.now c.loop-i.i 0) 15 in (
+      listed-turn b I.0 (omega (arith, I.1, I.2, c.requires.answers_in_bounds)) refl K.ensures.many K.ensures.memory,
+      kept-few b K.ensures.many I.1,
+      K.auto.waiting ∙ I.2,
     )

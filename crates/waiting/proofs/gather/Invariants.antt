@@ -1,5 +1,5 @@
 -- `gather` meets its contract: the places before i are gathered.
-use Prim.Native.Nat.{◌-◌, ◌≤◌}
+use Prim.Native.Nat.{◌≤◌}
 use mathlib.Core.Path.{◌≡◌}
 use lib.ListN.{length}
 use Rattle.waiting.specs.Inner.{Listed}
@@ -7,8 +7,4 @@ use Rattle.waiting.proofs.gather.Given as goal
 
 abbrev pub invariant-loop-i : goal.invariant-loop-i
 invariant-loop-i l =
-    Listed l.answers 0 l.i l.waiting 0 l.count × (l.count ≤ l.i) × (l.i ≤ length l.answers) × (length l.waiting ≡ length l.initial.waiting)
-
-abbrev pub decreases-loop-i : goal.decreases-loop-i
-decreases-loop-i l =
-    length l.answers - l.i
+    Listed l.answers 0 l.i l.waiting 0 l.count × (l.count ≤ l.i) × (length l.waiting ≡ length l.initial.waiting)

@@ -8,5 +8,5 @@ pub returns : goal.returns
 returns c =
     let a = c.args in
     let e = c.run_records.ensures in
-    let r = run-said (thresholds a.image.now) a.faulty (bytes_of a.calls.now) a.state.now a.answers.now e.answer (c.ran.ensures.answer, c.ran.ensures.memory) e.states e.bytes in
+    let r = run-said (thresholds a.image.now) a.faulty (bytes_of a.calls.now) a.state.now a.answers.now e.answer (c.number.ensures.answer, c.number.ensures.memory) e.states e.bytes in
     record { answer = r.0; told = r.1.0; states = r.1.1.0; bytes = r.1.1.1 }

@@ -3,18 +3,20 @@ use mathlib.Core.Path.{sym, ap, ◌∙◌}
 use lib.Bits.{bit_or}
 use Rattle.intact_sites.proofs.IntactLaws.{spared-known, spared-not}
 use Rattle.intact_sites.proofs.search.spared.Goals as goal
-
-pub returns-then-within : goal.returns-then-within
-returns-then-within c =
-    let a = c.args in record { spared = spared-known a.table.now a.n a.rest c.requires.rest_value a.known (sym c.within.ensures ∙ c.if-within.true); pairs = c.requires.pairs_2 }
+use Rattle.intact_sites.proofs.search.spared.Goals.{then-within-via-then-within, then-within-via-else-within+then-is_known}
 
 pub is_known-requires : goal.is_known-requires
 is_known-requires c =
     let p = c.requires in record { rows = p.rows; pairs = p.pairs_2 }
 
-pub returns-then-is_known : goal.returns-then-is_known
-returns-then-is_known c =
-    let a = c.args in record { spared = spared-not a.table.now a.n a.rest c.requires.rest_value a.known (c.is_known.ensures c.if-is_known.true); pairs = c.requires.pairs_2 }
+pub returns-then-within : goal.returns-then-within
+returns-then-within c =
+    let a = c.args in elim c.then-within.branch [
+      | then-within-via-then-within w ↦
+          record { spared = spared-known a.table.now a.n a.rest c.requires.rest_value a.known (sym c.within.ensures ∙ w.if-within.true); pairs = c.requires.pairs_2 }
+      | then-within-via-else-within+then-is_known w ↦
+          record { spared = spared-not a.table.now a.n a.rest c.requires.rest_value a.known (w.is_known.ensures w.if-is_known.true); pairs = c.requires.pairs_2 }
+    ]
 
 pub ask-requires : goal.ask-requires
 ask-requires c =
