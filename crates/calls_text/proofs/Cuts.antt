@@ -14,6 +14,7 @@ use borrow.Author.Tests.{lt-ltb, le-ltb, eq-eqb, ne_eqb}
 use Rattle.ground.proofs.Logic.{cases}
 use Rattle.call_words.specs.Grammar.{hear_all, closed}
 use Rattle.call_words.specs.declared.Heard.{Heard}
+use Rattle.call_words.specs.declared.Line.{Line}
 use Rattle.calls_text.specs.Inner.{hear_piece, line_at}
 use Rattle.calls_text.specs.Pieces.{stops, upto, onto, pieces, filled, says, unreturned, line_of}
 use Rattle.calls_text.specs.Reading.{fault, Grown, with_line, then_on, Reading, reading}
@@ -87,9 +88,9 @@ module _ (text : List ℕ) (at end : ℕ) (h : at ≤ end) where
   pub last_line : end ≡ length text → says (take (end - at) (drop at text)) ≡ line_at text at end
   last_line e = rw (le-ltb end (length text) (omega arith)) refl
 
-  -- nor has an empty line one that is cut off
-  pub no_line : end ≡ at → says (take (end - at) (drop at text)) ≡ line_at text at end
-  unfolding unreturned
+  -- nor has an empty line one that is cut off, and it says nothing
+  pub no_line : end ≡ at → Line.Empty ≡ line_at text at end
+  unfolding unreturned says closed
   no_line e = let z : end - at ≡ 0 = omega arith in rw z (ap says (either (ltb end (length text))))
     where
       either : (b : Bool) → [] ≡ cond {A = List ℕ} b [] []

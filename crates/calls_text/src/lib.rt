@@ -69,7 +69,10 @@ fn line_at(text: &[u8], at: usize, end: usize) -> Line
     requires end_in_bounds { end ≤ length text.now }
     ensures { result ≡ line_at text.now at end }
 {
-    if at < end && end < text.len() && text[end - 1] == b'\r' {
+    if at == end {
+        return Line::Empty;
+    }
+    if end < text.len() && text[end - 1] == b'\r' {
         says(&text[at..end - 1])
     } else {
         says(&text[at..end])

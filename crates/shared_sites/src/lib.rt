@@ -6,7 +6,7 @@ ghost use Rattle.verdicts.specs.Verdicts.{beside, first_apart};
 ghost use Rattle.shared_sites.specs.Inner.{beside_first};
 ghost use Rattle.sets.specs.Inner.Rows.{Rows, rules_of};
 
-use verdicts::Pair;
+pub use verdicts::Pair;
 
 // The largest quorum in the complement of p.
 pub fn beside(table: &[u64], n: usize, p: u64) -> u64
